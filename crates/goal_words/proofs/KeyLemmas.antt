@@ -116,7 +116,7 @@ word_no_number OverheadPicos = refl
 word_no_number Sync = refl
 word_no_number Root = refl
 
--- a word that is no option word at all
+-- a word that is no option word
 pub not_named : (w : List ℕ) (key : Key) → is_option all_options w ≡ false → bytes_eq w (word key) ≡ false
 not_named w key none =
     no_option_by (bytes_eq w (word key))

@@ -1,4 +1,4 @@
--- Options move in a line, and are joined to their values.
+-- Options may move in a line, and be joined to their values.
 use Rattle.std.proofs.Common.{◌≡◌, ◌&&◌, ◌||◌, ◌≤◌, ◌==◌, ℕ, Bool, true, false, not, List, [], ◌∷◌, ◌++◌, length, Option, Some, None, codes, bytes_eq, refl, sym, ap, subst, ◌∙◌, arith, if◌then◌else◌}
 use Rattle.std.specs.List.{list_all, list_any, before_first, after_first}
 use Rattle.std.proofs.lemmas.Bool.{both_ways, and_parts, not-true}
@@ -16,7 +16,7 @@ use Rattle.goal_words.proofs.KeyLemmas.{word, option_key, no_option_by, plain_no
 use Rattle.goal_words.proofs.PlaceLemmas.{after}
 use Rattle.goal_words.proofs.PartsLemmas.{all_keys, of_keys, same_all, same_given, one_false}
 
--- the options that the first word takes are some
+-- the options that the first word allows
 taken_for : (first : List ℕ) → (taken : AllowedOptions) × (words_of taken ≡ options_of first)
 taken_for first =
     by (bytes_eq first (codes "sim") || bytes_eq first (codes "waits") || bytes_eq first (codes "knots") || bytes_eq first (codes "probe")) (bytes_eq first (codes "gen") || bytes_eq first (codes "certify"))
@@ -26,7 +26,7 @@ taken_for first =
     by false true = (taken_by.Root, refl)
     by false false = (taken_by.Nothing, refl)
 
--- what stands at words, whatever comes after them
+-- the roles of words, whatever follows them
 inner : List (List ℕ) → List ℕ → List (List ℕ) → List Place
 inner options before [] = []
 inner options before (w ∷ words) = place options before w ∷ inner options w words
@@ -37,7 +37,7 @@ unfolding places inner
 cut options before [] ys none whole = after options before ys (not-true (is_option options before) whole) none
 cut options before (w ∷ xs) ys none whole = ap (λ ps. place options before w ∷ ps) (cut options w xs ys none whole)
 
--- what stands at the words of a group
+-- the roles of the words of a group
 placed : Group → List Place
 placed (Word w) = Plain w ∷ []
 placed (Apart option value) = Named ∷ set_to option (value_of value) ∷ []
@@ -203,14 +203,14 @@ exchanged_length : (a b c d : List ℕ) → length (a ++ (b ++ (c ++ d))) ≡ le
 exchanged_length a b c d =
     omega (arith, length-append a (b ++ (c ++ d)), length-append b (c ++ d), length-append c d, length-append a (c ++ (b ++ d)), length-append c (b ++ d), length-append b d)
 
--- places that say the same
+-- roles with the same content
 record IsAlike (ps qs : List Place) : Type 0 where
   known : list_all is_known ps ≡ list_all is_known qs
   plain : plain_words ps ≡ plain_words qs
   once : (key : Key) → at_most_one (values_of (word key) ps) ≡ at_most_one (values_of (word key) qs)
   values : (key : Key) → at_most_one (values_of (word key) ps) ≡ true → values_of (word key) ps ≡ values_of (word key) qs
 
--- the command by the places
+-- the command, from the roles
 abbrev command_at : List ℕ → List Place → Option Command
 command_at first ps =
     if is_right ps then command_by first (plain_words ps) (numbers_given (of_keys (λ k. value_at (word k) ps))) (value_at (word Root) ps) else None
@@ -244,7 +244,7 @@ same_command first ps qs alike = by (is_right ps) refl
         ∙ ap (λ root. command_by first (plain_words qs) (numbers_given (of_keys (λ k. value_at (word k) qs))) root) (value right Root)))
     by false wrong = rw (wrong, sym (same_right ps qs alike) ∙ wrong) refl
 
--- the command of a line, by its places
+-- the command of a line, from its roles
 of_places : (first : List ℕ) (words : List (List ℕ)) → command_of (first ∷ words) ≡ command_at first (line_places first words)
 of_places first words = refl
 
@@ -293,7 +293,7 @@ moved i g h a none = record {
       ∙ sym (values_four o i h g a));
 }
 
--- what stands at two groups in a line
+-- the roles of two groups in a line
 line_two : (first : List ℕ) (before : List (List ℕ)) (g h : Group) (after : List (List ℕ)) → ends_whole (options_of first) before ≡ true → IsGroup (options_of first) g
     → IsGroup (options_of first) h
     → line_places first (before ++ (spelt g ++ (spelt h ++ after))) ≡ inner (options_of first) first before ++ (placed g ++ (placed h ++ places (options_of first) [] after))

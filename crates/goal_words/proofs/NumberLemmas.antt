@@ -1,4 +1,4 @@
--- What the digits of a number say.
+-- The value of digits.
 use Rattle.std.proofs.Common.{◌≡◌, ◌^◌, ◌<◌, ◌≤◌, ◌&&◌, ℕ, Bool, true, false, List, length, Option, Some, None, Result, refl, sym, ap, ◌∙◌, ltb, leb, if◌then◌else◌}
 use Rattle.std.specs.List.{list_all}
 use Rattle.std.specs.Char.{is_ascii_digit}
@@ -66,7 +66,7 @@ by_result w (Ok n) digits few iff =
 by_result w (Err e) digits few none =
     sym (not_chosen (is_number w) (digits_value 10 w) (λ test. let n = tested w test in none (n.some, n.below)))
 
--- at most 20 digits are read as their number
+-- at most 20 digits are read as their value
 pub parsed : {E : Type 0} (w : List ℕ) (r : Result ℕ E) → list_all is_ascii_digit w ≡ true → length w ≤ 20 → ParsesUnsigned 64 10 w r
     → read_of r ≡ value_of w
 parsed w r digits few h = by_result w r digits few (parse_digits own 64 w r h digits)

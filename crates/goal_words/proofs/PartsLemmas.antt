@@ -1,4 +1,4 @@
--- What is read of the places of a line, by all of them.
+-- The parts of a line, from the roles of all its words.
 use Rattle.std.proofs.Common.{◌≡◌, ◌&&◌, ℕ, Bool, true, false, List, [], ◌∷◌, Option, Some, None, is_some, codes, bytes_eq, refl, sym, ap, subst, ◌∙◌, inl, inr, ◌⊎◌, if◌then◌else◌}
 use Rattle.std.specs.Option.{option_map, option_and_then}
 use Rattle.std.specs.List.{list_all}
@@ -74,7 +74,7 @@ final_nothing : (o : Option ℕ) → final o [] ≡ o
 final_nothing None = refl
 final_nothing (Some m) = refl
 
--- two options are one, or have different words and places
+-- two options are the same, or have different words and fields
 split : (key k : Key) → (key ≡ k) ⊎ ((bytes_eq (word key) (word k) ≡ false) × ((g : OptionValues) (n : ℕ) → given_for (set g key n) k ≡ given_for g k))
 split Latency Latency = inl refl
 split Overhead Overhead = inl refl
@@ -144,7 +144,7 @@ one_more : (n : ℕ) (ns : List ℕ) → at_most_one (n ∷ ns) ≡ is_nothing n
 one_more n [] = refl
 one_more n (m ∷ ns) = refl
 
--- one key, after an option is set
+-- one option, after an option is set
 fine_set : (g : OptionValues) (key k : Key) (n : ℕ) (ps : List Place) → given_for g key ≡ None
     → fine (given_for (set g key n) k) (values_of (word k) ps) ≡ fine (given_for g k) (values_of (word k) (Set (word key) n ∷ ps))
 unfolding values_of
@@ -180,7 +180,7 @@ summed_alike g h option n ps rights values =
     ∙ ap (λ given. chosen (list_all is_known ps && all_keys (λ k. fine (given_for g k) (values_of (word k) (Set option n ∷ ps)))) (plain_words ps) given)
     (same_given (λ k. final (given_for h k) (values_of (word k) ps)) (λ k. final (given_for g k) (values_of (word k) (Set option n ∷ ps))) values)
 
--- an option that is set for the second time
+-- an option that is set twice
 twice : (g : OptionValues) (key : Key) (n m : ℕ) (ps : List Place) → given_for g key ≡ Some m → None ≡ summed g (Set (word key) n ∷ ps)
 unfolding values_of
 twice g key n m ps given =
@@ -217,7 +217,7 @@ together g (Named ∷ ps) = together g ps
 together g (Wrong ∷ ps) = refl
 together g (Set option n ∷ ps) = set_known g option n ps (key_named option) (named_known option) (λ h. together h ps)
 
--- the command of words, by what is read of them
+-- the command of words, from their parts
 pub command_read : (taken : AllowedOptions) (first : List ℕ) (words : List (List ℕ)) → words_of taken ≡ options_of first
     → command_of (first ∷ words) ≡ option_and_then (λ parts. command_by first parts.plain (numbers_given parts.given) parts.given.root) (parts_in taken none_given words)
 unfolding parts_in

@@ -1,4 +1,4 @@
--- What is read of the words of a line, one step after the other.
+-- The roles of the words of a line, step by step.
 use Rattle.std.proofs.Common.{◌≡◌, ◌==◌, ℕ, true, false, List, [], ◌∷◌, Option, Some, None, refl, ap, ◌∙◌}
 use Rattle.std.specs.Option.{option_map, option_and_then}
 use Rattle.std.specs.List.{before_first, after_first}
@@ -26,7 +26,7 @@ unfolding parts_in parts_of places
 step_plain taken g w words plain =
     rw (empty_no_option taken, plain, after (words_of taken) w words (plain_no_option taken w plain) (empty_no_option taken)) refl
 
--- an option is set, and no option word comes last
+-- an option is set, and no option word is last
 set_step : (taken : AllowedOptions) (g : OptionValues) (option : List ℕ) (key : Key) (o : Option ℕ) (words : List (List ℕ)) → option ≡ word key
     → parts_of g (set_to option o ∷ places (words_of taken) [] words)
     ≡ option_and_then (λ h. parts_in taken h words) (option_and_then (λ n. with_option g key n) o)

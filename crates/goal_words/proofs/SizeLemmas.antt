@@ -1,4 +1,4 @@
--- What a command asks for is within its limits.
+-- The sizes of a command are within their limits.
 use Rattle.std.proofs.Common.{◌≡◌, ◌≤◌, ◌&&◌, ℕ, Bool, true, false, List, [], ◌∷◌, Option, Some, None, IfSome, codes, bytes_eq, nat_le, refl, subst, if◌then◌else◌}
 use Rattle.std.specs.Option.{option_map, option_and_then}
 use Rattle.std.proofs.lemmas.Bool.{leb-true}

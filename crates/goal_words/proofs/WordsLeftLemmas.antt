@@ -14,7 +14,7 @@ use Rattle.goal_words.specs.Options.{begins_dash}
 use Rattle.goal_words.specs.Reading.{Parts, key_of, with_plain, parts_in, left, begins_plain, are_one_to_three}
 use Rattle.goal_words.proofs.PlaceLemmas.{step_end, step_plain, step_alone, step_joined, step_wrong}
 
--- an option that has got its value, where there is one
+-- an option with its value, if there is one
 pub past : (r : Option WordsLeft) (o : Option OptionValues) (taken : AllowedOptions) (words : List (String Global)) (p : Option Parts)
     → p ≡ option_and_then (λ h. parts_in taken h (map string_bytes words)) o
     → MatchOption r (o ≡ None) (λ rest. (o ≡ Some rest.given) × (rest.taken ≡ taken) × (rest.words.now ≡ words))
@@ -46,7 +46,7 @@ pub ended : (taken : AllowedOptions) (g : OptionValues) (words : List (String Gl
 ended taken g [] none = step_end taken g
 ended taken g (x ∷ words) none = absurd (omega arith)
 
--- a plain word comes next
+-- a plain word is next
 pub begun : (taken : AllowedOptions) (g : OptionValues) (x : String Global) (words : List (String Global)) → begins_plain (map string_bytes (x ∷ words)) ≡ true
     → parts_in taken g (map string_bytes (x ∷ words)) ≡ option_map (with_plain (string_bytes x)) (parts_in taken g (map string_bytes words))
 begun taken g x words plain = step_plain taken g (string_bytes x) (map string_bytes words) (not-true (begins_dash (string_bytes x)) plain)

@@ -1,5 +1,5 @@
--- What stands at the words of a line after the first of them, and what its options are set to. A command takes some options;
--- each is a word that begins with `--`.
+-- The role of each word of a line after the first, and the values of its options. A command allows some options; each
+-- is a word that begins with `--`.
 use Rattle.std.specs.Prelude.{ℕ, ◌==◌, ◌&&◌, ◌^◌, nat_lt, nat_le, Bool, true, false, List, [], ◌∷◌, length, Option, Some, None, is_some, unwrap_or, codes, bytes_eq, if◌then◌else◌}
 use Rattle.std.specs.List.{list_all, list_any, before_first, after_first}
 use Rattle.std.specs.Char.{is_ascii_digit}
@@ -23,12 +23,12 @@ all_options = codes "--root" ∷ run_options
 abbrev pub is_option : List (List ℕ) → List ℕ → Bool
 is_option options w = list_any (bytes_eq w) options
 
--- a word that begins with `-`, and so is no plain word
+-- a word that begins with `-`, and so is not a plain word
 abbrev pub begins_dash : List ℕ → Bool
 begins_dash [] = false
 begins_dash (b ∷ bs) = b == 45
 
--- a number is 1 to 20 decimal digits, and below 2^64 (no limit is above)
+-- a number is 1 to 20 decimal digits, and below 2^64 (no limit is higher)
 abbrev pub is_number : List ℕ → Bool
 is_number w = nat_lt 0 (length w) && nat_le (length w) 20 && list_all is_ascii_digit w && nat_lt (digits_value 10 w) (2 ^ 64)
 
@@ -36,34 +36,34 @@ is_number w = nat_lt 0 (length w) && nat_le (length w) 20 && list_all is_ascii_d
 abbrev pub value_of : List ℕ → Option ℕ
 value_of w = if is_number w then Some (digits_value 10 w) else None
 
--- what stands at a word
+-- the role of a word
 pub data Place : Type 0 where
   -- a plain word
   Plain : List ℕ → Place
   -- an option word, whose value is the next word
   Named : Place
-  -- what the option of that word is set to: the value after it, or the one that is joined to it by `=`
+  -- the value of that option: the word after the option word, or the value joined to it by `=`
   Set : List ℕ → ℕ → Place
   -- none of these
   Wrong : Place
 
--- the option's value, where it is a number
+-- the value of the option, if it is a number
 abbrev pub set_to : List ℕ → Option ℕ → Place
 set_to option (Some n) = Set option n
 set_to option None = Wrong
 
--- an option, `=` and its value, in one word
+-- an option, `=` and its value in one word
 abbrev pub joined : List (List ℕ) → List ℕ → Place
 joined options w =
     if is_option options (before_first (λ b. b == 61) w) then set_to (before_first (λ b. b == 61) w) (value_of (after_first (λ b. b == 61) w)) else Wrong
 
--- what stands at the word w after the word `before`
+-- the role of word w after the word `before`
 abbrev pub place : List (List ℕ) → List ℕ → List ℕ → Place
 place options before w =
     if is_option options before then set_to before (value_of w)
     else (if begins_dash w then (if is_option options w then Named else joined options w) else Plain w)
 
--- what stands at each of the words after the word `before`; an option word at their end has no value
+-- the roles of words after the word `before`; an option word at the end has no value
 unfoldable pub places : List (List ℕ) → List ℕ → List (List ℕ) → List Place
 places options before [] = if is_option options before then Wrong ∷ [] else []
 places options before (w ∷ words) = place options before w ∷ places options w words
@@ -76,7 +76,7 @@ plain_words (Named ∷ ps) = plain_words ps
 plain_words (Set option n ∷ ps) = plain_words ps
 plain_words (Wrong ∷ ps) = plain_words ps
 
--- all that one option is set to
+-- all values that an option is given
 unfoldable pub values_of : List ℕ → List Place → List ℕ
 values_of o [] = []
 values_of o (Plain w ∷ ps) = values_of o ps
@@ -93,7 +93,7 @@ at_most_one [] = true
 at_most_one (n ∷ []) = true
 at_most_one (n ∷ m ∷ ns) = false
 
--- each word is one that may stand there, and each option stands at most once
+-- each word has a role, and each option is given at most once
 abbrev pub is_right : List Place → Bool
 is_right ps = list_all is_known ps && list_all (λ o. at_most_one (values_of o ps)) all_options
 
@@ -101,11 +101,11 @@ abbrev pub first_of : List ℕ → Option ℕ
 first_of [] = None
 first_of (n ∷ ns) = Some n
 
--- what an option is set to, if it stands there
+-- the value of an option, if it is given
 abbrev pub value_at : List ℕ → List Place → Option ℕ
 value_at o ps = first_of (values_of o ps)
 
--- the parameters of a run: those that are set, and else the usual ones
+-- the parameters of a run: those given, and otherwise the defaults
 abbrev pub numbers_of : List Place → Numbers
 numbers_of ps = record {
   latency = unwrap_or (value_at (codes "--L") ps) default_latency;
@@ -118,6 +118,6 @@ numbers_of ps = record {
   sync = unwrap_or (value_at (codes "--S") ps) default_sync;
 }
 
--- parameters within their limits
+-- the parameters, if they are within their limits
 abbrev pub within_limits : Numbers → Option Numbers
 within_limits p = if is_some (first_over p) then None else Some p

@@ -1,4 +1,4 @@
--- How the words of a line are read from the front: the options that stand before the next plain word, and then that word.
+-- Reading the words of a line from the front: the options before the next plain word, and then that word.
 use Rattle.std.specs.Prelude.{ℕ, Bool, true, false, List, [], ◌∷◌, not, Option, Some, None, is_some, unwrap_or, map, codes, bytes_eq, string_bytes, if◌then◌else◌}
 use Rattle.std.specs.Option.{option_map, option_and_then}
 use Rattle.sim_params.specs.Costs.{Numbers}
@@ -13,11 +13,11 @@ use Rattle.goal_words.specs.declared.words_left.WordsLeft.{WordsLeft}
 use Rattle.goal_words.specs.declared.words_left.PlainWords.{PlainWords}
 use Rattle.goal_words.specs.declared.words_left.PlainWords.TheVariants.{One, Two, Three}
 
--- this option where the word is its word, and else what the others say
+-- this option if the word is its word, and otherwise what the others say
 abbrev pub named_or : List ℕ → List ℕ → Key → Option Key → Option Key
 named_or w option key others = if bytes_eq w option then Some key else others
 
--- the option of a run of that word
+-- the option of a run with that word
 abbrev pub run_key_of : List ℕ → Option Key
 run_key_of w =
     named_or w (codes "--L") Latency
@@ -29,17 +29,17 @@ run_key_of w =
     (named_or w (codes "--Op") OverheadPicos
     (named_or w (codes "--S") Sync None)))))))
 
--- the option of that word
+-- the option with that word
 abbrev pub key_named : List ℕ → Option Key
 key_named w = named_or w (codes "--root") Root (run_key_of w)
 
--- the option of that word among those that a command takes
+-- the option with that word among those that a command allows
 abbrev pub key_of : AllowedOptions → List ℕ → Option Key
 key_of taken_by.Run w = run_key_of w
 key_of taken_by.Root w = named_or w (codes "--root") Root None
 key_of taken_by.Nothing w = None
 
--- the words of the options that a command takes
+-- the words of the options that a command allows
 abbrev pub words_of : AllowedOptions → List (List ℕ)
 words_of taken_by.Run = run_options
 words_of taken_by.Root = root_option
@@ -59,7 +59,7 @@ none_given = record {
   root = None;
 }
 
--- what an option is set to
+-- the value of an option, if it is given
 abbrev pub given_for : OptionValues → Key → Option ℕ
 given_for g Latency = g.latency
 given_for g Overhead = g.overhead
@@ -71,7 +71,7 @@ given_for g OverheadPicos = g.overhead_picos
 given_for g Sync = g.sync
 given_for g Root = g.root
 
--- with an option set to a number
+-- the options, with one set to a number
 abbrev pub set : OptionValues → Key → ℕ → OptionValues
 set g Latency n = record g { latency = Some n }
 set g Overhead n = record g { overhead = Some n }
@@ -83,20 +83,20 @@ set g OverheadPicos n = record g { overhead_picos = Some n }
 set g Sync n = record g { sync = Some n }
 set g Root n = record g { root = Some n }
 
--- with one option more, which stands at most once
+-- the options with another one, unless it is already given
 abbrev pub with_option : OptionValues → Key → ℕ → Option OptionValues
 with_option g key n = if is_some (given_for g key) then None else Some (set g key n)
 
--- with the option and this word as its value
+-- the options with another one, whose value is this word
 abbrev pub with_value : OptionValues → Key → List ℕ → Option OptionValues
 with_value g key w = option_and_then (λ n. with_option g key n) (value_of w)
 
--- with what the option of that word is set to
+-- the options with that of this word set, if there is one
 abbrev pub with_set : OptionValues → Option Key → ℕ → Option OptionValues
 with_set g None n = Some g
 with_set g (Some key) n = with_option g key n
 
--- the parameters of a run: those given, and else the usual ones
+-- the parameters of a run: those given, and otherwise the defaults
 abbrev pub numbers_given : OptionValues → Numbers
 numbers_given g = record {
   latency = unwrap_or g.latency default_latency;
@@ -109,16 +109,16 @@ numbers_given g = record {
   sync = unwrap_or g.sync default_sync;
 }
 
--- plain words, and what the options are set to
+-- plain words, and the values of the options
 pub record Parts : Type 0 where
   pub plain : List (List ℕ)
   pub given : OptionValues
 
--- with a plain word before
+-- the same after another plain word at the front
 abbrev pub with_plain : List ℕ → Parts → Parts
 with_plain w parts = record { plain = w ∷ parts.plain; given = parts.given }
 
--- what places say, with the options that are given before
+-- the parts of a line with these roles, after the options given before
 unfoldable pub parts_of : OptionValues → List Place → Option Parts
 parts_of g [] = Some (record { plain = []; given = g })
 parts_of g (Plain w ∷ ps) = option_map (with_plain w) (parts_of g ps)
@@ -126,20 +126,20 @@ parts_of g (Named ∷ ps) = parts_of g ps
 parts_of g (Set option n ∷ ps) = option_and_then (λ h. parts_of h ps) (with_set g (key_named option) n)
 parts_of g (Wrong ∷ ps) = None
 
--- what words say that do not follow an option word
+-- the parts of words that do not follow an option word
 unfoldable pub parts_in : AllowedOptions → OptionValues → List (List ℕ) → Option Parts
 parts_in taken g words = parts_of g (places (words_of taken) [] words)
 
--- what is left of a line
+-- the parts of what is left of a line
 abbrev pub left : WordsLeft → Option Parts
 left rest = parts_in rest.taken rest.given (map string_bytes rest.words.now)
 
--- no more words, or a plain word first
+-- there are no more words, or a plain word comes first
 abbrev pub begins_plain : List (List ℕ) → Bool
 begins_plain [] = true
 begins_plain (w ∷ words) = not (begins_dash w)
 
--- the words, which are one to three
+-- the words, one to three of them
 abbrev pub listed : PlainWords → List (List ℕ)
 listed (One a) = a.now ∷ []
 listed (Two a b) = a.now ∷ b.now ∷ []

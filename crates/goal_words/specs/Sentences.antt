@@ -1,4 +1,4 @@
--- The command that a line or a sentence of the code stands for, and what is so of the costs and sizes of each.
+-- The command of a line or of a sentence of the code, and properties of its costs and sizes.
 use Rattle.std.specs.Prelude.{◌≤◌}
 use Rattle.goal_limits.specs.Limits.{size_limit, round_limit}
 use Rattle.sim_params.specs.Numbers.{numbers}
@@ -25,11 +25,11 @@ PricedFor (ByNumbers numbers) v = IsRun v
 PricedFor (ByMachine name) v = IsRun v
 PricedFor Unpriced v = IsRun v → ⊥
 
--- what is shown by its run has costs, and nothing else has
+-- a view that shows a run has costs, and no other view has
 abbrev pub IsPriced : Command → Type 0
 IsPriced c = PricedFor c.costs c.view
 
--- the messages or the rounds of a source are not too many
+-- the messages or rounds of a source are within their limits
 abbrev pub IsSizedSource : Source → Type 0
 IsSizedSource (source.File name) = Unit {0}
 IsSizedSource (source.Made what ranks bytes) = bytes ≤ size_limit
@@ -50,7 +50,7 @@ command (line.Gen what ranks bytes) = Gen what ranks bytes
 command (line.Certify what name) = Certify what name
 command (line.Probe rounds seed params) = Probe rounds seed (numbers params)
 
--- the same of its parts
+-- the same for its parts
 abbrev pub pricing : Costing → Pricing
 pricing (costing.Params params) = ByNumbers (numbers params)
 pricing (costing.Machine name) = ByMachine name

@@ -18,14 +18,14 @@ use Rattle.goal_words.specs.Options.{Place, run_options, root_option, value_of, 
 
 -- What the actions of a schedule cost.
 pub data Pricing : Type 0 where
-  -- by parameters of these numbers
+  -- by parameters with these numbers
   ByNumbers : Numbers → Pricing
-  -- by the machine that the file of that name says
+  -- by the machine described in the file of that name
   ByMachine : List ℕ → Pricing
-  -- nothing is asked of costs, since nothing is run
+  -- no costs, since nothing is run
   Unpriced : Pricing
 
--- What a command line asks for is one sentence: a schedule from a source, with what its actions cost, is shown.
+-- A command line asks for one thing: a schedule from a source, priced by costs, is shown in a view.
 pub record Command : Type 0 where
   pub source : Source
   pub costs : Pricing
@@ -34,43 +34,43 @@ pub record Command : Type 0 where
 abbrev pub asks : Source → Pricing → View → Command
 asks source costs view = record { source = source; costs = costs; view = view }
 
--- to run the schedule of the file of that name with these parameters, and to print the run
+-- run the schedule of the file with these parameters, and print the run
 abbrev pub Sim : List ℕ → Numbers → Command
 Sim name numbers = asks (source.File name) (ByNumbers numbers) (view.Run run.Printed)
 
--- to run it in the same way, and to report how long its operations waited
+-- run it in the same way, and report how long its operations waited
 abbrev pub Waits : List ℕ → Numbers → Command
 Waits name numbers = asks (source.File name) (ByNumbers numbers) (view.Run run.Waits)
 
--- to run it in the same way, and to write the knots of its stuck operations
+-- run it in the same way, and print the knots of its stuck operations
 abbrev pub Knots : List ℕ → Numbers → Command
 Knots name numbers = asks (source.File name) (ByNumbers numbers) (view.Run run.Knots)
 
--- to run it with the costs of the machine that the file of the second name says, and to print the run
+-- run it with the costs of the machine described in the second file, and print the run
 abbrev pub Nodes : List ℕ → List ℕ → Command
 Nodes name machine = asks (source.File name) (ByMachine machine) (view.Run run.Printed)
 
--- to write its compiled file to the file of the second name
+-- write its compiled file to the second file
 abbrev pub Compile : List ℕ → List ℕ → Command
 Compile name out = asks (source.File name) Unpriced (view.File out)
 
--- to write its canonical text
+-- print its canonical text
 abbrev pub Show : List ℕ → Command
 Show name = asks (source.File name) Unpriced view.Text
 
--- to write the canonical text of the schedule that is made for the collective, of so many ranks and bytes
+-- print the canonical text of the schedule generated for the collective, for these ranks and bytes
 abbrev pub Gen : Collective → ℕ → ℕ → Command
 Gen what ranks bytes = asks (source.Made what ranks bytes) Unpriced view.Text
 
--- to say whether the schedule of the file of that name is right for the collective
+-- report whether the schedule of the file is right for the collective
 abbrev pub Certify : Collective → List ℕ → Command
 Certify what name = asks (source.File name) Unpriced (view.Verdict what)
 
--- to run the probe of so many rounds that are drawn from a seed, with these parameters, and to sum it up
+-- run the probe of this number of rounds, drawn from a seed, with these parameters, and print a summary
 abbrev pub Probe : ℕ → ℕ → Numbers → Command
 Probe rounds seed numbers = asks (source.Drawn rounds seed) (ByNumbers numbers) (view.Run run.Sum)
 
--- the options that a command takes, by the first word
+-- the options that a command allows, by its first word
 abbrev pub options_of : List ℕ → List (List ℕ)
 options_of first =
     if bytes_eq first (codes "sim") || bytes_eq first (codes "waits") || bytes_eq first (codes "knots") || bytes_eq first (codes "probe") then run_options
@@ -80,7 +80,7 @@ options_of first =
 abbrev pub number_from : ℕ → ℕ → List ℕ → Option ℕ
 number_from least most w = option_and_then (λ n. if nat_le least n && nat_le n most then Some n else None) (value_of w)
 
--- the root: 0 where `--root` does not stand there
+-- the root: 0 if `--root` is not given
 abbrev pub root_of : Option ℕ → Option ℕ
 root_of root = if nat_le (unwrap_or root 0) root_limit then Some (unwrap_or root 0) else None
 
@@ -88,11 +88,11 @@ root_of root = if nat_le (unwrap_or root 0) root_limit then Some (unwrap_or root
 abbrev pub rooted : (ℕ → Collective) → Option ℕ → Option Collective
 rooted what root = option_map what (root_of root)
 
--- one that has none, where `--root` may not stand
+-- a collective without a root, for which `--root` may not be given
 abbrev pub rootless : Collective → Option ℕ → Option Collective
 rootless what root = if is_some root then None else Some what
 
--- the collective of a KIND and what `--root` is set to
+-- the collective of a KIND, with the value of `--root`
 abbrev pub collective_of : List ℕ → Option ℕ → Option Collective
 collective_of kind root =
     if bytes_eq kind (codes "bcast") then rooted Bcast root
@@ -136,7 +136,7 @@ abbrev pub show_of : List (List ℕ) → Option Command
 show_of (name ∷ []) = Some (Show name)
 show_of _ = None
 
--- `gen KIND RANKS BYTES`, with what `--root` is set to
+-- `gen KIND RANKS BYTES`, with the value of `--root`
 abbrev pub gen_of : List (List ℕ) → Option ℕ → Option Command
 gen_of (kind ∷ ranks ∷ bytes ∷ []) root =
     option_and_then (λ what.
@@ -144,7 +144,7 @@ gen_of (kind ∷ ranks ∷ bytes ∷ []) root =
     option_map (Gen what n) (number_from 0 size_limit bytes)) (number_from 1 rank_limit ranks)) (collective_of kind root)
 gen_of _ root = None
 
--- `certify KIND NAME`, with what `--root` is set to
+-- `certify KIND NAME`, with the value of `--root`
 abbrev pub certify_of : List (List ℕ) → Option ℕ → Option Command
 certify_of (kind ∷ name ∷ []) root = option_map (λ what. Certify what name) (collective_of kind root)
 certify_of _ root = None
@@ -157,7 +157,7 @@ probe_of (rounds ∷ seed ∷ []) params =
     option_map (Probe n s) (within_limits params)) (value_of seed)) (number_from 1 round_limit rounds)
 probe_of _ params = None
 
--- the command of the first word, by the plain words, the parameters and what `--root` is set to
+-- the command of the first word, from the plain words, the parameters and the value of `--root`
 abbrev pub command_by : List ℕ → List (List ℕ) → Numbers → Option ℕ → Option Command
 command_by first plain params root =
     if bytes_eq first (codes "sim") then sim_of plain params
@@ -170,11 +170,11 @@ command_by first plain params root =
     else (if bytes_eq first (codes "certify") then certify_of plain root
     else (if bytes_eq first (codes "probe") then probe_of plain params else None))))))))
 
--- what stands at the words of a line after the first
+-- the roles of the words of a line after the first
 abbrev pub line_places : List ℕ → List (List ℕ) → List Place
 line_places first words = places (options_of first) first words
 
--- the command that words are
+-- the command of these words
 abbrev pub command_of : List (List ℕ) → Option Command
 command_of [] = None
 command_of (first ∷ words) =
@@ -182,6 +182,6 @@ command_of (first ∷ words) =
     then command_by first (plain_words (line_places first words)) (numbers_of (line_places first words)) (value_at (codes "--root") (line_places first words))
     else None
 
--- the same of the words as they are handed over
+-- the same for words as the code has them
 abbrev pub command_in : List (String Global) → Option Command
 command_in words = command_of (map string_bytes words)

@@ -1,14 +1,14 @@
-// Numbers within limits, and the kinds of collectives.
+//! Numbers within limits, and the kinds of collectives.
 ghost use Rattle.std.specs.Prelude.{◌≡◌, None, Some};
 ghost use Rattle.goal_words.specs.Words.{number_from, collective_of, root_of, rootless};
 
 use crate::options::value_of;
 use goal_blocks::Collective;
 
-/// The greatest root that a line may name.
+/// The greatest root that a command line may name.
 pub const MAX_ROOT: u64 = 65_535;
 
-// A number within these limits.
+/// Returns the number of a word, if it is one from `least` to `most`.
 pub fn number_from(least: u64, most: u64, word: &str) -> Option<u64>
     ensures { result ≡ number_from least most word.now }
 {
@@ -18,7 +18,7 @@ pub fn number_from(least: u64, most: u64, word: &str) -> Option<u64>
     }
 }
 
-// The root: 0 where none is given.
+// Returns the root: 0 if none is given.
 fn root_of(root: Option<u64>) -> Option<u32>
     ensures { result ≡ root_of root }
 {
@@ -30,14 +30,14 @@ fn root_of(root: Option<u64>) -> Option<u32>
     }
 }
 
-// A collective that has no root, where none may be given.
+// Returns a collective without a root, if none is given.
 fn rootless(what: Collective, root: Option<u64>) -> Option<Collective>
     ensures { result ≡ rootless what root }
 {
     if root.is_some() { None } else { Some(what) }
 }
 
-// The collective of a KIND, and what its option is set to.
+/// Returns the collective of a KIND with the given root, or `None` if there is none.
 pub fn collective_of(kind: &str, root: Option<u64>) -> Option<Collective>
     ensures { result ≡ collective_of kind.now root }
 {

@@ -10,9 +10,9 @@
 //!     certify KIND NAME [--root N]
 //!     probe ROUNDS SEED [the options of `sim`]
 //!
-//! NAME, MACHINE and OUT are any words that do not begin with `-`. Options and plain words may be mixed after the first word. Each
-//! option stands at most once, and its value follows it, or is joined to it as in `--S=0`. A number has 1 to 20 digits, and
-//! is within its limit.
+//! NAME, MACHINE and OUT are any words that do not begin with `-`. Options and plain words may be mixed after the first
+//! word. Each option is given at most once; its value follows it, or is joined to it as in `--S=0`. A number has 1 to
+//! 20 digits, and is within its limit.
 #![tactic(auto)]
 
 mod kinds;

@@ -1,4 +1,4 @@
-// Command lines.
+//! Command lines.
 ghost use Rattle.std.specs.Prelude.{◌≡◌, None, Some, ◌⊎◌, IfOk, IfErr, IsErrOf, MatchOption};
 ghost use Rattle.goal_words.specs.Words.{command_by, command_in, options_of, sim_of, waits_of, knots_of, nodes_of, compile_of, show_of, gen_of, certify_of, probe_of};
 ghost use Rattle.goal_words.specs.Sentences.{command, IsSized};
@@ -13,7 +13,7 @@ use sim_params::Params;
 use std::alloc::{AllocError, Global};
 use std::marker::Model;
 
-/// The name of a file. Contracts see it as its bytes.
+/// The name of a file. Contracts see its bytes.
 #[derive(Debug, Drop)]
 pub struct FileName {
     text: String,
@@ -36,7 +36,7 @@ impl FileName {
         Ok(FileName { text })
     }
 
-    /// The name.
+    /// Returns the name.
     pub fn as_str(&self) -> &str
         ensures { result.now ≡ self.now }
     {
@@ -44,52 +44,52 @@ impl FileName {
     }
 }
 
-/// What a command line asks for.
+/// What a command line asks for. The limits are those of `read_words`.
 #[derive(Debug, Drop)]
 pub enum Line {
-    /// To run the schedule of the file `name` with these parameters, and to print the run.
+    /// Run the schedule of the file `name` with these parameters, and print the run.
     Sim {
         name: FileName,
         params: Params,
     },
-    /// To run it in the same way, and to print how long its operations waited.
+    /// Run it in the same way, and report how long its operations waited.
     Waits {
         name: FileName,
         params: Params,
     },
-    /// To run it in the same way, and to print the knots of its stuck operations.
+    /// Run it in the same way, and print the knots of its stuck operations.
     Knots {
         name: FileName,
         params: Params,
     },
-    /// To run it in the same way, with the costs of the machine of the file `machine`, and to print the run.
+    /// Run it with the costs of the machine described in the file `machine`, and print the run.
     Nodes {
         name: FileName,
         machine: FileName,
     },
-    /// To write the compiled file of the schedule of `name` to the file `out`.
+    /// Write the compiled file of the schedule of `name` to the file `out`.
     Compile {
         name: FileName,
         out: FileName,
     },
-    /// To print the canonical text of the schedule of `name`.
+    /// Print the canonical text of the schedule of `name`.
     Show {
         name: FileName,
     },
-    /// To print the canonical text of the schedule that is made for the collective `what`, of so many ranks, from 1 to
-    /// 65,536, and messages of so many bytes, at most 2^40-1. A root is at most 65,535.
+    /// Print the canonical text of the schedule generated for the collective `what`, for `ranks` ranks (1 to 65,536),
+    /// with messages of `bytes` bytes (at most 2^40-1). A root is at most 65,535.
     Gen {
         what: Collective,
         ranks: u32,
         bytes: u64,
     },
-    /// To say whether the schedule of `name` is right for the collective `what`, whose root is at most 65,535.
+    /// Report whether the schedule of `name` is right for the collective `what`, whose root is at most 65,535.
     Certify {
         what: Collective,
         name: FileName,
     },
-    /// To run the probe of so many rounds, from 1 to 300,000, that are drawn from the seed, with these parameters, and to
-    /// print a summary.
+    /// Run the probe of `rounds` rounds (1 to 300,000), drawn from the seed, with these parameters, and print a
+    /// summary.
     Probe {
         rounds: u32,
         seed: u64,
@@ -97,12 +97,12 @@ pub enum Line {
     },
 }
 
-/// Why words are no line.
+/// Why words are no command line.
 #[derive(Clone, Copy, Debug, PartialEq, Eq)]
 pub enum LineFault {
     /// They are not a command line of `goal`.
     Bad,
-    /// Memory ran out.
+    /// Out of memory.
     NoMemory,
 }
 
@@ -116,11 +116,11 @@ impl From<AllocError> for LineFault {
     }
 }
 
-/// What the words after the program's name ask for.
+/// Returns what the words after the program's name ask for.
 ///
 /// # Errors
 ///
-/// `Bad` exactly where they are no command line. And want of memory.
+/// `Bad` if they are no command line; `NoMemory` may come at any time.
 pub fn read_words(alloc: Global, words: &[String]) -> Result<Line, LineFault>
     ensures line { IfOk result (λ line. command_in words.now ≡ Some (command line)) }
     ensures sized { IfOk result (λ line. IsSized (command line)) }
@@ -137,7 +137,7 @@ pub fn read_words(alloc: Global, words: &[String]) -> Result<Line, LineFault>
     }
 }
 
-// The options that a command takes, by the first word.
+// Returns the options that a command allows, by its first word.
 fn taken_by(first: &str) -> AllowedOptions
     ensures { words_of result ≡ options_of first.now }
 {
@@ -148,7 +148,7 @@ fn taken_by(first: &str) -> AllowedOptions
     }
 }
 
-// The line of the first word, the plain words and the options.
+// Returns the line of the first word, the plain words and the options.
 fn read_line(
     alloc: Global,
     first: &str,

@@ -1,4 +1,4 @@
-// The options of a line, and their values.
+//! The options of a line, and their values.
 ghost use Rattle.std.specs.Prelude.{◌≡◌, None, Some, MatchOption};
 ghost use Rattle.std.specs.List.{list_all};
 ghost use Rattle.std.specs.Char.{is_ascii_digit};
@@ -11,33 +11,42 @@ use sim_params::{
     DEFAULT_OVERHEAD_PER_BYTE, DEFAULT_SYNC, Params,
 };
 
-// An option.
+/// An option, by what it sets.
 #[derive(Clone, Copy)]
 pub enum Key {
+    /// `--L`
     Latency,
+    /// `--o`
     Overhead,
+    /// `--g`
     Gap,
+    /// `--G`
     GapPerByte,
+    /// `--Gp`
     GapPicos,
+    /// `--O`
     OverheadPerByte,
+    /// `--Op`
     OverheadPicos,
+    /// `--S`
     Sync,
+    /// `--root`
     Root,
 }
 
-// The options that a command takes.
+/// The options that a command allows.
 #[derive(Clone, Copy)]
 pub enum AllowedOptions {
-    // Those of a run.
+    /// Those of a run.
     Run,
-    // That of a collective.
+    /// That of a collective.
     Root,
-    // None.
+    /// None.
     Nothing,
 }
 
 impl AllowedOptions {
-    // The option of a word.
+    /// Returns the allowed option with this word, if any.
     pub fn key_of(self, word: &str) -> Option<Key>
         ensures { result ≡ key_of self word.now }
     {
@@ -52,7 +61,7 @@ impl AllowedOptions {
     }
 }
 
-// The option of a run of that word.
+// Returns the option of a run with this word, if any.
 fn run_key_of(word: &str) -> Option<Key>
     ensures { result ≡ run_key_of word.now }
 {
@@ -69,17 +78,17 @@ fn run_key_of(word: &str) -> Option<Key>
     }
 }
 
-// The most digits that a number may have.
+// The most digits of a number.
 const MOST_DIGITS: usize = 20;
 
-// Whether all bytes are decimal digits.
+// Returns whether all bytes are decimal digits.
 fn are_digits(word: &[u8]) -> bool
     ensures { result ≡ list_all is_ascii_digit word.now }
 {
     word.iter().all(|byte| byte.is_ascii_digit())
 }
 
-// The value of a number.
+/// Returns the value of a number of 1 to 20 digits below 2^64, or `None` for any other word.
 pub fn value_of(word: &str) -> Option<u64>
     ensures { result ≡ value_of word.now }
 {
@@ -92,7 +101,7 @@ pub fn value_of(word: &str) -> Option<u64>
     }
 }
 
-// The values of the options so far.
+/// The values of the options given so far.
 #[derive(Clone, Copy)]
 pub struct OptionValues {
     latency: Option<u64>,
@@ -106,7 +115,7 @@ pub struct OptionValues {
     root: Option<u64>,
 }
 
-// No option yet.
+/// No option is given.
 pub const NONE_GIVEN: OptionValues = OptionValues {
     latency: None,
     overhead: None,
@@ -120,7 +129,7 @@ pub const NONE_GIVEN: OptionValues = OptionValues {
 };
 
 impl OptionValues {
-    // With one option more. None where it was given before.
+    /// Returns the options with another one, or `None` if it was already given.
     pub fn with(self, key: Key, number: u64) -> Option<OptionValues>
         ensures { result ≡ with_option self key number }
     {
@@ -141,7 +150,7 @@ impl OptionValues {
         Some(self.set(key, number))
     }
 
-    // With this value for an option.
+    // Returns the options with this value for one.
     fn set(self, key: Key, number: u64) -> OptionValues
         ensures { result ≡ set self key number }
     {
@@ -186,14 +195,14 @@ impl OptionValues {
         }
     }
 
-    // What the option of a collective is set to.
+    /// Returns the value of `--root`, if it is given.
     pub fn root(self) -> Option<u64>
         ensures { result ≡ self.root }
     {
         self.root
     }
 
-    // The parameters of a run. None where one is over its limit.
+    /// Returns the parameters of a run, with defaults for those not given, or `None` if one is over its limit.
     pub fn params(self) -> Option<Params>
         ensures { MatchOption result (within_limits (numbers_given self) ≡ None)
             (λ params. within_limits (numbers_given self) ≡ Some (numbers params)) }

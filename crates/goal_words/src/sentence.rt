@@ -1,4 +1,4 @@
-// What a command line asks for, as one sentence: a schedule from a source, with what its actions cost, is shown.
+//! The parts of a command: a schedule from a source, priced by costs, is shown in a view.
 ghost use Rattle.std.specs.Prelude.{◌≡◌};
 ghost use Rattle.sim_params.specs.Numbers.{numbers};
 ghost use Rattle.goal_words.specs.Words.{ByNumbers, Unpriced, asks};
@@ -11,68 +11,73 @@ use sim_params::Params;
 /// Where a schedule comes from.
 #[derive(Debug, Drop)]
 pub enum Source {
-    /// The file of this name says it.
+    /// It is read from the file of this name.
     File(FileName),
-    /// It is made for the collective `what`, of so many ranks, from 1 to 65,536, and messages of so many bytes, at most 2^40-1.
+    /// It is generated for the collective `what`, for `ranks` ranks (1 to 65,536), with messages of `bytes` bytes (at
+    /// most 2^40-1).
     Made {
         what: Collective,
         ranks: u32,
         bytes: u64,
     },
-    /// It is drawn from the seed, of so many rounds, from 1 to 300,000.
+    /// It is the probe of `rounds` rounds (1 to 300,000), drawn from the seed.
     Drawn {
         rounds: u32,
         seed: u64,
     },
 }
 
-/// What the actions of a schedule cost.
+/// The costs of the actions of a schedule.
 #[derive(Debug, Drop)]
 pub enum Costing {
-    /// What these parameters say.
+    /// They follow from these parameters.
     Params(Params),
-    /// What the machine of the file of this name says.
+    /// They follow from the machine described in the file of this name.
     Machine(FileName),
-    /// Nothing is run.
+    /// There are none: nothing is run.
     None,
 }
 
 /// How a run is shown.
 #[derive(Clone, Copy, Debug, PartialEq, Eq)]
 pub enum RunView {
-    /// By its timeline, and a line for each stuck operation with its reason.
+    /// The timeline, and a line for each stuck operation with its reason.
     Printed,
-    /// By the report on its waits.
+    /// The report on waits.
     Waits,
-    /// By the first line of its timeline, and the knots of its stuck operations.
+    /// The first line of the timeline, and the knots of the stuck operations.
     Knots,
-    /// By the first line of its timeline, and the sum of all ends.
+    /// The first line of the timeline, and the sum of all end times.
     Sum,
 }
 
 /// How a schedule is shown.
 #[derive(Debug, Drop)]
 pub enum View {
-    /// By its run.
+    /// Its run.
     Run(RunView),
-    /// By its canonical text.
+    /// Its canonical text.
     Text,
-    /// By its compiled file, in the file of this name.
+    /// Its compiled file, written to the file of this name.
     File(FileName),
-    /// By the verdict on it, for this collective.
+    /// The verdict on it, for this collective.
     Verdict(Collective),
 }
 
-/// What a command line asks for: a schedule from a source, with what its actions cost, is shown. What costs nothing is not run.
+/// What a command asks for: a schedule from a source, priced by costs, is shown in a view. A schedule without costs is
+/// not run.
 #[derive(Debug, Drop)]
 pub struct Sentence {
+    /// Where the schedule comes from.
     pub source: Source,
+    /// What its actions cost.
     pub costs: Costing,
+    /// How it is shown.
     pub view: View,
 }
 
 impl Sentence {
-    /// The sentence of a line.
+    /// Returns the parts of a line.
     pub fn of(line: Line) -> Sentence
         ensures sentence { said result ≡ command line }
         ensures priced { IsPriced (said result) }
@@ -106,7 +111,7 @@ impl Sentence {
         }
     }
 
-    // A file's schedule is run with parameters.
+    // Runs the schedule of a file with parameters.
     fn of_run(name: FileName, params: Params, view: RunView) -> Sentence
         ensures { said result ≡ asks (Source.File name) (ByNumbers (numbers params)) (View.Run view) }
     {
@@ -117,7 +122,7 @@ impl Sentence {
         }
     }
 
-    // A schedule is shown as it is.
+    // Shows a schedule without running it.
     fn unpriced(source: Source, view: View) -> Sentence
         ensures { said result ≡ asks source Unpriced view }
     {

@@ -1,4 +1,4 @@
-// Words of a line, read from the front.
+//! Words of a line, read from the front.
 ghost use Rattle.std.specs.Prelude.{◌≡◌, ◌==◌, ◌≢◌, ◌≤◌, ◌∷◌, true, false, [], Some, length, map, string_bytes, MatchOption, IfSome};
 ghost use Rattle.std.specs.Option.{option_map};
 ghost use Rattle.std.specs.List.{before_first, after_first, position_or_len};
@@ -7,8 +7,8 @@ ghost use Rattle.goal_words.specs.Reading.{parts_in, left, with_plain, with_valu
 
 use crate::options::{AllowedOptions, Key, NONE_GIVEN, OptionValues, value_of};
 
-// What is left of a line: the options that it takes, those given so far, and the words to come. These do not follow an
-// option word.
+/// What is left of a line: the options that it allows, those given so far, and the remaining words. These do not follow
+/// an option word.
 #[derive(Clone, Copy)]
 pub struct WordsLeft<'a> {
     taken: AllowedOptions,
@@ -16,15 +16,18 @@ pub struct WordsLeft<'a> {
     words: &'a [String],
 }
 
-// Plain words, one to three.
+/// One to three plain words.
 #[derive(Clone, Copy)]
 pub enum PlainWords<'a> {
+    /// One word.
     One(&'a str),
+    /// Two words.
     Two(&'a str, &'a str),
+    /// Three words.
     Three(&'a str, &'a str, &'a str),
 }
 
-// What stands around the first `=` of a word.
+// The text before and after the first `=` of a word, if it has one.
 fn around_equals(word: &str) -> Option<(&str, &str)>
     ensures { MatchOption result (position_or_len (λ b. b == 61) word.now ≡ length word.now)
         (λ halves. (halves.0.now ≡ before_first (λ b. b == 61) word.now) × (halves.1.now ≡ after_first (λ b. b == 61) word.now)) }
@@ -33,7 +36,7 @@ fn around_equals(word: &str) -> Option<(&str, &str)>
 }
 
 impl<'a> WordsLeft<'a> {
-    // The words after the first, of a line that takes these options.
+    /// Starts with the words after the first, of a line that allows these options.
     pub fn new(taken: AllowedOptions, words: &'a [String]) -> WordsLeft<'a>
         ensures { left result ≡ parts_in taken none_given (map string_bytes words.now) }
     {
@@ -44,7 +47,8 @@ impl<'a> WordsLeft<'a> {
         }
     }
 
-    // With an option set to the number that is this word, and with these words to come.
+    // The same with an option set to the number of this word, and with these words left. `None` if the word is no such
+    // number, or the option was already given.
     fn with(self, key: Key, value: &str, words: &'a [String]) -> Option<WordsLeft<'a>>
         ensures { MatchOption result (with_value self.entry.given key value.now ≡ None)
             (λ rest. (with_value self.entry.given key value.now ≡ Some rest.given) × (rest.taken ≡ self.entry.taken) × (rest.words.now ≡ words.now)) }
@@ -57,7 +61,7 @@ impl<'a> WordsLeft<'a> {
         })
     }
 
-    // Past the option that a word begins, which other words follow.
+    // Takes the option that a word begins; other words follow it.
     fn past_option(self, word: &str, others: &'a [String]) -> Option<WordsLeft<'a>>
         requires { begins_dash word.now ≡ true }
         ensures left { MatchOption result (parts_in self.entry.taken self.entry.given (word.now ∷ map string_bytes others.now) ≡ None)
@@ -76,7 +80,7 @@ impl<'a> WordsLeft<'a> {
         }
     }
 
-    // Past the options before the next plain word.
+    // Takes the options before the next plain word.
     fn past_options(self) -> Option<WordsLeft<'a>>
         ensures left { MatchOption result (left self.entry ≡ None) (λ rest. left self.entry ≡ left rest) }
         ensures plain { IfSome result (λ rest. begins_plain (map string_bytes rest.words.now) ≡ true) }
@@ -91,7 +95,7 @@ impl<'a> WordsLeft<'a> {
         Some(rest)
     }
 
-    // The next plain word, and what is left after it. None where there is none.
+    // Returns the next plain word, and what is left after it, or `None` if there is no such word or the line is wrong.
     fn next(self) -> Option<(&'a str, WordsLeft<'a>)>
         ensures { MatchOption result (IfSome (left self.entry) (λ parts. parts.plain ≡ []))
             (λ found. left self.entry ≡ option_map (with_plain found.0.now) (left found.1)) }
@@ -106,7 +110,7 @@ impl<'a> WordsLeft<'a> {
         Some((word.as_str(), rest))
     }
 
-    // The options of a line that has no more plain words. None where it has.
+    // Returns the options of a line without further plain words, or `None` if it has one or is wrong.
     fn end(self) -> Option<OptionValues>
         ensures { MatchOption result (IfSome (left self.entry) (λ parts. parts.plain ≢ []))
             (λ given. left self.entry ≡ Some (record { plain = []; given = given })) }
@@ -119,7 +123,8 @@ impl<'a> WordsLeft<'a> {
         }
     }
 
-    // The plain words and the options. None where there are not one to three plain words.
+    /// Returns the plain words and the options, or `None` if there are not one to three plain words or the line is
+    /// wrong.
     pub fn parts(self) -> Option<(PlainWords<'a>, OptionValues)>
         ensures { MatchOption result (IfSome (left self.entry) (λ parts. are_one_to_three parts.plain ≡ false))
             (λ parts. left self.entry ≡ Some (record { plain = listed parts.0; given = parts.1 })) }
