@@ -45,8 +45,7 @@ impl Collective {
 /// The laws of schedules that are given by an entry for each rank and number:
 ///
 /// - `fitting_is_accepted`: a schedule is accepted if its entries name existing ranks, need only operations of lower
-/// numbers,
-///   have notes that fit, and are not too many. So no operation waits for itself.
+///   numbers, have notes that fit, and are not too many. So no operation waits for itself.
 /// - `made_is_accepted`: the schedule of each of the ten collectives is accepted, for all ranks, roots and sizes within
 ///   the limits.
 /// - `bcast_is_paired`, `allgather_is_paired`, `scan_is_paired`: in a broadcast, an allgather and a scan each send has

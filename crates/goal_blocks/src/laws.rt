@@ -10,20 +10,16 @@ ghost use Rattle.goal_blocks.specs.Placed.{PlacedIsPlaced, PlacedIsAllowedAlike,
 ///
 /// - `channels_are_apart`: each send fits at most one receive, and each receive at most one send.
 /// - `matched_ends_in_its_pairs`: in each complete interleaving, whichever sends are eager, each operation ends, and
-/// each
-///   send is paired with the receive of its channel; there are no other pairs.
+///   each send is paired with the receive of its channel; there are no other pairs.
 /// - `one_walk`: a schedule, matched or not, has at most one walk.
 /// - `some_walk`: a schedule, matched or not, has a walk.
 /// - `interleaving_goes_on`: every interleaving of a schedule, matched or not and whichever sends are eager, can be
 ///   extended to a complete one, since at most three actions per operation happen.
 /// - `some_complete_interleaving`: so there is a complete interleaving for each choice of eager sends, and statements
-/// on
-///   all of them are not vacuous.
+///   on all of them are not vacuous.
 /// - `levels_end`: if each send has one receive of its channel and each receive one send, and operations have levels
-/// such
-///   that an operation's needs have lower ones and a send and its receive have the same, then each operation ends in
-/// each
-///   complete interleaving, whichever sends are eager.
+///   such that an operation's needs have lower ones and a send and its receive have the same, then each operation ends
+///   in each complete interleaving, whichever sends are eager.
 pub fn laws_of_matched_schedules()
     ensures channels_are_apart { ChannelsAreApart }
     ensures matched_ends_in_its_pairs { MatchedEndsInItsPairs }
@@ -39,8 +35,7 @@ pub fn laws_of_matched_schedules()
 /// - `order_is_kept`: if the dependencies make an operation end before another starts, it has ended wherever the other
 ///   has started, in each interleaving.
 /// - `conflicts_come_in_one_order`: without a race, two conflicting operations, one of which writes a slot that the
-/// other
-///   touches, have one order, the same in every interleaving.
+///   other touches, have one order, the same in every interleaving.
 pub fn laws_of_races()
     ensures order_is_kept { OrderIsKept }
     ensures conflicts_come_in_one_order { ConflictsComeInOneOrder }
@@ -49,14 +44,11 @@ pub fn laws_of_races()
 /// The laws of certified schedules, for every start of the slots and every condition at the end:
 ///
 /// - `certified_is_right_everywhere`: in each complete interleaving, whichever sends are eager, each operation ends,
-/// each
-///   send is paired with the receive of its channel, there are no other pairs, and each slot holds what is wanted.
+///   each send is paired with the receive of its channel, there are no other pairs, and each slot holds what is wanted.
 /// - `matched_holds_as_the_walk`: a matched schedule without a race leaves in each slot, and reads for each send, the
-/// same
-///   as the walk, in each complete interleaving, whichever sends are eager.
+///   same as the walk, in each complete interleaving, whichever sends are eager.
 /// - `certified_ends_everywhere`: in each complete interleaving, whichever sends are eager, each operation ends, each
-/// send
-///   is paired with the receive of its channel, and there are no other pairs.
+///   send is paired with the receive of its channel, and there are no other pairs.
 /// - `bcast_of_two_is_certified`: there are certified schedules, such as the one for a broadcast from rank 0 to rank 1.
 /// - `certified_conflicts_in_one_order`: two conflicting operations have one order, the same in every interleaving.
 pub fn laws_of_certified_schedules()
@@ -120,17 +112,14 @@ pub fn laws_of_renamed_slots()
 /// The laws of segments: a collective that is done in several blocks of slots, in each as if it were the first:
 ///
 /// - `exchange_undoes_itself`, `blocks_are_exchanged`, `first_block_stays`: the exchange of the first block with
-/// another.
+///   another.
 /// - `exchanged_is_certified`: a schedule with the two blocks exchanged is certified for a collective if and only if
-/// the
-///   original is certified with start and end exchanged.
+///   the original is certified with start and end exchanged.
 /// - `slot_holds_wanted`, `block_holds_wanted`: if the exchanged schedule is certified, the original ends in each
-/// complete
-///   interleaving, whichever sends are eager, in the pairs of the channels, and the slot or block holds what the
-///   collective wants in slot 0 or in the first block.
+///   complete interleaving, whichever sends are eager, in the pairs of the channels, and the slot or block holds what
+///   the collective wants in slot 0 or in the first block.
 /// - `segments_in_one_run`, `blocks_in_one_run`: if that is certified for several blocks, all of them are right in one
-/// and
-///   the same complete interleaving, whatever its order.
+///   and the same complete interleaving, whatever its order.
 pub fn laws_of_segments()
     ensures exchange_undoes_itself { ExchangeUndoesItself }
     ensures blocks_are_exchanged { BlocksAreExchanged }
@@ -147,17 +136,14 @@ pub fn laws_of_segments()
 ///
 /// - `placed_is_placed`: a schedule whose plans are put on other ranks is such a schedule.
 /// - `placed_is_allowed_alike`, `placed_interleaves_alike`: it allows the permuted actions after the permuted ones, and
-/// its
-///   interleavings and complete interleavings are the permuted ones, with the permuted sends eager.
+///   its interleavings and complete interleavings are the permuted ones, with the permuted sends eager.
 /// - `placed_holds_alike`: from a start with relabelled contributions, the permuted rank holds what the rank holds,
 ///   relabelled.
 /// - `placed_is_right`: a schedule that is right everywhere is so on other ranks, for a condition that asks no more.
 /// - `placed_is_certified`: a certified schedule is certified on other ranks, if few enough contributions are held
-/// along
-///   the walk there, which takes the actions in another order.
+///   along the walk there, which takes the actions in another order.
 /// - `placed_collective_is_right`: a schedule that does a collective everywhere, other than a scan, does it on other
-/// ranks,
-///   with its root permuted, and with the slots that it assigns to ranks permuted too.
+///   ranks, with its root permuted, and with the slots that it assigns to ranks permuted too.
 pub fn laws_of_placed_schedules()
     ensures placed_is_placed { PlacedIsPlaced }
     ensures placed_is_allowed_alike { PlacedIsAllowedAlike }

@@ -5,10 +5,8 @@ ghost use Rattle.goal_parser.specs.Laws.{KeepLimits, SayPlans, ReadAsWritten, Ha
 ///
 /// - `keep_limits`: the plans of a text have counts and values within their limits;
 /// - `say_plans`: a text with plans is sentences that obey the rules of ranks, labels and options: at most one block
-/// per
-///   rank, of actions, dependencies and notes. Operation, dependency and note number i of a rank are those of number i
-/// of
-///   its block's actions, dependencies and notes;
+///   per rank, of actions, dependencies and notes. Operation, dependency and note number i of a rank are those of
+///   number i of its block's actions, dependencies and notes;
 /// - `read_as_written`: conversely, sentences within these rules and the limits, however they are written, are read as
 ///   their plans;
 /// - `one_reading`: no other sentences have the same tokens.
@@ -22,10 +20,8 @@ pub fn laws_of_texts()
 /// The law of readers in pieces, which says what is known after `feed` returned Ok:
 ///
 /// - `passes_so_far`: no token that ends before the last byte of the text so far fails a test, and no brace or colon
-/// does.
-///   Only a run that the next piece may continue is not tested. If the text ended here and had a lexical fault, it
-/// would
-///   be at a `/` as the last byte, or at an unclosed block comment.
+///   does. Only a run that the next piece may continue is not tested. If the text ended here and had a lexical fault,
+///   it would be at a `/` as the last byte, or at an unclosed block comment.
 pub fn laws_of_readers()
     ensures passes_so_far { ReadPassesSoFar }
 {}

@@ -4,8 +4,7 @@
 //!
 //! - `Sentence` is the grammar, which says which token may follow, and `Numbers` has the limits of numbers.
 //! - `Ranks`, `Actions`, `Counts`, `Items` and `Plans` say what the tokens before a place give. In these lists of
-//! tokens
-//!   the newest comes first.
+//!   tokens the newest comes first.
 //! - `Faults` has the tests of a token, in their order. Each looks at the token and the tokens before it.
 //! - `Reads` has the first fault of a text, or otherwise its plans.
 //!

@@ -29,8 +29,7 @@ fn schedule_of(alloc: Global, text: &[u8]) -> Result<Sched, TextFault>
 /// # Errors
 ///
 /// - The fault of the first token that fails a test. A byte where no token can be taken, or the end of the text, counts
-/// as
-///   a last token.
+///   as a last token.
 /// - If there is none, the first fault of the plans, which is neither `Count` nor `Value`.
 /// - `NoMemory`.
 pub fn read_text(alloc: Global, text: &[u8]) -> Result<Sched, TextFault>
