@@ -1,4 +1,4 @@
--- What follows from the table of causes.
+-- Consequences of the table of causes.
 use Rattle.std.proofs.Common.{◌≡◌, ◌≢◌, ℕ, ◌+◌, ◌<◌, ◌≤◌, ◌⊎◌, true, false, List, [], length, Option, Some, None, IfSome, IsSomeAnd, inl, inr, refl, sym, ap, ◌∙◌, subst, arith}
 use Rattle.std.proofs.Math.Seq.{take-length}
 use Rattle.std.specs.FinMap.{get, insert}
@@ -38,11 +38,11 @@ use Rattle.goal_cli.proofs.RefusalLemmas.{same_refusal, no_refusal, one_machine}
 pub all_is_part : (old new : SinkState) (bytes : List ℕ) → Grows old new bytes → GrowsByPart old new bytes
 all_is_part old new bytes all = (length bytes, rw (take-length bytes) all)
 
--- a whole line was said
+-- a whole line was written
 pub says_whole : (old new : SinkState) (line : List ℕ) → Grows old new line → Says old new line
 says_whole old new line all = record { prefix = all_is_part old new line all; whole = λ _. all }
 
--- the same of a line that is another's equal
+-- the same for an equal line
 pub said_as : (old new : SinkState) (s t : Status) (line wanted : List ℕ) → line ≡ wanted
     → ((s ≡ t) × Says old new line) ⊎ ((s ≡ status.NoMemory) × IsCutShort old new line)
     → ((s ≡ t) × Says old new wanted) ⊎ ((s ≡ status.NoMemory) × IsCutShort old new wanted)
@@ -53,7 +53,7 @@ said_as old new s t line wanted is said =
 same_file : (host : HostState) (name input other : List ℕ) → file_of host name ≡ Some input → file_of host name ≡ Some other → other ≡ input
 same_file host name input other a b = cc
 
--- what is in the file of a name
+-- the bytes of the file of a name
 module _ (host : HostState) (P : List ℕ → Type 0) where
   if_all : (o : Option (List ℕ)) → ((input : List ℕ) → P input) → IfNamed host o P
   if_all None p = p []
@@ -93,7 +93,7 @@ module _ (host : HostState) (c : Command) (P : Input → Type 0) where
         (λ s q. if_for host (λ m. P (input_with s m)) (λ m. Q (input_with s m)) (λ m r. turn (input_with s m) r) (machine_of c) q)
         (input_of c) p
 
--- a refusal of what was got
+-- a refusal of what was read
 pub refused_of : (host : HostState) (c : Command) (sched : List Plan) (machine : List ℕ) (stop : Stop) (r : Refusal) → stop ≡ Refused r
     → ForRead host c (IsGathered c sched machine) → ((input : Input) → IsGathered c sched machine input → IsStop c input stop)
     → ForRead host c (λ input. IsRefused c input r)
@@ -101,7 +101,7 @@ refused_of host c sched machine stop r is got refused =
     read_turned host c (IsGathered c sched machine) (λ (i : Input). IsRefused c i r)
     (λ input from. subst (λ (s : Stop). IsStop c input s) is (refused input from)) got
 
--- why there is nothing to work on, as it stands in the table of causes
+-- why there is nothing to work on, as in the table of causes
 module _ (a b : HostState) (out : SinkState) (c : Command) (kept : KeepsFiles a b) where
   still : IsUntouched (devices a out) (devices b out)
   still = record { files = kept; sink = refl }
@@ -114,7 +114,7 @@ module _ (a b : HostState) (out : SinkState) (c : Command) (kept : KeepsFiles a 
   idle_cause answer.WriteFault is = absurd is
   idle_cause answer.NoMemory is = inl still
 
--- a file that was read to its end once its host's other was
+-- a file was read to its end, after another file of its host
 pub read_out_from : (a b d : HostState) (o : Option (List ℕ)) → Later a b → KeepsFiles a b → IsReadOut b d o → IsReadOut a d o
 read_out_from a b d None later kept out = tt
 read_out_from a b d (Some name) later kept out = λ tells. by tells (out (later.tells ∙ tells))
@@ -127,14 +127,14 @@ read_out_from a b d (Some name) later kept out = λ tells. by tells (out (later.
           (k.0, ap (λ (f : Files). get f name) (sym (kept.files.files t)) ∙ k.1, k.2);
     })
 
--- what was got of a host whose files are those of another
+-- what was read from a host whose files are those of another
 pub got_for : (a b : HostState) (text : List ℕ) (Q : List ℕ → Type 0) (o : Option (List ℕ)) → Later a b → KeepsFiles a b → IsGot b o text → Q text
     → ForNamed a o Q
 got_for a b text Q None later kept got q = subst Q got q
 got_for a b text Q (Some name) later kept got q =
     λ tells. (text, ap (λ (f : Files). get f name) (sym (kept.files.files tells)) ∙ got (later.tells ∙ tells), q)
 
--- a schedule that is refused, once the machine was read
+-- a schedule is refused, after the machine was read
 pub idle_refused : (a b d : HostState) (c : Command) (r : Refusal) (text : List ℕ) → Later a b → KeepsFiles a b → IsUnmade a b c (answer.Refused r)
     → IsGot b (machine_of c) text → length text ≤ MAX_INPUT → IsReadOut b d (machine_of c) → SameReadCounts b d → IsIdle a d c (answer.Refused r)
 idle_refused a b d c r text later kept unmade got short out same = (
@@ -147,7 +147,7 @@ idle_refused a b d c r text later kept unmade got short out same = (
   read_out_from a b d (machine_of c) later kept out,
 )
 
--- what is taken of an input, where nothing more is asked of it later
+-- what is taken of an input, after which nothing else is read
 still_most : (a b d : HostState) (name : List ℕ) → Later a b → ReadsAtMost a b name (MAX_INPUT + 1) → SameRest b d
     → ReadsAtMost a d name (MAX_INPUT + 1)
 still_most a b d name later most kept = record {
@@ -226,7 +226,7 @@ module _ (a b d : HostState) (kept : KeepsFiles a b) (later : Later a b) where
   holds_part_from name bytes (inl same) = inl (same_from same)
   holds_part_from name bytes (inr part) = inr (part.0, part.1, holds_from name _ part.2)
 
--- the same of an output, of a part of it, of where the command doesn't write, and of the counts
+-- the same for an output, a part of it, the device to which the command does not write, and the counts
 module _ (a b : HostState) (out : SinkState) (new : Devices) (kept : KeepsFiles a b) (later : Later a b) where
   gets_from : (t : Target) (bytes : List ℕ) → Gets (devices b out) new t bytes → Gets (devices a out) new t bytes
   gets_from ToOut bytes got = got
@@ -254,7 +254,7 @@ module _ (a b : HostState) (out : SinkState) (new : Devices) (kept : KeepsFiles 
     absent_count = then.absent_count ∙ first.absent_count;
   }
 
-  -- what is so after an output was written whole, of a schedule that was read before
+  -- the facts after an output was written whole, for a schedule that was read before
   pub written_from : (c : Command) (sched : List Plan) (machine output : List ℕ) (e : Ending) → ForRead a c (IsGathered c sched machine)
       → SameReadCounts a b → ((input : Input) → IsGathered c sched machine input → IsOutput c input output e) → MayEnd c e → Gets (devices b out) new (target_of c) output
       → WritesSame (devices b out) new (target_of c) → SameReadCounts b new.host → Elsewhere (devices b out) new (target_of c)
@@ -269,7 +269,7 @@ module _ (a b : HostState) (out : SinkState) (new : Devices) (kept : KeepsFiles 
     elsewhere = elsewhere_from (target_of c) elsewhere;
   }
 
-  -- what is so after it was cut off
+  -- the facts after it was cut off
   pub cut_off_from : (c : Command) (sched : List Plan) (machine output : List ℕ) (e : Ending) → ForRead a c (IsGathered c sched machine)
       → SameReadCounts a b → ((input : Input) → IsGathered c sched machine input → IsOutput c input output e) → GetsPart (devices b out) new (target_of c) output → SameReadCounts b new.host
       → Elsewhere (devices b out) new (target_of c) → IsCutOff (devices a out) new c
@@ -282,7 +282,7 @@ module _ (a b : HostState) (out : SinkState) (new : Devices) (kept : KeepsFiles 
   }
 
 module _ (old new : Devices) where
-  -- what was written whole was written in part
+  -- what was written whole was written as a prefix
   whole_is_part : (t : Target) (bytes : List ℕ) → Gets old new t bytes → GetsPart old new t bytes
   whole_is_part ToOut bytes got = all_is_part old.out new.out bytes got
   whole_is_part (ToFile name) bytes got = inr (length bytes, omega arith, rw (take-length bytes) got)
@@ -297,7 +297,7 @@ module _ (old new : Devices) where
     elsewhere = w.elsewhere;
   }
 
-  -- whatever the answer, nothing was written or a part of the output
+  -- whatever the answer, nothing was written, or a prefix of the output
   any_of : (c : Command) (a : Answer) → IsCauseOf old new c a → IsCauseOf old new c answer.NoMemory
   any_of c (answer.Written e) cause = inr (cut_off e c cause)
   any_of c answer.BadLine cause = absurd cause
@@ -336,14 +336,14 @@ module _ (old new : Devices) where
   no_memory_elsewhere c (inl untouched) = elsewhere_untouched (target_of c) untouched
   no_memory_elsewhere c (inr cut) = cut.elsewhere
 
-  -- where the command doesn't write, all is as it was
+  -- where the command does not write, all is unchanged
   pub kept_elsewhere : (command : Option Command) (a : Answer) → IsCause old new command a
       → IfSome command (λ c. Elsewhere old new (target_of c))
   kept_elsewhere None a cause = tt
   kept_elsewhere (Some c) a cause = no_memory_elsewhere c (any_of c a cause)
 
-  -- where the status is want of memory, a part of the line of an answer was said: that of want of memory, or of the
-  -- answer that it came in place of
+  -- if the status is NoMemory, a part of an answer's line was written: of its own line, or of the line of the answer
+  -- that it replaced
   pub part_said : (command : Option Command) (err err' : SinkState) (a : Answer) (s : Status) → IsCause old new command a
       → IsAnswered err err' a s → s ≡ status.NoMemory
       → (b : Answer) × IsCause old new command b × GrowsByPart err err' (line_for b)
@@ -357,7 +357,7 @@ module _ (old new : Devices) where
   part_said command err err' answer.WriteFault s cause (inl (e, told)) none = cc
   part_said command err err' answer.NoMemory s cause (inl (e, told)) none = (answer.NoMemory, cause, told.prefix)
 
-  -- where the sink counted a fault, the status is that of an answer, and a part of its line was said
+  -- if the sink counted a fault, the status is that of an answer, and a part of its line was written
   pub failed_said : (command : Option Command) (err err' : SinkState) (a : Answer) (s : Status) → IsCause old new command a
       → IsAnswered err err' a s → err.count < err'.count
       → (b : Answer) × IsCause old new command b × (s ≡ status_of b) × GrowsByPart err err' (line_for b)
@@ -370,7 +370,7 @@ module _ (old new : Devices) where
   failed_said command err err' answer.WriteFault s cause (inl (is, told)) risen = (answer.WriteFault, cause, is, told.prefix)
   failed_said command err err' answer.NoMemory s cause (inl (is, told)) risen = (answer.NoMemory, cause, is, told.prefix)
 
-  -- what was told is told of an answer whose cause holds
+  -- what was written to `err` belongs to an answer whose cause holds
   pub told_of : (command : Option Command) (err err' : SinkState) (a : Answer) (s : Status) → IsCause old new command a
       → IsToldOr err err' a s → (b : Answer) × IsCause old new command b × IsAnswered err err' b s
   told_of command err err' (answer.Refused r) s cause (inl told) = (answer.Refused r, cause, told)
@@ -381,7 +381,7 @@ module _ (old new : Devices) where
   told_of command err err' answer.WriteFault s cause told = (answer.WriteFault, cause, told)
   told_of command err err' answer.NoMemory s cause told = (answer.NoMemory, cause, told)
 
-  -- what was written, or a part of it, is not refused
+  -- a command with an output, whole or in part, is not refused
   not_refused : (c : Command) (input : Input) (r : Refusal) → IsRefused c input r → GetsPartOfOutput old new c input → ⊥
   not_refused c input r refused got =
       let made = got.1.1 in
@@ -391,7 +391,7 @@ module _ (old new : Devices) where
   held_reads name input told file held (inl rose) = omega arith
   held_reads name input told file held (inr absent) = let none = absent.1 told in cc
 
-  -- a fault of reading, where both files are there
+  -- a fault of reading, if both files exist
   file_faulted : (P : List ℕ → Type 0) (o : Option (List ℕ)) → IsSomeAnd o (ReadFaulted old.host new.host)
       → ((input : List ℕ) → (ReadsHeld old.host new.host → ⊥) → P input) → IfNamed old.host o P
   file_faulted P None faulted f = absurd faulted
@@ -420,7 +420,7 @@ module _ (old new : Devices) where
   held_writes ToOut held rose = omega arith
   held_writes (ToFile name) held rose = omega arith
 
-  -- an input that is refused gets its refusal's line
+  -- a refused input gets the line of its refusal
   abbrev RefusedAs : Command → SinkState → SinkState → Status → Input → Type 0
   RefusedAs c err err' s input =
       (r : Refusal) → IsRefused c input r → InputHeld old new c → AnswersWith s status.Refused (Says err err' (refused_line r))
@@ -454,7 +454,7 @@ module _ (old new : Devices) where
   refused_as None err err' a s cause told = tt
   refused_as (Some c) err err' a s cause told = refused_by c err err' a s cause told
 
-  -- an input of which the command makes something has it written whole
+  -- the output for an input is written whole
   abbrev WrittenAs : Command → Status → Input → Type 0
   WrittenAs c s input =
       (sched : List Plan) → HasOutput c input sched → InputHeld old new c → WritesHeld old new (target_of c) → AnswersWhole old new s c input
@@ -486,7 +486,7 @@ module _ (old new : Devices) where
   written_whole None err err' a s cause told = tt
   written_whole (Some c) err err' a s cause told = written_by c err err' a s cause told
 
-  -- a run that is printed with these costs, of a schedule and costs that are no others
+  -- a printed run with these costs, if the schedule and the costs are unique
   run_seen : (how : RunView) (costs : Option CostModel) (k : CostModel) (sched : List Plan) (output : List ℕ) (e : Ending) → costs ≡ Some k
       → IsShownAs (view.Run how) costs sched output e → IsRunShown how k sched output e
   run_seen how costs k sched output e is shown = subst (λ (o : Option CostModel). IsShownAs (view.Run how) o sched output e) is shown
@@ -504,7 +504,7 @@ module _ (old new : Devices) where
         got,
       )
 
-  -- the printed run of what the input says
+  -- the printed run of the input
   printed_run : (p : Numbers) (name : List ℕ) (input : Input) (sched : List Plan) (s : Status) → HasRun p input.schedule sched
       → AnswersWhole old new s (Sim name p) input → PrintsRun s old.out new.out (log_gops p) sched
   printed_run p name input sched s has (inr e) = inr e
@@ -557,7 +557,8 @@ module _ (old new : Devices) where
       printed_on name machine m (input_with schedule text) sched s has
       (written_by (Nodes name machine) err err' a s (rw is at cause) told tells schedule file tells_too text other sched had (reads, reads) writes)
 
-  -- the counts of reading rose at a fault of reading alone, those of writing at a fault of writing, but for want of memory
+  -- the counts of reading rose only at a fault of reading, and those of writing only at a fault of writing, or at
+  -- NoMemory
   reads_kept_by : (c : Command) (a : Answer) → IsCauseOf old new c a
       → SameReadCounts old.host new.host ⊎ (a ≡ answer.ReadFault) ⊎ (a ≡ answer.NoMemory)
   reads_kept_by c (answer.Written e) cause = inl cause.reads
@@ -598,7 +599,7 @@ module _ (old new : Devices) where
   writes_kept None a cause = inl (same_counts (any_of_none a cause).1)
   writes_kept (Some c) a cause = writes_kept_by c a cause
 
-  -- the status of an answer is its own, or that of want of memory
+  -- the status of an answer is its own, or NoMemory
   at_status : (err err' : SinkState) (a b : Answer) (s : Status) → IsAnswered err err' a s → (a ≡ b) ⊎ (a ≡ answer.NoMemory) → Answers s (status_of b)
   at_status err err' a b s (inr (e, part)) is = inr e
   at_status err err' a b s (inl (e, told)) (inl is) = inl (rw is at e)
@@ -640,7 +641,7 @@ module _ (old new : Devices) where
   no_file P None name is tells none got = cc
   no_file P (Some n) name is tells none got = let k = (got tells).1 in cc
 
-  -- where the input was got, so was what is got besides
+  -- if the input was read, so was the rest
   of_each : (P : List ℕ → Type 0) (o : Option (List ℕ)) → old.host.tells ≡ true → ForNamed old.host o P → (input : List ℕ) × P input
   of_each P None tells got = ([], got)
   of_each P (Some name) tells got = let k = got tells in (k.0, k.2)
@@ -685,7 +686,7 @@ module _ (old new : Devices) where
   absent_machine None err err' a s cause told = tt
   absent_machine (Some c) err err' a s cause told = absent_of c (machine_of c) err err' a s (λ name is. inr is) cause told
 
-  -- the refusal that was told
+  -- the refusal that was written
   pub told_refusal : (command : Option Command) (err err' : SinkState) (a : Answer) (s : Status) → IsCause old new command a
       → IsAnswered err err' a s → s ≡ status.Refused
       → (r : Refusal) × ForInput command old.host (λ c input. IsRefused c input r) × Says err err' (refused_line r)
@@ -863,7 +864,7 @@ module _ (old new : Devices) where
   only_certify command err err' a s cause told is =
       only_written command (not_certified command err err' a s cause told is)
 
--- the line of a status was said
+-- the line of a status was written
 pub line_said : (err err' : SinkState) (a : Answer) (s : Status) → IsAnswered err err' a s
     → IfSome (line_at s) (λ line. Says err err' line)
 line_said err err' a s (inr (e, part)) = rw e tt
@@ -876,7 +877,7 @@ line_said err err' answer.ReadFault s (inl (e, told)) = rw e told
 line_said err err' answer.WriteFault s (inl (e, told)) = rw e told
 line_said err err' answer.NoMemory s (inl (e, told)) = rw e tt
 
--- nothing was said
+-- nothing was written to `err`
 pub nothing_at : (a : Answer) (s : Status) (err err' : SinkState) → IsAnswered err err' a s → (s ≡ status.Done) ⊎ (s ≡ status.Stuck) ⊎ (s ≡ status.NotCertified)
     → err' ≡ err
 nothing_at a s err err' (inr (e, part)) (inl is) = cc

@@ -1,4 +1,4 @@
--- What is written is a function of the schedule and the parameters.
+-- The output is a function of the schedule and the parameters.
 use Rattle.std.proofs.Common.{◌≡◌, ℕ, ◌<◌, List, length, Option, Some, None, inl, inr, sym, ap, ◌∙◌, subst}
 use Rattle.std.specs.declared.result.Result.TheVariants.{Ok}
 use Rattle.goal_graph.specs.Schedule.{Plan}
@@ -21,7 +21,7 @@ use Rattle.goal_cli.specs.Laws.{IsSameMachine, SaysSame}
 use Rattle.goal_input.proofs.ForCallers.{same_schedule}
 use Rattle.goal_cli.proofs.RefusalLemmas.{one_machine, same_source}
 
--- the costs that two texts of one machine say
+-- the costs of two texts with the same machine
 same_costing : (p : Pricing) (text again : List ℕ) (sched : List Plan) (k j : Option CostModel) → SaysSame p text again
     → IsCosted p text sched k → IsCosted p again sched j → k ≡ j
 same_costing (ByNumbers numbers) text again sched k j same a b = a ∙ sym b
@@ -66,13 +66,13 @@ module _ (excludes : FaultExcludesCertified) (single : OneFirstFault) where
       (subst (λ (k : Option CostModel). IsShownAs c.view k b.sched one e) costs (subst (λ (ps : List Plan). IsShownAs c.view a.has.costs ps one e) plans a.shown))
       b.shown
 
--- what is written of a schedule as a compiled file says the schedule
+-- the compiled file of a schedule means the schedule
 pub compiled_again : (name out : List ℕ) (input : Input) (output : List ℕ) (e : Ending) (sched : List Plan) → IsReadAs input.schedule sched
     → IsOutput (Compile name out) input output e → IsReadAs output sched
 compiled_again name out input output e sched read is =
     subst (λ (ps : List Plan). IsReadAs output ps) (same_schedule input.schedule is.sched sched is.has.from read) is.shown.0.again
 
--- on a machine whose classes are alike what `sim` writes is written
+-- on a machine whose classes are alike the output is that of `sim`
 module _ (whole : SaidIsWhole) (alike : AlikeIsLogGops) where
   alike_costs : (text : List ℕ) (k m : Known) (p : Numbers) → form.machine text ≡ Ok k → form.machine text ≡ Ok m
       → ((class : ℕ) → class < length m.classes → numbers_of m class ≡ p) → costs_of k ≡ log_gops p

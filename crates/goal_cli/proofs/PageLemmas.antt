@@ -10,7 +10,7 @@ use Rattle.goal_cli.specs.Answer.{GrowsByPart}
 pub grows_none : (a : SinkState) → Grows a a []
 grows_none a = record { told = λ t. sym (append-nil a.bytes) }
 
--- some bytes of what is made go to a page
+-- some of the bytes that are made go to a page
 pub moved : (page xs rest : List ℕ) (done count : ℕ)
     → page ++ (drop done xs ++ rest) ≡ (page ++ take count (drop done xs)) ++ (drop (done + count) xs ++ rest)
 moved page xs rest done count =
@@ -33,7 +33,7 @@ grows_then a b c xs ys first same more = record {
   told = λ t. more.told (same ∙ t) ∙ ap (λ (l : List ℕ). l ++ ys) (first.told t) ∙ append_assoc a.bytes xs ys;
 }
 
--- what was written is a part of what goes on from there
+-- what was written is a prefix of the whole, with what follows
 pub part_of : (a b : SinkState) (xs ys : List ℕ) → Grows a b xs → GrowsByPart a b (xs ++ ys)
 part_of a b xs ys all = (length xs, subst (Grows a b) (sym (take-append_seam xs ys)) all)
 
@@ -51,7 +51,7 @@ part_then a b c xs ys first same part =
     subst (GrowsByPart a c) (append_assoc xs (take n ys) (drop n ys) ∙ ap (λ (l : List ℕ). xs ++ l) (take-append-drop n ys))
     (part_of a c (xs ++ take n ys) (drop n ys) (grows_then a b c xs (take n ys) first same part.1))
 
--- what is so at an error
+-- what holds at an error
 pub on_error : {A E : Type 0} (r : Result A E) (P Q : Type 0) → (P → Q) → OnErr r P → OnErr r Q
 on_error (Ok a) P Q f h = tt
 on_error (Err e) P Q f h = f h

@@ -1,5 +1,5 @@
--- A command has at most one refusal for an input, and none where it makes something of it. What is so of a source, and of costs, is
--- shown once for each.
+-- A command has at most one refusal for an input, and none if it has an output for it. Facts on sources and on costs
+-- are shown separately.
 use Rattle.std.proofs.Common.{◌≡◌, ◌≢◌, ℕ, ◌<◌, ◌≤◌, ◌^◌, ◌⊎◌, true, List, length, Option, Some, is_some, IfSome, Result, inl, inr, refl, sym, ap, ◌∙◌, subst, arith}
 use Rattle.std.specs.declared.result.Result.TheVariants.{Ok, Err}
 use Rattle.goal_limits.specs.declared.limits.TheConstants.{MAX_INPUT}
@@ -25,19 +25,19 @@ use Rattle.goal_input.specs.Input.{IsReadAs}
 use Rattle.goal_cli.specs.Output.{Input, named_by, machine_named, HasInput, HasMachine, IsFrom, IsMachineFor, IsCosted, HasOutput, IsOverBudget, IsNotMade, IsNotFrom, IsMachineFault, IsForOtherRanks, IsTooLong, IsRefused}
 use Rattle.goal_input.proofs.ForCallers.{same_schedule, same_text_fault, same_file_fault, not_both, no_text_fault, no_file_fault}
 
--- a text says one machine
+-- a text has at most one machine
 pub one_machine : (text : List ℕ) (k m : Known) → form.machine text ≡ Ok k → form.machine text ≡ Ok m → k ≡ m
 one_machine text k m a b = let e : ◌≡◌ {A = Result Known MachineFault} (Ok k) (Ok m) = sym a ∙ b in cc
 
 no_machine : (text : List ℕ) (m : Known) (f : MachineFault) → form.machine text ≡ Ok m → form.machine text ≡ Err f → ⊥
 no_machine text m f a b = let e : ◌≡◌ {A = Result Known MachineFault} (Ok m) (Err f) = sym a ∙ b in cc
 
--- there are not both enough ranks and too many
+-- the number of ranks is not both within the limit and above it
 too_many : (what : Collective) (ranks : ℕ) → (ranks ≡ 0) ⊎ (most_ranks what < ranks) → AreRanksWithin what ranks → ⊥
 too_many what ranks (inl none) within = let h = within.some_rank in omega arith
 too_many what ranks (inr many) within = let h = within.few_ranks in omega arith
 
--- a collective has no schedule for one reason
+-- a collective has no schedule for at most one reason
 same_reason : (what : Collective) (ranks : ℕ) (f g : GenFault) → IsNotMade what ranks f → IsNotMade what ranks g → f ≡ g
 same_reason what ranks gen.NoMemory g a b = absurd (a.told refl)
 same_reason what ranks f gen.NoMemory a b = absurd (b.told refl)
@@ -51,7 +51,7 @@ same_reason what ranks gen.NotPowerOfTwo (gen.Ranks m) a b = absurd (too_many wh
 same_reason what ranks gen.NotPowerOfTwo gen.Root a b = absurd (b.first.1 a.first.1)
 same_reason what ranks gen.NotPowerOfTwo gen.NotPowerOfTwo a b = refl
 
--- a collective that has a schedule has no reason for none
+-- a collective with a schedule has no reason for having none
 no_reason : (what : Collective) (ranks : ℕ) (f : GenFault) → IsPossible what ranks → IsNotMade what ranks f → ⊥
 no_reason what ranks (gen.Ranks l) a b = too_many what ranks b.first.1 (record { some_rank = a.some_rank; few_ranks = a.few_ranks })
 no_reason what ranks gen.Root a b = b.first.1 a.root
@@ -64,13 +64,13 @@ source_read (source.File name) text sched a has = a
 source_read (source.Made what ranks bytes) text sched a has = cc
 source_read (source.Drawn rounds seed) text sched a has = cc
 
--- it is one schedule
+-- it is unique
 one_schedule : (from : Source) (text : List ℕ) (sched other : List Plan) → IsFrom from text sched → IsFrom from text other → sched ≡ other
 one_schedule (source.File name) text sched other a b = same_schedule text sched other a b
 one_schedule (source.Made what ranks bytes) text sched other a b = a.made ∙ sym b.made
 one_schedule (source.Drawn rounds seed) text sched other a b = a ∙ sym b
 
--- it is what two texts say that say one schedule
+-- it is the same for two texts that mean one schedule
 pub same_source : (from : Source) (text again : List ℕ) (said sched other : List Plan) → IsReadAs text said → IsReadAs again said
     → IsFrom from text sched → IsFrom from again other → sched ≡ other
 same_source (source.File name) text again said sched other r s a b = same_schedule text sched said a r ∙ sym (same_schedule again other said b s)
@@ -93,14 +93,14 @@ one_reason (source.File name) f g a b = absurd a
 one_reason (source.Made what ranks bytes) f g a b = same_reason what ranks f g a b
 one_reason (source.Drawn rounds seed) f g a b = absurd a
 
--- THE COSTS: a machine that is asked for fits the schedule
+-- THE COSTS: a machine that is used fits the schedule
 costs_machine : (p : Pricing) (text : List ℕ) (sched : List Plan) (costs : Option CostModel) → IsCosted p text sched costs
     → is_some (machine_named p) ≡ true → (m : Known) × IsMachineFor text sched m
 costs_machine (ByNumbers numbers) text sched costs a has = cc
 costs_machine (ByMachine name) text sched costs a has = (a.0, a.1)
 costs_machine Unpriced text sched costs a has = cc
 
--- they are one
+-- they are unique
 one_costing : (p : Pricing) (text : List ℕ) (sched : List Plan) (k j : Option CostModel) → IsCosted p text sched k → IsCosted p text sched j → k ≡ j
 one_costing (ByNumbers numbers) text sched k j a b = a ∙ sym b
 one_costing (ByMachine name) text sched k j a b =
@@ -139,7 +139,7 @@ short_files : (c : Command) (input : Input) → IsTooLong c input → (HasInput 
 short_files c input (inl long) first second = let h = first long.0 in let k = long.1 in omega arith
 short_files c input (inr long) first second = let h = second long.0 in let k = long.1 in omega arith
 
--- what is refused for another reason is not too long
+-- an input that is refused for another reason is not too long
 not_long : (c : Command) (input : Input) (r : Refusal) → (r ≢ TooLong) → IsRefused c input r → IsTooLong c input → ⊥
 not_long c input TooLong other a long = other refl
 not_long c input (Text f) other a long = short_files c input long (λ _. a.2.short) (λ _. a.1)
@@ -153,7 +153,7 @@ not_long c input (Budget s) other a long =
     short_files c input long (λ has. (source_read c.source input.schedule a.sched a.from has).short)
     (λ has. (costs_machine c.costs input.machine a.sched (Some a.costs) a.costed has).1.short)
 
--- a reason that comes after there is a schedule
+-- a reason that comes after the schedule
 abbrev IsLater : Refusal → Type 0
 IsLater (Machine f) = Unit {0}
 IsLater (MachineRanks p) = Unit {0}
@@ -261,7 +261,7 @@ same_refusal c input (Budget s) (MachineRanks q) a b = absurd (ranks_budget c in
 same_refusal c input (Budget s) (Generator g) a b = absurd (made_later c input g (Budget s) tt b a)
 same_refusal c input (Budget s) (Budget t) a b = let same = same_budget c input s t a b in cc
 
--- an input of which the command makes something is not refused
+-- an input for which there is an output is not refused
 pub no_refusal : (c : Command) (input : Input) (sched : List Plan) (r : Refusal) → HasOutput c input sched → IsRefused c input r → ⊥
 no_refusal c input sched TooLong a b =
     short_files c input b (λ has. (source_read c.source input.schedule sched a.from has).short)

@@ -18,7 +18,7 @@ use Rattle.goal_cli.specs.Output.{Input, IsCosted, IsShownAs, IsOutput, EndsAs}
 use Rattle.goal_cli.specs.Unmade.{IsGathered}
 use Rattle.goal_cli.specs.Stop.{IsStop, IsPaidRun, IsUnpaid}
 
--- what is so at an error, and what is so else
+-- what holds at an error, and what holds otherwise
 pub if_err : {A E : Type 0} (r : Result A E) (P Q : E → Type 0) → ((e : E) → P e → Q e) → IfErr r P → IfErr r Q
 if_err (Ok a) P Q f h = tt
 if_err (Err e) P Q f h = f e h
@@ -85,13 +85,13 @@ pub run_ends : (v : View) (p : Pricing) (how : RunView) (text : List ℕ) (sched
 run_ends v p how text sched output e is paid =
     subst (λ (w : View). EndsAs w e) (sym is) (paid.shown.stuck, paid.shown.ends)
 
--- what is not run has no costs
+-- a view without a run has no costs
 unpriced : (p : Pricing) (v : View) → PricedFor p v → (IsRun v → ⊥) → p ≡ Unpriced
 unpriced (ByNumbers numbers) v priced not_run = absurd (not_run priced)
 unpriced (ByMachine name) v priced not_run = absurd (not_run priced)
 unpriced Unpriced v priced not_run = refl
 
--- a schedule that is shown as it is
+-- a schedule that is shown without a run
 pub is_still_output : (c : Command) (input : Input) (sched : List Plan) (text output : List ℕ) (e : Ending) → PricedFor c.costs c.view
     → (IsRun c.view → ⊥) → IsGathered c sched text input → ((costs : Option CostModel) → IsShownAs c.view costs sched output e)
     → IsOutput c input output e

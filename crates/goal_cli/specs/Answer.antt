@@ -1,4 +1,4 @@
--- What each answer of `goal` says of the call, and what `err` gets.
+-- What each answer of `goal` says about the call, and what `err` gets.
 use Rattle.std.specs.Prelude.{ℕ, ◌+◌, ◌≡◌, ◌⊎◌, Bool, true, false, List, [], ◌++◌, take, Option, Some, None, IsSomeAnd, IfSome, codes}
 use Rattle.goal_base.specs.Text.{line_feed}
 use Rattle.goal_limits.specs.Limits.{input_limit}
@@ -20,17 +20,17 @@ use Rattle.goal_cli.specs.Output.{input_of, machine_of, Input, input_with, endin
 use Rattle.goal_cli.specs.Refusal.{refused_line}
 use Rattle.goal_cli.specs.World.{Devices, World, but_err}
 
--- the name of the input of words; None where they are no command, or one without an input
+-- the name of the command's input; None if the words are no command, or one without an input
 abbrev pub input_in : Option Command → Option (List ℕ)
 input_in None = None
 input_in (Some c) = input_of c
 
--- the same of the machine
+-- the name of its machine, likewise
 abbrev pub machine_in : Option Command → Option (List ℕ)
 machine_in None = None
 machine_in (Some c) = machine_of c
 
--- P holds of the bytes of the file of that name, where the host tells its files and it is there, and of no bytes where there is no name
+-- P holds of the bytes of that file, which exists if the contents of the host are known; without a name, of no bytes
 abbrev pub ForNamed : HostState → Option (List ℕ) → (List ℕ → Type 0) → Type 0
 ForNamed host None P = P []
 ForNamed host (Some name) P = ForFile host name P
@@ -39,7 +39,7 @@ abbrev pub IfNamed : HostState → Option (List ℕ) → (List ℕ → Type 0) �
 IfNamed host None P = P []
 IfNamed host (Some name) P = IfFile host name P
 
--- the same of what a command reads
+-- the same for all that a command reads
 abbrev pub ForRead : HostState → Command → (Input → Type 0) → Type 0
 ForRead host c P =
     ForNamed host (input_of c) (λ schedule. ForNamed host (machine_of c) (λ machine. P (input_with schedule machine)))
@@ -51,25 +51,25 @@ IfRead host c P =
 abbrev pub IfInput : Option Command → HostState → (Command → Input → Type 0) → Type 0
 IfInput command host P = IfSome command (λ c. IfRead host c (P c))
 
--- a count of reading rose, for one of the files of a command
+-- a count of reading rose for one of the files of a command
 abbrev pub ReadsFaulted : HostState → HostState → Command → Type 0
 ReadsFaulted old new c = IsSomeAnd (input_of c) (ReadFaulted old new) ⊎ IsSomeAnd (machine_of c) (ReadFaulted old new)
 
--- Where the host tells its files, that of this name was read to its end, or has more bytes than an input may have. Without a name
--- nothing is asked.
+-- Where the contents of the host are known, the file was read to its end, or has more bytes than an input may have.
+-- Without a name there is no condition.
 abbrev pub IsReadOut : HostState → HostState → Option (List ℕ) → Type 0
 IsReadOut old new None = Unit {0}
 IsReadOut old new (Some name) = old.tells ≡ true → (new.rest ≡ []) ⊎ IsTooLong old name
 
--- the sink got a prefix of these bytes
+-- a prefix of these bytes was appended to the sink
 abbrev pub GrowsByPart : SinkState → SinkState → List ℕ → Type 0
 GrowsByPart old new bytes = (n : ℕ) × Grows old new (take n bytes)
 
--- the count of faults of reading didn't rise, and doesn't stand where it stops
+-- the count of reading faults did not rise, and is not where it stops
 abbrev pub ReadsHeld : HostState → HostState → Type 0
 ReadsHeld old new = Held old.stops old.read_count new.read_count
 
--- the status of an output that was written whole
+-- the status after an output was written whole
 abbrev pub status_at : Ending → Status
 status_at ending.Done = status.Done
 status_at ending.Stuck = status.Stuck
@@ -89,24 +89,24 @@ goes_to (view.Verdict what) = ToOut
 abbrev pub target_of : Command → Target
 target_of c = goes_to c.view
 
--- The devices are given before and after the call.
+-- `old` and `new` are the devices before and after the call.
 module _ (old new : Devices) where
   -- these bytes were written whole
   abbrev pub Gets : Target → List ℕ → Type 0
   Gets ToOut bytes = Grows old.out new.out bytes
   Gets (ToFile name) bytes = Holds old.host new.host name bytes
 
-  -- nothing of them was written, or a prefix
+  -- none of them was written, or a prefix
   abbrev pub GetsPart : Target → List ℕ → Type 0
   GetsPart ToOut bytes = GrowsByPart old.out new.out bytes
   GetsPart (ToFile name) bytes = HoldsPart old.host new.host name bytes
 
-  -- where the command doesn't write, all is as it was
+  -- the other device, to which the command does not write, is unchanged
   abbrev pub Elsewhere : Target → Type 0
   Elsewhere ToOut = KeepsFiles old.host new.host
   Elsewhere (ToFile name) = new.out ≡ old.out
 
-  -- the count of faults of writing rose; it didn't, and doesn't stand where it stops
+  -- the count of writing faults rose; or it did not rise, and is not where it stops
   abbrev pub WritesRose : Target → Type 0
   WritesRose ToOut = Rose old.out.stops old.out.count new.out.count
   WritesRose (ToFile name) = Rose old.host.stops old.host.write_count new.host.write_count
@@ -115,24 +115,24 @@ module _ (old new : Devices) where
   WritesHeld ToOut = Held old.out.stops old.out.count new.out.count
   WritesHeld (ToFile name) = Held old.host.stops old.host.write_count new.host.write_count
 
-  -- the count is as it was, and no file is left open to be written
+  -- the count is unchanged, and no file is left open for writing
   abbrev pub WritesSame : Target → Type 0
   WritesSame ToOut = new.out.count ≡ old.out.count
   WritesSame (ToFile name) = (new.host.write_count ≡ old.host.write_count) × (new.host.writing ≡ false)
 
-  -- where the command reads a file, the count of faults of reading didn't rise
+  -- if the command reads a file, the count of reading faults did not rise
   abbrev pub InputHeld : Command → Type 0
   InputHeld c =
       IfSome (input_of c) (λ name. ReadsHeld old.host new.host) × IfSome (machine_of c) (λ name. ReadsHeld old.host new.host)
 
-  -- what the command makes of the input was written, whole or in part
+  -- the command's output for this input was written, whole or in part
   abbrev pub GetsOutput : Ending → Command → Input → Type 0
   GetsOutput e c input = (output : List ℕ) × IsOutput c input output e × Gets (target_of c) output
 
   abbrev pub GetsPartOfOutput : Command → Input → Type 0
   GetsPartOfOutput c input = (output : List ℕ) × ((e : Ending) × IsOutput c input output e) × GetsPart (target_of c) output
 
-  -- what the command makes of the input was written whole, at its status, or want of memory is answered
+  -- the command's output for this input was written whole, with its status, or the answer is NoMemory
   abbrev pub AnswersWhole : Status → Command → Input → Type 0
   AnswersWhole result c input =
       ((e : Ending) × (result ≡ status_at e) × GetsOutput e c input) ⊎ (result ≡ status.NoMemory)
@@ -142,7 +142,7 @@ module _ (old new : Devices) where
     pub files : KeepsFiles old.host new.host
     pub sink : new.out ≡ old.out
 
-  -- what is so after an output was written whole
+  -- the facts after an output was written whole
   pub record IsWritten (e : Ending) (c : Command) : Type 0 where
     pub output : ForRead old.host c (GetsOutput e c)
     pub ends : MayEnd c e
@@ -150,14 +150,14 @@ module _ (old new : Devices) where
     pub writes : WritesSame (target_of c)
     pub elsewhere : Elsewhere (target_of c)
 
-  -- what is so after it was cut off
+  -- the facts after it was cut off
   pub record IsCutOff (c : Command) : Type 0 where
     pub output : ForRead old.host c (GetsPartOfOutput c)
     pub reads : SameReadCounts old.host new.host
     pub elsewhere : Elsewhere (target_of c)
 
-  -- The table of causes: what is so where a command leads to an answer. A command with a machine refuses nothing before that is read
-  -- to its end, also where its other file is too long.
+  -- The table of causes: what holds if a command leads to an answer. A command with a machine reads it to its end
+  -- before it refuses anything, even if its other file is too long.
   abbrev pub IsCauseOf : Command → Answer → Type 0
   IsCauseOf c (answer.Written e) = IsWritten e c
   IsCauseOf c answer.BadLine = ⊥
@@ -168,7 +168,7 @@ module _ (old new : Devices) where
   IsCauseOf c answer.WriteFault = IsCutOff c × WritesRose (target_of c)
   IsCauseOf c answer.NoMemory = IsUntouched ⊎ IsCutOff c
 
-  -- and where words do that are no command
+  -- the same for words that are no command
   abbrev pub IsCauseOfNone : Answer → Type 0
   IsCauseOfNone answer.BadLine = SameReadCounts old.host new.host × IsUntouched
   IsCauseOfNone answer.NoMemory = SameReadCounts old.host new.host × IsUntouched
@@ -178,7 +178,7 @@ module _ (old new : Devices) where
   IsCause None a = IsCauseOfNone a
   IsCause (Some c) a = IsCauseOf c a
 
--- the lines to `err` of the answers; none for an output that was written whole
+-- the lines that the answers write to `err`; none if an output was written whole
 abbrev pub line_for : Answer → List ℕ
 line_for (answer.Written e) = []
 line_for answer.BadLine = codes "goal: the words are not a command line of goal" ++ line_feed
@@ -195,46 +195,46 @@ status_of answer.ReadFault = status.ReadFault
 status_of answer.WriteFault = status.WriteFault
 status_of answer.NoMemory = status.NoMemory
 
--- this status is answered and P holds, or want of memory is answered in its place
+-- the result is this status and P holds, or the result is NoMemory
 abbrev pub AnswersWith : Status → Status → Type 0 → Type 0
 AnswersWith result s P = ((result ≡ s) × P) ⊎ (result ≡ status.NoMemory)
 
--- `out` got the printed run of the schedule, and the status is Stuck where an operation has no end in it and Done
--- otherwise; or want of memory is answered
+-- `out` got the printed run of the schedule, and the status is Stuck if an operation has no end in it, and Done
+-- otherwise; or the result is NoMemory
 abbrev pub PrintsRun : Status → SinkState → SinkState → CostModel → List Plan → Type 0
 PrintsRun result out out' costs sched =
     ((output : List ℕ) × ((stuck : Bool) × IsPrintedRun costs sched output stuck × (result ≡ status_at (ending_if stuck))) × Grows out out' output)
     ⊎ (result ≡ status.NoMemory)
 
--- A sink got the line, or a prefix of it; and where its count of faults didn't rise, the whole line.
+-- The sink got the line or a prefix of it, and the whole line if its count of faults did not rise.
 pub record Says (old new : SinkState) (line : List ℕ) : Type 0 where
   pub prefix : GrowsByPart old new line
   pub whole : Held old.stops old.count new.count → Grows old new line
 
--- a sink got the line of an answer; nothing for an output that was written whole
+-- the sink got the line of the answer; none if an output was written whole
 abbrev pub IsTold : SinkState → SinkState → Answer → Type 0
 IsTold old new (answer.Written e) = new ≡ old
 IsTold old new a = Says old new (line_for a)
 
--- want of memory cut the line off: the sink got a prefix of it, and counted no fault
+-- memory ran out during the line: the sink got a prefix of it, and counted no fault
 abbrev pub IsCutShort : SinkState → SinkState → List ℕ → Type 0
 IsCutShort old new line = GrowsByPart old new line × (new.count ≡ old.count)
 
--- The status is that of the answer, and the sink got its line: a fault that the sink counts cuts the line off, and never changes
--- the status. Or it is the sink's own want of memory, which cut that line off, and then the sink counted no fault.
+-- The status is that of the answer, and the sink got its line; a fault that the sink counts cuts the line off, and
+-- never changes the status. Or the sink itself ran out of memory during the line, and counted no fault.
 abbrev pub IsAnswered : SinkState → SinkState → Answer → Status → Type 0
 IsAnswered old new a s = ((s ≡ status_of a) × IsTold old new a) ⊎ ((s ≡ status.NoMemory) × IsCutShort old new (line_for a))
 
--- There is an answer whose cause holds, and the status and what `err` got are that answer's.
+-- There is an answer whose cause holds, and the status and what `err` got are those of that answer.
 pub record Answered (command : Option Command) (old new : World) (result : Status) : Type 0 where
   pub answer : Answer
   pub cause : IsCause (but_err old) (but_err new) command answer
   pub told : IsAnswered old.err new.err answer result
 
--- Of a file that a command reads at most a byte more than an input may have is taken. The host has one open input: it is as it
--- was, or what is left of the file that was opened last. So where a machine is open, this says nothing of what was taken of the
--- schedule's file before; `read_schedule` says it of its own call. Without a file nothing is asked of what can be read: the input
--- that was open is as it was, and nothing was counted.
+-- At most 2^27+1 bytes of a file that a command reads are taken. The host has one open input, which is unchanged or is
+-- the rest of the file opened last. So if a machine was opened, this does not say how much of the schedule's file was
+-- read before; `read_schedule` says it of its own call. Without a file, the open input and the counts of reading are
+-- unchanged.
 abbrev pub IsTakenOf : Option (List ℕ) → Option (List ℕ) → HostState → HostState → Type 0
 IsTakenOf None None old new = KeepsReading old new
 IsTakenOf None (Some name) old new = SameRest old new ⊎ ReadsAtMost old new name (input_limit + 1)

@@ -1,4 +1,4 @@
--- The words of the laws of answers and outputs.
+-- The notions of the laws of answers and outputs.
 use Rattle.std.specs.Prelude.{ℕ, ◌≡◌, List, ◌⊎◌, Option, Some, None, IsSomeAnd}
 use Rattle.goal_words.specs.declared.sentence.View.{View}
 use Rattle.goal_words.specs.Words.{Command, Pricing, ByNumbers, ByMachine, Unpriced}
@@ -11,7 +11,7 @@ use Rattle.goal_cli.specs.Answer.{ForRead, line_for}
 use Rattle.goal_cli.specs.declared.answer.Answer.TheVariants as answer
 use Rattle.goal_cli.specs.declared.answer.Status.TheVariants as status
 
--- it is a verdict that is asked for, of some collective
+-- the view is a verdict, for some collective
 abbrev pub IsVerdict : View → Type 0
 IsVerdict (view.Run how) = ⊥
 IsVerdict view.Text = ⊥
@@ -21,7 +21,7 @@ IsVerdict (view.Verdict what) = Unit {0}
 abbrev pub IsCertify : Command → Type 0
 IsCertify c = IsVerdict c.view
 
--- where there is a machine, two texts say the same one, or have the same fault
+-- if there is a machine, the two texts describe the same one, or have the same fault
 abbrev pub SaysSame : Pricing → List ℕ → List ℕ → Type 0
 SaysSame (ByNumbers numbers) one other = Unit {0}
 SaysSame (ByMachine name) one other = form.machine one ≡ form.machine other
@@ -30,19 +30,19 @@ SaysSame Unpriced one other = Unit {0}
 abbrev pub IsSameMachine : Command → Input → Input → Type 0
 IsSameMachine c input again = SaysSame c.costs input.machine again.machine
 
--- the same of what the command reads that the words are
+-- the same for what the command of the words reads
 abbrev pub ForInput : Option Command → HostState → (Command → Input → Type 0) → Type 0
 ForInput command host P = IsSomeAnd command (λ c. ForRead host c (P c))
 
--- this status is answered, or want of memory in its place
+-- the result is this status, or NoMemory
 abbrev pub Answers : Status → Status → Type 0
 Answers result s = (result ≡ s) ⊎ (result ≡ status.NoMemory)
 
--- the statuses at which nothing is written
+-- the statuses with which nothing is written
 abbrev pub IsSilent : Status → Type 0
 IsSilent s = (s ≡ status.BadLine) ⊎ (s ≡ status.ReadFault) ⊎ (s ≡ status.Refused)
 
--- The lines to `err` of the statuses at which it gets one line whole; that of Refused has the refusal's words besides.
+-- The lines to `err` of statuses that always write one fixed line; that of Refused also has the refusal's words.
 abbrev pub line_at : Status → Option (List ℕ)
 line_at status.BadLine = Some (line_for answer.BadLine)
 line_at status.ReadFault = Some (line_for answer.ReadFault)

@@ -1,4 +1,4 @@
--- The words of refusals.
+-- The messages of refusals.
 use Rattle.std.specs.Prelude.{ℕ, List, [], ◌++◌, codes, decimal}
 use Rattle.goal_base.specs.Text.{line_feed, pair_text}
 use Rattle.goal_graph.specs.declared.fault.PlanFault.{PlanFault}
@@ -18,8 +18,8 @@ use Rattle.goal_cli.specs.declared.answer.Refusal.TheVariants as refusal
 abbrev pub at_text : List ℕ → ℕ → List ℕ
 at_text words at = words ++ decimal at
 
--- The first rule that plans break. What is read, as a text or as a compiled file, keeps the limits of counts and values:
--- `read_text` and `decode` never answer these two, and so they have no words, as want of memory has none.
+-- The first rule that plans break. What is read of a text or a compiled file is within the limits of counts and values:
+-- `read_text` and `decode` never return these two faults. So they have no words; neither has NoMemory.
 abbrev pub plan_words : PlanFault → List ℕ
 plan_words (plan.Count found limit) = []
 plan_words (plan.Value rank op) = []

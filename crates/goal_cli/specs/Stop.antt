@@ -1,4 +1,4 @@
--- Why a command writes nothing, while its output is made.
+-- Why a command has no output.
 use Rattle.std.specs.Prelude.{ℕ, ◌≡◌, ◌≢◌, ◌<◌, ◌≤◌, ◌^◌, List, length, true, is_some, Some, Ok, Err}
 use Rattle.goal_graph.specs.Schedule.{Plan}
 use Rattle.sim_params.specs.Costs.{CostModel}
@@ -16,24 +16,24 @@ use Rattle.goal_cli.specs.declared.output.Stop.{Stop}
 use Rattle.goal_cli.specs.declared.output.Stop.TheVariants.{Refused, NoMemory}
 use Rattle.goal_cli.specs.Output.{machine_named, Input, IsCosted, IsRunShown, IsRefused}
 
--- a command writes nothing for this reason; want of memory is free
+-- a command has no output for this reason; it may always be out of memory
 abbrev pub IsStop : Command → Input → Stop → Type 0
 IsStop c input (Refused refusal) = IsRefused c input refusal
 IsStop c input NoMemory = Unit {0}
 
--- why a command writes nothing where its engine is not made
+-- why a command has no output if its engine is not built
 abbrev pub stop_of : EngineFault → Stop
 stop_of (faults.Budget sum) = Refused (refusal.Budget sum)
 stop_of faults.NoMemory = NoMemory
 
--- the run of a schedule is shown, with the costs that its machine of this text has, or its parameters
+-- the run of a schedule is shown, with the costs of its parameters or of the machine in this text
 pub record IsPaidRun (p : Pricing) (how : RunView) (text : List ℕ) (sched : List Plan) (output : List ℕ) (e : Ending) : Type 0 where
   pub costs : CostModel
   pub costed : IsCosted p text sched (Some costs)
   pub fits : budget sched costs < 2 ^ 63
   pub shown : IsRunShown how costs sched output e
 
--- or it is not, for this reason; want of memory is free
+-- or it is not, for this reason; it may always be out of memory
 abbrev pub IsUnpaid : Pricing → List ℕ → List Plan → Stop → Type 0
 IsUnpaid p text sched (Refused (refusal.Machine fault)) =
     (is_some (machine_named p) ≡ true) × (fault ≢ sayings.NoMemory) × (form.machine text ≡ Err fault)

@@ -1,4 +1,4 @@
--- What is so where a command has nothing to work on, while its files are read; and while an answer is told.
+-- What holds if a command has nothing to work on, while its files are read; and while an answer is written to `err`.
 use Rattle.std.specs.Prelude.{ℕ, ◌+◌, ◌≡◌, ◌≤◌, ◌⊎◌, true, List, [], length, Option, Some, None, IsSomeAnd}
 use Rattle.goal_limits.specs.Limits.{input_limit}
 use Rattle.goal_base.specs.Device.{HostState, SinkState, SameReadCounts, KeepsReading, SameRest, ReadsAtMost, ReadFaulted, IsTooLong, file_of, Later, SinkLater}
@@ -12,7 +12,7 @@ use Rattle.goal_cli.specs.Answer.{ForNamed, ForRead, ReadsFaulted, IsReadOut, Is
 use Rattle.goal_graph.specs.Schedule.{Plan}
 use Rattle.goal_cli.specs.World.{Devices}
 
--- why there is no schedule, whatever the machine is, as long as that is not too long; want of memory is free
+-- why there is no schedule, for any machine that is not too long; it may always be out of memory
 abbrev pub IsUnmade : HostState → HostState → Command → Answer → Type 0
 IsUnmade old new c answer.ReadFault = IsSomeAnd (input_of c) (ReadFaulted old new)
 IsUnmade old new c (answer.Refused r) =
@@ -35,17 +35,17 @@ IsIdle old new c (answer.Refused r) = ForRead old c (λ input. IsRefused c input
 IsIdle old new c answer.NoMemory = Unit {0}
 IsIdle old new c _ = ⊥
 
--- these bytes are what is in the file of that name, and none where there is no name
+-- the bytes are those of the file of that name, and none if there is no name
 abbrev pub IsGot : HostState → Option (List ℕ) → List ℕ → Type 0
 IsGot host None bytes = bytes ≡ []
 IsGot host (Some name) bytes = host.tells ≡ true → file_of host name ≡ Some bytes
 
--- at most a byte more than an input may have was taken of the file of that name; without a name nothing was asked
+-- at most 2^27+1 bytes of the file of that name were read; without a name nothing was read
 abbrev pub IsTakenFrom : HostState → HostState → Option (List ℕ) → Type 0
 IsTakenFrom old new None = KeepsReading old new
 IsTakenFrom old new (Some name) = SameRest old new ⊎ ReadsAtMost old new name (input_limit + 1)
 
--- the answer was told, or want of memory, where there was none for the words of a refusal
+-- the answer was written to `err`, or NoMemory, if there was none for the words of a refusal
 abbrev pub IsToldOr : SinkState → SinkState → Answer → Status → Type 0
 IsToldOr old new (answer.Refused r) s = IsAnswered old new (answer.Refused r) s ⊎ IsAnswered old new answer.NoMemory s
 IsToldOr old new a s = IsAnswered old new a s
@@ -54,7 +54,7 @@ IsToldOr old new a s = IsAnswered old new a s
 abbrev pub IsGathered : Command → List Plan → List ℕ → Input → Type 0
 IsGathered c sched machine input = IsFrom c.source input.schedule sched × (input.machine ≡ machine)
 
--- no call changes what kind of devices they are, and no count falls
+-- no call changes the kinds of the devices, and no count falls
 pub record DevicesLater (old new : Devices) : Type 0 where
   pub host : Later old.host new.host
   pub out : SinkLater old.out new.out

@@ -12,7 +12,7 @@ use Rattle.goal_certify.specs.Certifying.{IsFaultFor}
 use Rattle.goal_cli.specs.declared.answer.Ending.{Ending}
 use Rattle.goal_cli.specs.declared.answer.Ending.TheVariants as ending
 
--- the kind of a collective, as it stands on a command line
+-- the kind of a collective, as on a command line
 abbrev pub kind_text : Collective → List ℕ
 kind_text (Bcast root) = codes "bcast"
 kind_text Barrier = codes "barrier"
@@ -35,7 +35,7 @@ ops_text x y = op_text x ++ codes " and " ++ op_text y
 abbrev pub slot_text : ℕ → List ℕ
 slot_text slot = codes " slot " ++ decimal slot
 
--- the words of a fault; want of memory is none
+-- the words of a fault; NoMemory has none
 abbrev pub fault_text : CertFault → List ℕ
 fault_text (fault.TooLarge rank) = codes "too large " ++ decimal rank
 fault_text (fault.Wildcard x) = codes "wildcard " ++ op_text x
@@ -49,14 +49,14 @@ fault_text (fault.Weight total) = codes "weight " ++ decimal total
 fault_text (fault.Wrong rank slot) = codes "wrong " ++ (decimal rank ++ slot_text slot)
 fault_text fault.NoMemory = []
 
--- the two verdicts
+-- the two verdicts, as text
 abbrev pub certified_text : Collective → ℕ → List ℕ
 certified_text what ranks = codes "certified " ++ kind_text what ++ codes " ranks " ++ decimal ranks ++ line_feed
 
 abbrev pub faulty_text : CertFault → List ℕ
 faulty_text fault = codes "not certified: " ++ fault_text fault ++ line_feed
 
--- the verdict on a schedule, and how it ends
+-- the verdict on a schedule, and the ending
 abbrev pub IsVerdictOn : Collective → List Plan → List ℕ → Ending → Type 0
 IsVerdictOn what sched output e =
     (IsCertifiedFor what sched × (output ≡ certified_text what (length sched)) × (e ≡ ending.Done))

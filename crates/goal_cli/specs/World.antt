@@ -1,4 +1,4 @@
--- What the program sees of the outside, at one time.
+-- What the program knows of its surroundings at one time.
 use Rattle.goal_base.specs.Device.{HostState, SinkState, Later, SinkLater}
 
 -- the host with its files, and the standard output
@@ -9,7 +9,7 @@ pub record Devices : Type 0 where
 abbrev pub devices : HostState → SinkState → Devices
 devices host out = record { host = host; out = out }
 
--- the same, and the standard error
+-- the same with the standard error
 pub record World : Type 0 where
   pub host : HostState
   pub out : SinkState
@@ -18,7 +18,7 @@ pub record World : Type 0 where
 abbrev pub world : HostState → SinkState → SinkState → World
 world host out err = record { host = host; out = out; err = err }
 
--- a world but for its standard error
+-- a world without its standard error
 abbrev pub but_err : World → Devices
 but_err w = devices w.host w.out
 

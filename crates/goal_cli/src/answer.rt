@@ -1,68 +1,74 @@
-// How a command line is answered.
+//! The answers to a command line.
 
 use goal_binary::FileFault;
 use goal_collectives::GenFault;
 use goal_parser::TextFault;
 use sim_classes::MachineFault;
 
-/// How a call of `goal` ends. The numbers of the statuses are 0 to 7 in this order.
+/// How a call of `goal` ends. The exit statuses are 0 to 7 in this order.
 #[derive(Clone, Copy, Debug, PartialEq, Eq)]
 pub enum Status {
-    /// What the command makes was written.
+    /// The output was written whole.
     Done,
-    /// The printed run was written, and has an operation without an end.
+    /// The output was written whole, and an operation of its run has no end.
     Stuck,
     /// The words are no command line.
     BadLine,
-    /// The command makes nothing of its input or its words.
+    /// The command has no output for its input or its words.
     Refused,
-    /// The input was not read.
+    /// The host failed, or a file does not exist.
     ReadFault,
     /// The output was not written whole.
     WriteFault,
-    /// The schedule is not certified.
+    /// The output, a verdict, was written whole: the schedule is not certified.
     NotCertified,
-    /// There was no memory left.
+    /// Out of memory.
     NoMemory,
 }
 
-// How a command ends whose output was written whole.
+/// How a command ends after its output was written whole.
 #[derive(Clone, Copy)]
 pub enum Ending {
-    // Nothing is wrong with what was written.
+    /// There is nothing wrong with the schedule.
     Done,
-    // The run that was written has an operation without an end.
+    /// An operation of the run has no end.
     Stuck,
-    // The verdict that was written is a fault.
+    /// The verdict is a fault.
     NotCertified,
 }
 
-// What a command line leads to.
+/// The answer to a command line. All but `Written` are as the [`Status`] of that name.
 #[derive(Clone, Copy)]
 pub enum Answer {
+    /// The output was written whole, with this ending.
     Written(Ending),
+    /// The words are no command line.
     BadLine,
+    /// The command has no output, for this reason.
     Refused(Refusal),
+    /// The host failed, or a file does not exist.
     ReadFault,
+    /// The output was not written whole.
     WriteFault,
+    /// Out of memory.
     NoMemory,
 }
 
-/// Why a command makes nothing of its input or its words.
+/// Why a command has no output for its input or its words.
 #[derive(Clone, Copy, Debug, PartialEq, Eq)]
 pub enum Refusal {
-    /// The input, or the machine, has more than 2^27 bytes.
+    /// The input or the machine has more than 2^27 bytes.
     TooLong,
-    /// As a text it has this first fault.
+    /// The input is a text, with this first fault.
     Text(TextFault),
-    /// As a compiled file it has this first fault.
+    /// The input is a compiled file, with this first fault.
     File(FileFault),
     /// The machine has this first fault.
     Machine(MachineFault),
-    /// The machine has a node for so many ranks, which is not the schedule's number of ranks.
+    /// The machine has a node for each of `ranks` ranks, which is not the schedule's number of ranks.
     MachineRanks { ranks: u32 },
-    /// The collective has no schedule for so many ranks: this is the first reason.
+    /// The collective has no schedule for this number of ranks, for this first reason.
     Generator(GenFault),
-    /// The time budget of the run, this sum in nanoseconds, exceeds 2^63-1.
+    /// The time budget of the run is `sum` nanoseconds, more than 2^63-1.
     Budget { sum: u128 },
 }

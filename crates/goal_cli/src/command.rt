@@ -1,4 +1,4 @@
-// The top call: from the words of a command line to what is written, and a status.
+//! The top call: from the words of a command line to the output and a status.
 ghost use Rattle.std.specs.Prelude.{ℕ, ◌≡◌, ◌≤◌, ◌⊎◌, List, length, Some, OnOk, OnErr, IsErrOf};
 ghost use Rattle.goal_base.specs.Device.{HostState, Rose, Held, Later, SinkLater, KeepsFiles, KeepsReading, SameReadCounts, Grows};
 ghost use Rattle.goal_limits.specs.declared.limits.TheConstants.{MAX_INPUT};
@@ -35,21 +35,22 @@ const WRITE_FAULT: &[u8] = b"goal: writing failed\n";
 
 const OUT_OF_MEMORY: &[u8] = b"goal: out of memory\n";
 
-/// Carries out a command line, given by the words after the program's name. Some read a schedule from the file NAME of
-/// `host`, a text or a compiled file:
+/// Carries out a command line, given by the words after the program's name. Most commands read a schedule, a text or a
+/// compiled file, from the file NAME of `host`:
 ///
 /// - `sim NAME`, with options for the parameters, runs it and writes the printed run to `out`, with the reason for each
-///   stuck operation; `nodes NAME MACHINE` does the same with the costs of the machine that the file MACHINE says.
-/// - `waits NAME` and `knots NAME`, with the same options, run it and write the report on waits, or the knots of its stuck
-///   operations, to `out`.
-/// - `compile NAME OUT` writes its compiled file to the file OUT, and `show NAME` its canonical text to `out`.
+///   stuck operation. `nodes NAME MACHINE` does the same with the costs of the machine described in the file MACHINE.
+/// - `waits NAME` and `knots NAME`, with the same options, run it and write to `out` the report on waits, or the knots
+///   of its stuck operations.
+/// - `compile NAME OUT` writes its compiled file to the file OUT, and `show NAME` writes its canonical text to `out`.
 /// - `certify KIND NAME` writes to `out` that it is certified for a collective, or its first fault.
 ///
-/// Two have no input: `gen KIND RANKS BYTES` makes the schedule of a collective and writes its canonical text to `out`,
-/// `probe ROUNDS SEED` runs one that is drawn and writes a summary. What went wrong is said in a line to `err`.
+/// Two have no input: `gen KIND RANKS BYTES` generates the schedule of a collective and writes its canonical text to
+/// `out`, and `probe ROUNDS SEED` runs a random schedule and writes a summary. What went wrong is reported in a line to
+/// `err`.
 ///
-/// Any status may give way to `NoMemory`. A failure of `err` changes no status. `laws_of_answers` lists what follows from
-/// `answered`, answer by answer.
+/// Any status may be replaced by `NoMemory`. A failure of `err` changes no status. `laws_of_answers` lists what follows
+/// from `answered`, answer by answer.
 pub fn goal<H: Host, W: Sink, E: Sink>(
     alloc: Global,
     words: &[String],
@@ -57,9 +58,9 @@ pub fn goal<H: Host, W: Sink, E: Sink>(
     out: &mut W,
     err: &mut E,
 ) -> Status
-    // For every file that is read as a schedule, in text or compiled, and all parameters whose time budget fits 63 bits,
-    // unless want of memory is answered or a device fails, `out` gets the start, the end and the match of each operation
-    // in the one run where the least possible action by time and tie rule happens next, and gives the reason for each
+    // For every file that is read as a schedule, text or compiled, and for all parameters whose time budget is at most
+    // 2^63-1: unless memory runs out or a device fails, `out` gets the start, the end and the match of each operation
+    // in the one run in which the least possible action by time and tie rule happens next, and the reason for each
     // stuck operation.
     ensures headline { (name : List ℕ) (p : Numbers) → command_in words.now ≡ Some (Sim name p)
         → IfFile (H.state host.old) name (λ input. (sched : List Plan) → HasRun p input sched
@@ -75,26 +76,26 @@ pub fn goal<H: Host, W: Sink, E: Sink>(
         → Held (W.state out.old).stops (W.state out.old).count (W.state out.new).count
         → PrintsRun result (W.state out.old) (W.state out.new) (costs_of m) sched)) }
 
-    // The words lead to an answer whose cause holds, and the status and what `err` got are that answer's.
+    // The words lead to an answer whose cause holds, and the status and what `err` got are those of that answer.
     ensures answered { Answered (command_in words.now)
         (world (H.state host.old) (W.state out.old) (E.state err.old))
         (world (H.state host.new) (W.state out.new) (E.state err.new)) result }
 
-    // What the command makes of its input, or of its words where it has none, is written whole, unless a device fails.
+    // The command's output for its input, or for its words if it has none, is written whole, unless a device fails.
     ensures complete { let old = devices (H.state host.old) (W.state out.old) in
         let new = devices (H.state host.new) (W.state out.new) in
         IfInput (command_in words.now) (H.state host.old) (λ c input. (sched : List Plan)
         → HasOutput c input sched → InputHeld old new c
         → WritesHeld old new (target_of c) → AnswersWhole old new result c input) }
 
-    // Every input, and all words, that the command refuses get the line of the refusal, unless the host fails.
+    // A refused input, or refused words, get the line of the refusal, unless the host fails.
     ensures refused_exact { let old = devices (H.state host.old) (W.state out.old) in
         let new = devices (H.state host.new) (W.state out.new) in
         IfInput (command_in words.now) (H.state host.old) (λ c input. (refusal : Refusal)
         → IsRefused c input refusal → InputHeld old new c
         → AnswersWith result Status.Refused (Says (E.state err.old) (E.state err.new) (refused_line refusal))) }
 
-    // Of each input at most 2^27+1 bytes are taken. A command without an input leaves alone what can be read.
+    // At most 2^27+1 bytes of each input are read. A command without an input leaves the open input unchanged.
     ensures taken { IsTaken (command_in words.now) (H.state host.old) (H.state host.new) }
     ensures later { WorldLater (world (H.state host.old) (W.state out.old) (E.state err.old))
         (world (H.state host.new) (W.state out.new) (E.state err.new)) }
@@ -103,7 +104,7 @@ pub fn goal<H: Host, W: Sink, E: Sink>(
     tell(alloc, err, answer)
 }
 
-// The answer to the words. It writes the output of their command, and says nothing.
+// Carries out the command of the words: writes its output, and returns the answer.
 fn carry_out<H: Host, W: Sink>(alloc: Global, words: &[String], host: &mut H, out: &mut W) -> Answer
     ensures cause { IsCause (devices (H.state host.old) (W.state out.old))
         (devices (H.state host.new) (W.state out.new)) (command_in words.now) result }
@@ -118,7 +119,7 @@ fn carry_out<H: Host, W: Sink>(alloc: Global, words: &[String], host: &mut H, ou
     }
 }
 
-// The answer to the sentence of a command line.
+// Carries out a parsed command: writes its output, and returns the answer.
 fn carry_out_sentence<H: Host, W: Sink>(
     alloc: Global,
     sentence: &Sentence,
@@ -139,7 +140,7 @@ fn carry_out_sentence<H: Host, W: Sink>(
     }
 }
 
-// Makes the output of a sentence from what was gathered for it, and writes it.
+// Makes the output of a command from what was gathered for it, and writes it.
 fn write_output<H: Host, W: Sink>(
     alloc: Global,
     sentence: &Sentence,
@@ -149,7 +150,7 @@ fn write_output<H: Host, W: Sink>(
 ) -> Answer
     requires priced { IsPriced (said sentence.now) }
     requires short { length work.now.machine.items ≤ MAX_INPUT }
-    // The cause stands as the host was before the work was gathered from it.
+    // The cause speaks of the host before the work was gathered from it.
     ensures cause { (first : HostState) → Later first (H.state host.old) → KeepsFiles first (H.state host.old)
         → SameReadCounts first (H.state host.old) → IsReadOut first (H.state host.old) (machine_of (said sentence.now))
         → ForRead first (said sentence.now) (IsGathered (said sentence.now) work.now.sched work.now.machine.items)
@@ -173,7 +174,7 @@ fn write_output<H: Host, W: Sink>(
     }
 }
 
-// Writes the output of a command, to where it goes.
+// Writes the output of a command to its target.
 fn put<H: Host, W: Sink>(
     alloc: Global,
     view: &View,
@@ -201,7 +202,7 @@ fn put<H: Host, W: Sink>(
     }
 }
 
-// Hands a line to a sink. A fault of the sink changes no status; want of memory does.
+// Writes a line to a sink. A fault of the sink changes no status; out of memory does.
 fn say<E: Sink>(err: &mut E, line: &[u8], status: Status) -> Status
     ensures said { (result ≡ status × Says (E.state err.old) (E.state err.new) line.now)
         ⊎ (result ≡ Status.NoMemory × IsCutShort (E.state err.old) (E.state err.new) line.now) }
@@ -216,7 +217,7 @@ fn say<E: Sink>(err: &mut E, line: &[u8], status: Status) -> Status
     }
 }
 
-// Says an answer to `err`, and gives its status.
+// Writes the line of an answer to `err`, and returns its status.
 fn tell<E: Sink>(alloc: Global, err: &mut E, answer: Answer) -> Status
     ensures answered { IsToldOr (E.state err.old) (E.state err.new) answer result }
     ensures later { SinkLater (E.state err.old) (E.state err.new) }

@@ -1,4 +1,4 @@
-// Laws. Their functions do nothing: a proof cites a law by a call.
+//! Laws of the top call. The functions do nothing: a proof cites a law by a call.
 ghost use Rattle.std.specs.Prelude.{◌≡◌, ◌⊎◌, ◌<◌, ℕ, Bool, true, List, length, Option, None, Ok, IsSomeAnd, IfSome};
 ghost use Rattle.goal_base.specs.Device.{file_of};
 ghost use Rattle.goal_graph.specs.Schedule.{Plan};
@@ -22,13 +22,13 @@ use crate::answer::{Ending, Status};
 use goal_blocks::laws_of_faults;
 use sim_classes::laws_of_machines;
 
-/// What is written is a function of the schedule and the parameters.
+/// The output is a function of the schedule and the parameters.
 ///
 /// - `one_run`: a schedule has one printed run with given costs, and one status.
-/// - `same_output`: two inputs that say the same schedule, and for `nodes` the same machine, give the same bytes and the same
-///   status. What a command without an input writes is a function of its words.
-/// - `compiled_again`: what `compile` writes for an input says the same schedule, so a command makes the same of both.
-/// - `alike`: where all classes of the machine have the same parameters, `nodes` writes what `sim` writes with these.
+/// - `same_output`: two inputs that mean the same schedule, and for `nodes` the same machine, give the same bytes and
+///   status. The output of a command without an input is a function of its words.
+/// - `compiled_again`: the file that `compile` writes means the same schedule, so a command does the same with both.
+/// - `alike`: if all classes of the machine have the same parameters, `nodes` writes what `sim` writes with these.
 pub fn laws_of_outputs()
     ensures one_run { (costs : CostModel) (sched : List Plan) (one other : List ℕ) (stuck waits : Bool)
         → IsPrintedRun costs sched one stuck → IsPrintedRun costs sched other waits
@@ -49,17 +49,18 @@ pub fn laws_of_outputs()
 /// What each status of an answered command line means, and what leads to it.
 ///
 /// - `bad_line`, `bad_line_exact`: the words are no command line.
-/// - `read_fault`, `read_risen`, `absent_risen`, `absent_name`, `absent_machine`: the host failed, or has no file NAME, or for
-///   `nodes` no file MACHINE. Only a command with an input comes to it.
-/// - `refused`: the command refuses its input or its words, and `err` gets the words of the refusal. `machine_read`: by then a
-///   machine was read to its end.
+/// - `read_fault`, `read_risen`, `absent_risen`, `absent_name`, `absent_machine`: the host failed, or no file is named
+///   NAME, or MACHINE for `nodes`. Only a command with an input can end so.
+/// - `refused`: the command refuses its input or its words, and `err` gets the words of the refusal. `machine_read`: by
+///   then a machine was read to its end.
 /// - `write_fault`, `write_risen`, `file_risen`: writing failed, after a part of the output.
-/// - `done`, `stuck`, `not_certified`: the output was written whole, `stuck` for a run with an operation that has no end,
-///   `not_certified` for a fault of certification, and no output is left open. `only_certify`: only `certify` ends so.
-/// - `part`, `silent`, `elsewhere`: at most a part of the output is written, and nothing where there is none. Where the
-///   command doesn't write, nothing changes: no command but `compile` changes a file, and it changes none but OUT.
-/// - `says`, `says_nothing`, `says_part`: `err` gets the line of the status. `says_failed`: where `err` counted a fault, the status
-///   is still that of an answer whose cause holds, and `err` got a part of its line.
+/// - `done`, `stuck`, `not_certified`: the output was written whole, and no output is left open; `stuck` for a run in
+///   which an operation has no end, `not_certified` for a fault of certification. `only_certify`: only `certify` ends
+///   so.
+/// - `part`, `silent`, `elsewhere`: at most a part of the output is written, and nothing if there is none. The device
+///   to which the command does not write is unchanged: only `compile` changes a file, and only OUT.
+/// - `says`, `says_nothing`, `says_part`: `err` gets the line of the status. `says_failed`: if `err` counted a fault,
+///   the status is still that of an answer whose cause holds, and `err` got a part of its line.
 pub fn laws_of_answers()
     ensures bad_line { (command : Option Command) (old new : World) (result : Status) → Answered command old new result
         → result ≡ Status.BadLine → command ≡ None }

@@ -1,10 +1,15 @@
-//! The top call of `goal`: what each command line reads, makes and writes.
+//! The top call of `goal`: what each command line reads and writes.
 //!
-//! Most commands read a schedule from the file NAME, a text or a compiled file. `sim NAME` runs it and prints when each
-//! operation starts and ends, `waits NAME` how long operations waited, `compile NAME OUT` writes its compiled file,
-//! `show NAME` its canonical text, `certify KIND NAME` whether it does what a collective wants in every interleaving.
-//! `gen KIND RANKS BYTES` and `probe ROUNDS SEED` have no input: the one prints the canonical text of the schedule of a
-//! collective, the other runs a schedule drawn at random and sums it up.
+//! Most commands read a schedule from the file NAME, a text or a compiled file:
+//!
+//! - `sim NAME` runs it and prints when each operation starts and ends;
+//! - `waits NAME` reports how long operations waited;
+//! - `compile NAME OUT` writes its compiled file;
+//! - `show NAME` prints its canonical text;
+//! - `certify KIND NAME` reports whether it does what a collective wants in every interleaving.
+//!
+//! `gen KIND RANKS BYTES` and `probe ROUNDS SEED` have no input: `gen` prints the canonical text of a collective's
+//! schedule, and `probe` runs a random schedule and prints a summary.
 #![tactic(auto)]
 
 mod answer;

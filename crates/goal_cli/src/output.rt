@@ -1,4 +1,4 @@
-// From what a command works on to what it makes of it.
+//! The output of a command, from what it works on.
 ghost use Rattle.std.specs.Prelude.{ℕ, ◌≡◌, ◌≢◌, ◌≤◌, List, length, Option, IfOk, IfErr};
 ghost use Rattle.goal_limits.specs.declared.limits.TheConstants.{MAX_INPUT};
 ghost use Rattle.sim_params.specs.Costs.{CostModel};
@@ -28,9 +28,11 @@ use sim_events::EngineFault;
 use sim_params::{LogGops, Params};
 use std::alloc::Global;
 
-// Why a command makes nothing of its input or its words.
+/// Why a command has no output.
 pub enum Stop {
+    /// It refuses its input or its words.
     Refused(Refusal),
+    /// Out of memory.
     NoMemory,
 }
 
@@ -57,14 +59,14 @@ impl From<NoMemory> for Stop {
     }
 }
 
-// How a run ends a command.
+// Returns how a command ends by its run.
 fn ending_if(stuck: bool) -> Ending
     ensures { result ≡ ending_if stuck }
 {
     if stuck { Ending::Stuck } else { Ending::Done }
 }
 
-// The machine of a text, for a schedule.
+// Reads the machine in a text, for a schedule.
 fn machine_for(alloc: Global, sched: &Sched, text: &[u8]) -> Result<Machine, Stop>
     requires short { length text.now ≤ MAX_INPUT }
     ensures machine { IfOk result (λ machine. IsMachineFor text.now sched.now (known machine)) }
@@ -82,7 +84,7 @@ fn machine_for(alloc: Global, sched: &Sched, text: &[u8]) -> Result<Machine, Sto
     Ok(machine)
 }
 
-// A view of the run of a schedule with parameters.
+// Returns a view of the run of a schedule with parameters.
 fn run_with(alloc: Global, sched: &Sched, params: Params, how: RunView) -> Result<Output<'_>, Stop>
     ensures paid { IfOk result (λ output. (text : List ℕ)
         → IsPaidRun (ByNumbers (numbers params)) how text sched.now (text_of output) output.ending) }
@@ -93,7 +95,7 @@ fn run_with(alloc: Global, sched: &Sched, params: Params, how: RunView) -> Resul
     Ok(Output::new(run.head, pages, run.tail, ending_if(run.stuck)))
 }
 
-// A view of the run of a schedule on the machine of a text.
+// Returns a view of the run of a schedule on the machine in a text.
 fn run_on<'a>(
     alloc: Global,
     sched: &'a Sched,
@@ -111,7 +113,7 @@ fn run_on<'a>(
     Ok(Output::new(run.head, pages, run.tail, ending_if(run.stuck)))
 }
 
-// A view of the run of a schedule with what its actions cost.
+// Returns a view of the run of a schedule with its costs.
 fn run_costed<'a>(
     alloc: Global,
     sched: &'a Sched,
@@ -132,7 +134,7 @@ fn run_costed<'a>(
     }
 }
 
-// The compiled file of a schedule.
+// Returns the compiled file of a schedule.
 fn compile(alloc: Global, sched: &Sched) -> Result<Vec<u8>, NoMemory>
     ensures file { IfOk result (λ bytes. bytes.items ≡ file sched.now) }
     ensures again { IfOk result (λ bytes. IsReadAs bytes.items sched.now) }
@@ -142,7 +144,7 @@ fn compile(alloc: Global, sched: &Sched) -> Result<Vec<u8>, NoMemory>
     encode(alloc, sched)
 }
 
-// The canonical text of a schedule, as an output.
+// Returns the canonical text of a schedule, as an output.
 fn show<'a>(alloc: Global, sched: &'a Sched) -> Result<Output<'a>, NoMemory>
     ensures text { IfOk result (λ output. IsText sched.now (text_of output)) }
     ensures ending { IfOk result (λ output. output.ending ≡ Ending.Done) }
@@ -152,7 +154,7 @@ fn show<'a>(alloc: Global, sched: &'a Sched) -> Result<Output<'a>, NoMemory>
     Ok(Output::new(head, blocks, Vec::new(alloc), Ending::Done))
 }
 
-// A view of a schedule that is not run.
+// Returns a view of a schedule that is not run.
 fn show_unrun<'a>(alloc: Global, sched: &'a Sched, view: &View) -> Result<Output<'a>, NoMemory>
     requires not_run { IsRun view.now → ⊥ }
     ensures shown { IfOk result (λ output. (costs : Option CostModel)
@@ -172,7 +174,7 @@ fn show_unrun<'a>(alloc: Global, sched: &'a Sched, view: &View) -> Result<Output
     }
 }
 
-// What a command makes of the schedule that it works on, and of the text of its machine.
+/// Returns the output of a command, from the schedule that it works on and the text of its machine.
 pub fn output_of<'a>(
     alloc: Global,
     sentence: &Sentence,

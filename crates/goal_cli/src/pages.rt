@@ -1,4 +1,5 @@
-// What a command writes, page by page: a page is made once the one before it is written, so that none of them stays in memory.
+//! The output of a command, page by page: a page is made once the one before it is written, so that memory holds only
+//! one.
 ghost use Rattle.std.specs.Prelude.{◌≡◌, ◌++◌, ◌<◌, ◌≤◌, [], length, unwrap_or, IfOk, OnOk};
 
 use crate::answer::Ending;
@@ -10,45 +11,49 @@ use sim_params::LogGops;
 use sim_timeline::Lines;
 use std::alloc::Global;
 
-// So many bytes go to a sink at once, and the rest of a text at its end: a text that is no longer goes at once.
+/// The bytes of a page, which go to a sink at once. The rest of a text is the last page; a text that is no longer is
+/// one page.
 pub const PAGE: usize = 65_536;
 
-// What a command writes, as far as it is still to come: the rest of a piece that is made, then pages, then a tail.
+/// The output of a command that is not yet written: the rest of a piece that is made, then pages, then a tail.
 #[derive(Drop)]
 pub struct Output<'a> {
     piece: Vec<u8>,
-    // so many bytes of the piece have been handed out
+    // the number of bytes of the piece that were written
     done: usize,
     pages: Pages<'a>,
     tail: Vec<u8>,
+    /// How the command ends once the output is written.
     pub ending: Ending,
     ghost within: { done ≤ length piece.items },
 }
 
-// The pages that are still to come.
+/// The pages that are not yet made.
 #[derive(Drop)]
 pub enum Pages<'a> {
-    // There are none.
+    /// There are none.
     None,
-    // The lines of the operations of a run.
+    /// The lines of the operations of a run.
     Run(Lines<'a, LogGops, Unkept>),
-    // The same of a run on a machine.
+    /// The lines of the operations of a run on a machine.
     RunOn(Lines<'a, Machine, Unkept>),
-    // The blocks of a schedule.
+    /// The blocks of a schedule's canonical text.
     Blocks(Blocks<'a>),
 }
 
-// An output that was made whole, and how its command ends.
+/// An output that was made whole.
 #[derive(Drop)]
 pub struct Whole {
+    /// Its bytes.
     pub bytes: Vec<u8>,
+    /// How the command ends.
     pub ending: Ending,
 }
 
 impl Whole {
     ghost use Rattle.goal_cli.specs.Pages.{made_of, text_of};
 
-    // The same as an output.
+    /// Returns the same as an output.
     pub fn into_output<'a>(self, alloc: Global) -> Output<'a>
         ensures text { text_of result ≡ self.bytes.items }
         ensures made { made_of result ≡ self.bytes.items }
@@ -61,7 +66,7 @@ impl Whole {
 impl<'a> Pages<'a> {
     ghost use Rattle.goal_cli.specs.Pages.{left_of};
 
-    // The lines of a run, where there are any.
+    /// Returns the lines of a run, if there are any.
     pub fn of_run(lines: Option<Lines<'a, LogGops, Unkept>>) -> Pages<'a>
         ensures { left_of result ≡ unwrap_or lines.entry [] }
     {
@@ -71,7 +76,7 @@ impl<'a> Pages<'a> {
         }
     }
 
-    // The same of a run on a machine.
+    /// Returns the lines of a run on a machine, if there are any.
     pub fn of_run_on(lines: Option<Lines<'a, Machine, Unkept>>) -> Pages<'a>
         ensures { left_of result ≡ unwrap_or lines.entry [] }
     {
@@ -81,7 +86,7 @@ impl<'a> Pages<'a> {
         }
     }
 
-    // The next page, an empty one where nothing is left.
+    // Returns the next page, which is empty if none is left.
     fn next_page(&mut self, alloc: Global) -> Result<Vec<u8>, NoMemory>
         ensures page { IfOk result (λ page. left_of self.old ≡ page.items ++ left_of self.new) }
         ensures end { IfOk result (λ page. page.items ≡ [] → left_of self.old ≡ []) }
@@ -98,7 +103,7 @@ impl<'a> Pages<'a> {
 impl<'a> Output<'a> {
     ghost use Rattle.goal_cli.specs.Pages.{left_of, made_of, behind, text_of};
 
-    // A head, then pages, then a tail.
+    /// Creates an output of a head, pages and a tail.
     pub fn new(head: Vec<u8>, pages: Pages<'a>, tail: Vec<u8>, ending: Ending) -> Output<'a>
         ensures text { text_of result ≡ head.items ++ (left_of pages.entry ++ tail.items) }
         ensures made { made_of result ≡ head.items }
@@ -113,14 +118,14 @@ impl<'a> Output<'a> {
         }
     }
 
-    // What is made of it and still to come.
+    /// Returns the bytes that are made and not yet written.
     pub fn made(&self) -> &[u8]
         ensures { result.now ≡ made_of self.now }
     {
         &self.piece[self.done..]
     }
 
-    // The next piece, an empty one where nothing is left. It is taken once nothing is left of the piece before.
+    // Makes the next piece, which is empty if none is left, after all of the piece before was written.
     fn next_piece(&mut self, alloc: Global) -> Result<(), NoMemory>
         requires used { made_of self.old ≡ [] }
         ensures text { OnOk result (text_of self.new ≡ text_of self.old) }
@@ -137,7 +142,7 @@ impl<'a> Output<'a> {
         Ok(())
     }
 
-    // Makes a page of what is still to come: a full one, or the last.
+    /// Fills a page with what is not yet written: a full page, or the last one. `Err` means out of memory.
     pub fn fill(&mut self, alloc: Global, page: &mut Vec<u8>) -> Result<(), NoMemory>
         ensures page { OnOk result (text_of self.old ≡ page.new.items ++ text_of self.new) }
         ensures last { OnOk result (length page.new.items < PAGE → text_of self.new ≡ []) }

@@ -1,4 +1,4 @@
-// Writing an output to a sink.
+//! Writing an output to a sink.
 ghost use Rattle.std.specs.Prelude.{◌≡◌, OnOk, OnErr, IsErrOf};
 ghost use Rattle.goal_base.specs.Device.{Rose, SinkLater, Grows};
 ghost use Rattle.goal_cli.specs.Answer.{GrowsByPart};
@@ -9,7 +9,7 @@ use goal_base::{IoFault, Sink, write_all};
 use goal_limits::NoMemory;
 use std::alloc::Global;
 
-// Gives back the memory of an output. A function of its own keeps what goes here out of the proofs of its callers.
+/// Releases the memory of an output. A separate function keeps this out of the proofs of its callers.
 pub fn let_go(output: Output<'_>) {
     let _output = output;
 }
@@ -29,7 +29,7 @@ fn print<W: Sink>(out: &mut W, bytes: &[u8]) -> Result<(), IoFault>
     }
 }
 
-// Writes an output to a sink, in full pages and a last one. It goes.
+/// Writes an output to a sink, in full pages and a last one. The output is used up.
 pub fn print_output<W: Sink>(
     alloc: Global,
     out: &mut W,

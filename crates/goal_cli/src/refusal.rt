@@ -1,4 +1,4 @@
-// The words of refusals.
+//! The messages of refusals.
 ghost use Rattle.std.specs.Prelude.{◌≡◌, ◌++◌, List, IfOk, OnOk, codes};
 ghost use Rattle.goal_base.specs.Text.{pair_text};
 ghost use Rattle.goal_cli.specs.Refusal.{at_text, plan_words, text_words, file_words, machine_words, generator_words, refusal_words, refused_line};
@@ -13,7 +13,7 @@ use goal_parser::TextFault;
 use sim_classes::MachineFault;
 use std::alloc::Global;
 
-/// The line to `err` of a refusal.
+/// Returns the line of a refusal for `err`. `Err` means out of memory.
 pub fn refused_line(alloc: Global, refusal: Refusal) -> Result<Vec<u8>, NoMemory>
     ensures { IfOk result (λ line. line.items ≡ refused_line refusal) }
 {

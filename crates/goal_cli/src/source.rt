@@ -1,4 +1,4 @@
-// What a command works on: the schedule that its input says or that it makes, and the text of its machine.
+//! What a command works on: the schedule of its input or one that it generates, and the text of its machine.
 ghost use Rattle.std.specs.Prelude.{◌≡◌, ◌≤◌, true, false, length, Some, OnOk, IfOk, IfErr};
 ghost use Rattle.goal_limits.specs.declared.limits.TheConstants.{MAX_INPUT};
 ghost use Rattle.goal_base.specs.Device.{HostState, Later, KeepsFiles, SameReadCounts};
@@ -23,7 +23,7 @@ use goal_rooted::generate_rooted;
 use goal_words::{Costing, Sentence, Source};
 use std::alloc::Global;
 
-// The schedule of a collective, or why it has none.
+// Returns the schedule of a collective, or why it has none.
 fn generated(alloc: Global, what: Collective, ranks: u32, bytes: u64) -> Result<Sched, GenFault>
     requires { bytes ≤ MAX_BYTES }
     ensures made { IfOk result (λ sched. IsMade what ranks bytes sched) }
@@ -62,7 +62,7 @@ fn draw(alloc: Global, rounds: u32, seed: u64) -> Result<Sched, Answer>
     }
 }
 
-// The schedule that the file of a name says.
+// Reads the schedule in the file of that name.
 fn read_input<H: Host>(alloc: Global, host: &mut H, name: &str) -> Result<Sched, Answer>
     ensures read { IfOk result (λ sched. ForFile (H.state host.old) name.now (λ input. IsReadAs input sched)) }
     ensures unread { IfErr result (λ answer. (c : Command) → input_of c ≡ Some name.now
@@ -82,8 +82,8 @@ fn read_input<H: Host>(alloc: Global, host: &mut H, name: &str) -> Result<Sched,
     }
 }
 
-// The schedule that a command works on: what its input says, or what it makes. Without an input the host is asked nothing.
-// Where there is none, this is the answer, as long as the machine is not too long.
+// Returns the schedule that a command works on, read or generated. Without an input the host is not asked. `Err` is the
+// answer, if the machine is not too long.
 fn schedule_of<H: Host>(alloc: Global, host: &mut H, sentence: &Sentence) -> Result<Sched, Answer>
     requires sized { IsSized (said sentence.now) }
     ensures schedule { IfOk result (λ sched. ForNamed (H.state host.old) (input_of (said sentence.now))
@@ -101,7 +101,7 @@ fn schedule_of<H: Host>(alloc: Global, host: &mut H, sentence: &Sentence) -> Res
     }
 }
 
-// The text of the machine of a command. Without one there is no text, and the host is asked nothing.
+// Returns the text of the machine of a command. Without one the text is empty, and the host is not asked.
 fn take_machine<H: Host>(
     alloc: Global,
     host: &mut H,
@@ -127,15 +127,17 @@ fn take_machine<H: Host>(
     }
 }
 
-// What a command works on: a schedule, and the text of a machine.
+/// What a command works on.
 #[derive(Drop)]
 pub struct Gathered {
+    /// The schedule.
     pub sched: Sched,
+    /// The text of the machine, or nothing if the command has none.
     pub machine: Vec<u8>,
 }
 
-// What a command works on. Each of its files is read to its end before one is refused. Where there is nothing to work on, this
-// is the answer.
+/// Returns what a command works on. Each of its files is read to its end before one is refused. `Err` is the answer if
+/// there is nothing to work on.
 pub fn gather<H: Host>(alloc: Global, host: &mut H, sentence: &Sentence) -> Result<Gathered, Answer>
     requires sized { IsSized (said sentence.now) }
     ensures work { IfOk result (λ work. ForRead (H.state host.old) (said sentence.now)

@@ -1,4 +1,4 @@
-// The verdict on a schedule: it is certified for a collective, or this is its first fault.
+//! The verdict on a schedule: it is certified for a collective, or this is its first fault.
 ghost use Rattle.std.specs.Prelude.{◌≡◌, ◌++◌, ◌≢◌, length, List, decimal, IfOk, OnOk};
 ghost use Rattle.goal_blocks.specs.declared.cert_fault.CertFault.{CertFault};
 ghost use Rattle.goal_cli.specs.Verdict.{kind_text, op_text, ops_text, slot_text, fault_text, certified_text, faulty_text, IsVerdictOn};
@@ -12,7 +12,7 @@ use goal_graph::{OpId, Sched};
 use goal_limits::NoMemory;
 use std::alloc::Global;
 
-/// The verdict on a schedule, for a collective.
+/// Returns the verdict on a schedule for a collective, as an output. `Err` means out of memory.
 pub fn verdict(alloc: Global, sched: &Sched, what: Collective) -> Result<Whole, NoMemory>
     ensures { IfOk result (λ output. IsVerdictOn what sched.now output.bytes.items output.ending) }
 {
@@ -29,7 +29,7 @@ pub fn verdict(alloc: Global, sched: &Sched, what: Collective) -> Result<Whole, 
     }
 }
 
-// The line of a schedule that is certified.
+// The line for a certified schedule.
 fn certified_text(alloc: Global, what: Collective, ranks: usize) -> Result<Vec<u8>, NoMemory>
     ensures { IfOk result (λ text. text.items ≡ certified_text what ranks) }
 {
@@ -42,7 +42,7 @@ fn certified_text(alloc: Global, what: Collective, ranks: usize) -> Result<Vec<u
     Ok(out.into_bytes())
 }
 
-// The line of one that is not.
+// The line for a schedule that is not certified.
 fn faulty_text(alloc: Global, fault: CertFault) -> Result<Vec<u8>, NoMemory>
     ensures { IfOk result (λ text. text.items ≡ faulty_text fault) }
 {

@@ -3,7 +3,7 @@ use Rattle.goal_base.specs.Device.{SinkLater, Grows}
 use Rattle.goal_cli.specs.Pages.{text_of}
 use Rattle.goal_cli.proofs.printing.print_output.Given as goal
 
--- what is written, and then what is still to come, is the whole text
+-- what is written, followed by what is not yet written, is the whole text
 abbrev pub invariant-pages : goal.invariant-pages
 invariant-pages g l =
     let old = g.W.Sink.state l.initial.out in

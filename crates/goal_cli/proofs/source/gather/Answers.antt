@@ -16,14 +16,14 @@ use Rattle.goal_base.proofs.ForCallers.{later_then, kept_then, counts_then}
 use Rattle.goal_cli.proofs.AnswerLemmas.{for_turned, got_for, idle_refused, read_out_from, taken_both, taken_first}
 use Rattle.goal_cli.proofs.source.gather.Goals as goal
 
--- what was got of both files
+-- the bytes of both files
 gathered_of : (a b : HostState) (c : Command) (sched : List Plan) (text : List ℕ) → Later a b → KeepsFiles a b
     → ForNamed a (input_of c) (λ schedule. IsFrom c.source schedule sched) → IsGot b (machine_of c) text → ForRead a c (IsGathered c sched text)
 gathered_of a b c sched text later kept made got =
     for_turned a (λ s. IsFrom c.source s sched) (λ s. ForNamed a (machine_of c) (λ m. IsFrom c.source s sched × (m ≡ text)))
     (λ s from. got_for a b text (λ m. IsFrom c.source s sched × (m ≡ text)) (machine_of c) later kept got (from, refl)) (input_of c) made
 
--- the count of a fault of reading, where another reading before left the counts as they were
+-- the count of a fault of reading, after another reading that left the counts unchanged
 faulted_from : (a b d : HostState) (o : Option (List ℕ)) → Later a b → KeepsFiles a b → SameReadCounts a b → IsSomeAnd o (ReadFaulted b d)
     → IsSomeAnd o (ReadFaulted a d)
 faulted_from a b d None later kept same faulted = faulted

@@ -3,7 +3,7 @@ use Rattle.goal_cli.specs.declared.pages.TheConstants.{PAGE}
 use Rattle.goal_cli.specs.Pages.{behind, text_of}
 use Rattle.goal_cli.proofs.pages.Output.fill.Given as goal
 
--- what is on the page, and then what is still to come
+-- what is on the page, followed by what is not yet written
 abbrev pub invariant-pieces : goal.invariant-pieces
 invariant-pieces l =
     record {
