@@ -1,4 +1,4 @@
--- What an accepted schedule keeps: few ranks and operations, and every number within its limit.
+-- Properties of an accepted schedule: few ranks and operations, and every number within its limit.
 use Rattle.std.proofs.Common.{◌≡◌, ℕ, zero, suc, ◌+◌, ◌^◌, ◌≤◌, ◌==◌, Bool, true, false, List, [], ◌∷◌, length, Option, Some, None, slice_get, option_and_then, if◌then◌else◌, refl, subst, arith}
 use Rattle.std.proofs.lemmas.Option.{same_Some, slice_get_within, get_or_from_slice_get}
 use Rattle.std.proofs.lemmas.List.Sums.{get_or-le-sum_by}
@@ -11,7 +11,7 @@ use Rattle.goal_graph.specs.Schedule.{Plan, op_at}
 use Rattle.goal_graph.proofs.ForCallers.{count_over-none, option_or-none}
 use Rattle.goal_graph.specs.Fault.{op_count, count_over, count_fault, value_fits, has_peer, op_fault, first_fault, rank_fault, plain_fault, IsAccepted}
 
--- where no item has a fault, none at a place has
+-- if no item has a fault, none at any place has
 pub no_fault_at : {A : Type 0} (fault : ℕ → A → Option PlanFault) (n : ℕ) (xs : List A) (i : ℕ) (x : A) → first_fault fault n xs ≡ None → slice_get xs i ≡ Some x → fault (n + i) x ≡ None
 unfolding first_fault
 no_fault_at fault n [] i x e f = absurd (cc)

@@ -1,4 +1,4 @@
--- Every time of a run is within the budget: each action raises the reach by at most what its share sets aside for it.
+-- Every time of a run is within the budget: each action raises the reach by at most its part of a share.
 use Rattle.std.proofs.Common.{ℕ, ◌+◌, ◌≤◌, ◌≡◌, max, Bool, true, false, not, List, [], ◌∷◌, Option, Some, None, if◌then◌else◌, Contains, sum_by, refl, sym, ap, ◌∙◌, subst, arith, le_refl, zero-le}
 use Rattle.std.proofs.lemmas.Bool.{both_ways, and_parts, not-true}
 use Rattle.std.proofs.lemmas.List.Sums.{sum_by-le-sum_by}
@@ -21,7 +21,7 @@ use Rattle.sim_params.proofs.Grow.{mate_stays}
 use Rattle.sim_params.proofs.Interleavings.{EachPossible, each_interleaving}
 use Rattle.sim_params.proofs.Reach.{lag, reach_time, time_reach, within_reach, within_later}
 
--- a part that is paid, or not
+-- a part that is paid, or is not
 abbrev paid : Bool → ℕ → ℕ
 paid b n = if b then n else 0
 
@@ -37,7 +37,7 @@ paid_rises : (b c : Bool) (n : ℕ) → b ≡ false → c ≡ true → paid b n 
 paid_rises b c n p q = subst (λ b. paid b n + n ≤ paid c n) (sym p) (subst (λ c. 0 + n ≤ paid c n) (sym q) (omega arith))
 
 module _ (plans : List Plan) (costs : CostModel) where
-  -- the parts are the share
+  -- the parts add up to the share
   pub parts_make_share : (x : OpId) → part plans costs Begin x + part plans costs Arrive x + part plans costs Data x + part plans costs Serve x ≡ share plans costs x
   unfolding part share is_eager
   parts_make_share x = go (kind_at plans x) refl
@@ -49,12 +49,12 @@ module _ (plans : List Plan) (costs : CostModel) where
       go (Some (Send bytes to tag)) e =
           rw e (elim (costs.eager x.rank to bytes) as (λ b. (if b then costs.over x.rank to bytes + costs.gap x.rank to bytes else costs.over x.rank to 1 + costs.gap x.rank to 1) + (if b then costs.flight x.rank to bytes else costs.flight x.rank to 1) + (if b then 0 else costs.latency x.rank to + costs.over x.rank to bytes + costs.gap x.rank to bytes) + ((if b then 0 else costs.flight x.rank to bytes) + costs.over x.rank to bytes + costs.gap x.rank to bytes) ≡ message_share costs x.rank to bytes + (if b then 0 else request_share costs x.rank to)) [ true ↦ omega arith | false ↦ omega arith ])
 
-  -- the receive of a send has its message
+  -- a receive that has its message, with its send
   abbrev taken : List Timed → Option OpId → Bool
   taken h None = false
   taken h (Some r) = happened Serve r (plain h)
 
-  -- what of its share an operation has paid
+  -- what an operation has paid of its share
   spent : List Timed → OpId → ℕ
   spent h x =
       paid (happened Begin x (plain h)) (part plans costs Begin x) + paid (happened Arrive x (plain h)) (part plans costs Arrive x) + paid (happened Data x (plain h)) (part plans costs Data x) + paid (taken h (mate plans costs h x)) (part plans costs Serve x)
@@ -92,7 +92,7 @@ module _ (plans : List Plan) (costs : CostModel) where
   part_rises : (a : Timed) (h : List Timed) (c : Class) (x : OpId) → happened c x (plain h) ≡ false → happened c x (plain (a ∷ h)) ≡ true → paid (happened c x (plain h)) (part plans costs c x) + part plans costs c x ≤ paid (happened c x (plain (a ∷ h))) (part plans costs c x)
   part_rises a h c x p q = paid_rises _ _ (part plans costs c x) p q
 
-  -- an operation pays for what it does, and the send of a receive for its Serve
+  -- an operation pays for its actions, and a send for the Serve of its receive
   own_pays : (a : Timed) (h : List Timed) (c : Class) (x : OpId) → ¬ (c ≡ Serve) → happened c x (plain h) ≡ false → happened c x (plain (a ∷ h)) ≡ true → spent h x + part plans costs c x ≤ spent (a ∷ h) x
   unfolding spent part
   own_pays a h Begin x other p q =
@@ -111,7 +111,7 @@ module _ (plans : List Plan) (costs : CostModel) where
       let after : taken (a ∷ h) (mate plans costs (a ∷ h) m) ≡ true = subst (λ o. taken (a ∷ h) o ≡ true) (sym (mate_stays plans costs a h m x e)) q in
       omega (arith, part_grows a h Begin m, part_grows a h Arrive m, part_grows a h Data m, paid_rises (taken h (mate plans costs h m)) (taken (a ∷ h) (mate plans costs (a ∷ h) m)) (part plans costs Serve m) before after)
 
-  -- a receive that may be served has a send for partner, whose partner it is
+  -- a receive that may be served has a send as partner, whose partner it is
   pub record IsServedBy (h : List Timed) (x m : OpId) : Type 0 where
     pub sender : mate plans costs h x ≡ Some m
     pub back : mate plans costs h m ≡ Some x
@@ -134,7 +134,7 @@ module _ (plans : List Plan) (costs : CostModel) where
         },
       )
 
-  -- who pays for an action, and that it pays
+  -- which operation pays for an action, and that it pays
   record IsPaidBy (h : List Timed) (a : Timed) (y : OpId) : Type 0 where
     payer : payer plans costs h a.class a.op ≡ Some y
     listed : Contains (operations plans) y
@@ -177,7 +177,7 @@ module _ (plans : List Plan) (costs : CostModel) where
       go Data e = own (λ f. let g = sym e ∙ f in cc) (at Data e)
       go Post e = own (λ f. let g = sym e ∙ f in cc) (at Post e)
 
-  -- what an action waits and holds is at most its part of the payer's share
+  -- the wait and the hold of an action are at most its part of the payer's share
   served_cost : (h : List Timed) (x m : OpId) → IsServedBy h x m → at_partner (λ m. if is_eager plans costs m then 0 else flight plans costs m) (mate plans costs h x) + max (at_partner (over plans costs) (mate plans costs h x)) (max 0 (at_partner (gap plans costs) (mate plans costs h x))) ≤ at_partner (part plans costs Serve) (mate plans costs h x)
   unfolding part
   served_cost h x m s =
@@ -235,7 +235,7 @@ module _ (plans : List Plan) (costs : CostModel) where
   reach_budget h each =
       omega (arith, reach_spent h each, sum_by-le-sum_by (spent h) (share plans costs) (operations plans) (spent_share h))
 
-  -- a possible action lets go within the budget
+  -- a possible action releases what it holds within the budget
   pub possible_budget : (h : List Timed) (a : Timed) → EachPossible plans costs h → Possible plans costs h a → a.time + hold plans costs h a ≤ budget plans costs
   possible_budget h a each p = omega (arith, reach_budget (a ∷ h) (each, p), reach_time plans costs a h)
 

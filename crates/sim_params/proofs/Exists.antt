@@ -1,4 +1,4 @@
--- After each run an action is next, or nothing is possible; so there is a complete run.
+-- After each run an action is next, or nothing is possible; so a complete run exists.
 use Rattle.std.proofs.Common.{ℕ, zero, suc, ◌+◌, ◌≤◌, ◌≡◌, ◌⊎◌, true, List, [], ◌∷◌, All, Contains, inl, inr, refl, sym, ap, ap₂, ◌∙◌, subst, arith}
 use Rattle.std.proofs.lemmas.Bool.{both_ways}
 use Rattle.std.proofs.lemmas.List.Elements.{All-nil, All-cons, All-weaker, All-contains}
@@ -19,7 +19,7 @@ use Rattle.sim_params.specs.Laws.{at_its_time}
 use Rattle.sim_params.proofs.Interleavings.{possible_at, run_interleaving}
 
 module _ (plans : List Plan) (costs : CostModel) where
-  -- no possible action of x is before a
+  -- no possible action of x is less than a
   abbrev NoneBefore : List Timed → Timed → OpId → Type 0
   NoneBefore h a x = (b : Timed) → b.op ≡ x → Possible plans costs h b → ¬ (IsLess (key b) (key a))
 
@@ -43,7 +43,7 @@ module _ (plans : List Plan) (costs : CostModel) where
   of_one h x i =
       elim (find_class (λ c. allowed plans (is_eager plans costs) (plain h) c x)) [ inl t ↦ inl (at_its_time plans costs h t.0 x, possible_at plans costs h t.0 x t.1, only_one h t.0 x i t.1) | inr none ↦ inr (λ b p q. both_ways _ (none b.class) (subst (λ y. allowed plans (is_eager plans costs) (plain h) b.class y ≡ true) p q.allowed)) ]
 
-  -- a lesser action has none before it either
+  -- nothing is less than a lesser action either
   none_before_lesser : (h : List Timed) (a b : Timed) → (a ≡ b) ⊎ IsLess (key a) (key b) → (x : OpId) → NoneBefore h b x → NoneBefore h a x
   none_before_lesser h a b (inl e) x none c p q before = none c p q (subst (λ d. IsLess (key c) (key d)) e before)
   none_before_lesser h a b (inr lt) x none c p q before = none c p q (less_transitive (key c) (key a) (key b) before lt)
@@ -85,13 +85,13 @@ module _ (plans : List Plan) (costs : CostModel) where
   unfolding plain
   left_of_run a h n = left_falls plans (is_eager plans costs) (plain_act a) (plain h) n.possible.allowed
 
-  -- a run goes on to a complete one, in at most as many steps as actions are left
+  -- a run extends to a complete one, in at most as many steps as actions are left
   goes_on : (n : ℕ) (h : List Timed) → left plans (plain h) ≤ n → IsRun plans costs h → (k : List Timed) × IsCompleteRun plans costs k
   goes_on zero h le r =
       elim (next_or_finished h r) [ inl t ↦ absurd (omega (arith, left_of_run t.0 h t.1)) | inr f ↦ (h, record { run = r; finished = f }) ]
   goes_on (suc n) h le r =
       elim (next_or_finished h r) [ inl t ↦ goes_on n (t.0 ∷ h) (omega (arith, left_of_run t.0 h t.1)) (r, t.1) | inr f ↦ (h, record { run = r; finished = f }) ]
 
-  -- there is a complete run
+  -- a complete run exists
   pub some_complete : (k : List Timed) × IsCompleteRun plans costs k
   some_complete = goes_on (left plans (plain [])) [] (omega arith) tt

@@ -1,4 +1,4 @@
--- A start, an end and the time of a pair stay once they are there.
+-- A start, an end and the time of a pair stay.
 use Rattle.std.proofs.Common.{ℕ, ◌+◌, ◌≡◌, true, false, List, ◌∷◌, Option, Some, None, if◌then◌else◌, refl, sym, ap, ap₂, ◌∙◌, subst}
 use Rattle.std.proofs.lemmas.Bool.{both_ways}
 use Rattle.goal_graph.specs.declared.action.OpId.{OpId}
@@ -36,7 +36,7 @@ module _ (plans : List Plan) (costs : CostModel) where
   fresh_at a h c p e =
       subst (λ (d : Class). happened d a.op (plain h) ≡ false) e (allowed_fresh plans (is_eager plans costs) (plain h) a.class a.op p.allowed)
 
-  -- an operation starts with its first action
+  -- an operation starts at its first action
   pub start_now : (a : Timed) (h : List Timed) → Possible plans costs h a → a.class ≡ first_class (kind_at plans a.op) → start plans costs (a ∷ h) a.op ≡ a.time
   start_now a h p e =
       since_new (has_started plans a.op) a h (fresh_at a h (first_class (kind_at plans a.op)) p e) (new_happened a h (first_class (kind_at plans a.op)) a.op e refl)
@@ -49,7 +49,7 @@ module _ (plans : List Plan) (costs : CostModel) where
       go None p q = absurd (both_ways false refl q)
       go (Some m) p q = (m, p)
 
-  -- what an action that happened before holds is not told anew
+  -- what an action held does not change later
   last_hold_kept : (a : Timed) (h : List Timed) (x : OpId) (k : Option Kind) → EachPossible plans costs h → happened (last_class (is_eager plans costs x) k) x (plain h) ≡ true → cpu_hold plans costs (a ∷ h) (last_class (is_eager plans costs x) k) x k ≡ cpu_hold plans costs h (last_class (is_eager plans costs x) k) x k
   last_hold_kept a h x (Some (Calc nanos)) each e = refl
   last_hold_kept a h x (Some (Send bytes to tag)) each e =
@@ -77,7 +77,7 @@ module _ (plans : List Plan) (costs : CostModel) where
   end_kept a h x each e =
       ap₂ (λ (m n : ℕ). m + n) (since_kept (has_ended plans (is_eager plans costs) x) a h e) (last_hold_kept a h x (kind_at plans x) each e)
 
-  -- an operation ends when its last action lets go of the cpu
+  -- an operation ends when its last action releases the cpu
   pub end_now : (a : Timed) (h : List Timed) (x : OpId) → has_ended plans (is_eager plans costs) x (plain h) ≡ false → a.class ≡ last_class (is_eager plans costs x) (kind_at plans x) → a.op ≡ x → end plans costs (a ∷ h) x ≡ a.time + cpu_hold plans costs h a.class a.op (kind_at plans a.op)
   end_now a h x f p q =
       let last = last_class (is_eager plans costs x) (kind_at plans x) in

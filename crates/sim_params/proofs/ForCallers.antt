@@ -1,4 +1,4 @@
--- The lemmas of this crate that upper crates cite: they import this file alone.
+-- The lemmas that upper crates may use: they import this file alone.
 pub use Rattle.sim_params.proofs.Grow.{mate_stays, since_kept, since_new, time_grows}
 pub use Rattle.sim_params.proofs.Interleavings.{complete_interleaving, possible_at, possible_room, run_each, run_interleaving, run_length}
 pub use Rattle.sim_params.proofs.Accepted.{few_ranks}

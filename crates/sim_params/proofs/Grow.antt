@@ -1,4 +1,4 @@
--- Times never fall: each time after one more action is at least what it was, for every history.
+-- Times never fall: for every history, each time after another action is at least what it was.
 use Rattle.std.proofs.Common.{ℕ, ◌+◌, ◌≤◌, ◌≡◌, Bool, true, false, List, [], ◌∷◌, Option, Some, None, if◌then◌else◌, inl, inr, refl, sym, ◌∙◌, subst, arith, le_refl}
 use Rattle.std.proofs.Math.Nat.{le-max_left}
 use Rattle.std.proofs.lemmas.Bool.{cases_Bool, both_ways, cond-true, cond-false}
@@ -20,7 +20,7 @@ use Rattle.sim_params.specs.Costs.{CostModel, over, flight, is_eager}
 use Rattle.sim_params.specs.Times.{since, greatest, at_partner, mate, cpu_hold, cpu, tx, rx, start, end, met_at, ready, paired_at, there_at, time_of, time}
 use Rattle.sim_params.specs.Laws.{NoneFalls}
 
--- a test that once passed goes on passing
+-- a test that once passed still passes
 abbrev pub Stays : (List Act → Bool) → Type 0
 Stays test = (a : Act) (l : List Act) → test l ≡ true → test (a ∷ l) ≡ true
 

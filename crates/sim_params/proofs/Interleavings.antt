@@ -21,7 +21,7 @@ module _ (plans : List Plan) (costs : CostModel) where
   pub possible_at : (h : List Timed) (c : Class) (x : OpId) → allowed plans (is_eager plans costs) (plain h) c x ≡ true → Possible plans costs h (at_its_time plans costs h c x)
   possible_at h c x e = record { allowed = e; time = refl }
 
-  -- another action leaves a possible action possible, at a time that is not less
+  -- another action leaves a possible action possible, and its time does not fall
   pub possible_stays : (h : List Timed) (a b : Timed) → Possible plans costs h b → ¬ ((a.class ≡ b.class) × (a.op ≡ b.op)) → Possible plans costs (a ∷ h) (at_its_time plans costs (a ∷ h) b.class b.op) × (b.time ≤ time plans costs (a ∷ h) b.class b.op)
   unfolding plain
   possible_stays h a b p other =
@@ -56,12 +56,12 @@ module _ (plans : List Plan) (costs : CostModel) where
   length-plain [] = refl
   length-plain (a ∷ h) = ap suc (length-plain h)
 
-  -- what has happened and what is left are at most three actions an operation
+  -- actions that happened and actions that are left are at most three per operation
   pub run_length : (h : List Timed) → IsRun plans costs h → length h + left plans (plain h) ≤ 3 * length (operations plans)
   run_length h r =
       omega (arith, length-plain h, happened_and_left plans (is_eager plans costs) (plain h) (run_interleaving h r))
 
-  -- so there is room for one more that is possible
+  -- so there is room for another possible action
   pub possible_room : (h : List Timed) (a : Timed) → IsRun plans costs h → Possible plans costs h a → length h < 3 * length (operations plans)
   possible_room h a r p =
       omega (arith, run_length h r, left_falls plans (is_eager plans costs) (plain_act a) (plain h) p.allowed)

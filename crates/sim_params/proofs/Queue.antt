@@ -1,4 +1,4 @@
--- What a queue of lower bounds may trust: its least entry, where its time is right, is next.
+-- What holds of a queue of lower bounds: its least entry, if its time is right, is next.
 use Rattle.std.proofs.Common.{◌≤◌, ◌≡◌, ◌⊎◌, List, inl, inr, sym, ap, subst, arith}
 use Rattle.std.proofs.lemmas.Bool.{cases_eq}
 use Rattle.goal_graph.specs.declared.action.OpId.{OpId}
@@ -11,7 +11,7 @@ use Rattle.sim_params.specs.Run.{IsNext}
 use Rattle.sim_params.specs.Laws.{HasBound, IsLeastIn}
 use Rattle.goal_graph.proofs.ForCallers.{less_transitive, same_timed}
 
--- the key of an entry for an action is that of the action, or before it
+-- the key of an entry for an action is at most that of the action
 bound_before : (e b : Timed) → e.class ≡ b.class → e.op ≡ b.op → e.time ≤ b.time → (e ≡ b) ⊎ IsLess (key e) (key b)
 bound_before e b c o le =
     elim (cases_eq e.time b.time) [ inl s ↦ inl (same_timed e b s c (ap (λ (x : OpId). x.rank) o) (ap (λ (x : OpId). x.op) o)) | inr s ↦ inr (inl (omega arith)) ]

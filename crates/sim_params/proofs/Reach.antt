@@ -1,4 +1,4 @@
--- No start, end or free time is later than the reach of the history, and a possible action waits no longer than its lag.
+-- No start, end or free time is later than the reach of a history, and a possible action waits at most its lag.
 use Rattle.std.proofs.Common.{ℕ, ◌+◌, ◌≤◌, ◌≡◌, ◌⊎◌, ◌&&◌, Bool, true, false, List, [], ◌∷◌, Option, Some, None, if◌then◌else◌, inl, inr, sym, subst, arith, le_trans, zero-le, All}
 use Rattle.std.specs.List.{list_all}
 use Rattle.std.proofs.lemmas.Bool.{cases_Bool, both_ways, and_parts}
@@ -30,7 +30,7 @@ if_le : (b : Bool) (n m : ℕ) → n ≤ m → (if b then n else 0) ≤ m
 if_le true n m le = le
 if_le false n m le = zero-le
 
--- the greatest is at most what bounds each
+-- the greatest is at most a bound of each
 greatest_le : {A : Type 0} (test : A → Bool) (f : A → ℕ) (n : ℕ) (xs : List A) → ((x : A) → test x ≡ true → f x ≤ n) → list_all test xs ≡ true → greatest f xs ≤ n
 unfolding greatest
 greatest_le test f n [] le all = zero-le
@@ -97,7 +97,7 @@ module _ (plans : List Plan) (costs : CostModel) where
   ready_reach h x each e =
       greatest_le (λ (d : Need). is_met plans (is_eager plans costs) (plain h) d.when (needed x d)) (λ (d : Need). met_at plans costs h d.when (needed x d)) (reach plans costs h) (needs plans x) (λ d t. met_reach h d.when (needed x d) each t) e
 
-  -- how long after all that went before an action may happen
+  -- how long after all before it an action may happen
   abbrev pub lag : List Timed → Class → OpId → Option Kind → ℕ
   lag h Arrive x (Some (Send bytes to tag)) =
       if is_eager plans costs x then flight plans costs x else flight_one plans costs x
@@ -142,7 +142,7 @@ module _ (plans : List Plan) (costs : CostModel) where
     free_receivers = λ x. rx_reach h x;
   }
 
-  -- a later bound is a bound
+  -- a greater bound is a bound
   pub within_later : (h : List Timed) (m n : ℕ) → m ≤ n → IsWithin plans costs h m → IsWithin plans costs h n
   within_later h m n le w = record {
     times = All-weaker (λ (a : Timed). a.time ≤ m) (λ (a : Timed). a.time ≤ n) (λ a s. le_trans s le) h w.times;

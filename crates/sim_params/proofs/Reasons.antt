@@ -1,5 +1,5 @@
--- What the reason of a stuck operation says: a named operation is stuck itself, and an operation that is alone finds
--- each one that fits paired with another.
+-- What the reason of a stuck operation says: a named operation is itself stuck, and if an operation is alone, each one
+-- that fits it is paired with another.
 use Rattle.std.proofs.Common.{◌≡◌, ◌≢◌, ◌⊎◌, ◌&&◌, Bool, true, false, not, cond, List, [], ◌∷◌, Option, Some, None, All, Contains, find, inl, inr, ⊎_elim, refl, subst}
 use Rattle.std.specs.List.{list_all}
 use Rattle.std.proofs.lemmas.Bool.{both_ways, and_parts, and_cases, and_from, or_cases, not-true, not-false}
@@ -28,7 +28,7 @@ not_here : {A : Type 0} (b : Bool) (y : A) (r : Option A) → cond b (Some y) r 
 not_here true y r e = absurd (cc e)
 not_here false y r e = (refl, e)
 
--- what `find` finds passes, and stands in the list
+-- what `find` finds passes, and is in the list
 find_passes : {A : Type 0} (p : A → Bool) (xs : List A) (x : A) → find p xs ≡ Some x → p x ≡ true
 find_passes p [] x e = absurd (cc e)
 find_passes p (y ∷ ys) x e =
@@ -70,12 +70,12 @@ module _ (plans : List Plan) (eager : OpId → Bool) where
         unstarted = not-true (has_started plans y h) t.1;
       }
 
-  -- where no need is unmet, the operation is ready
+  -- if no need is unmet, the operation is ready
   ready_is : (h : List Act) (x : OpId) → first_unmet plans eager h x ≡ None → is_ready plans eager h x ≡ true
   unfolding first_unmet is_ready
   ready_is h x e = all_from_find (λ (d : Need). is_met plans eager h d.when (needed x d)) (needs plans x) e
 
-  -- where none is absent, each operation that fits has started
+  -- if none is absent, each operation that fits has started
   started_is : (h : List Act) (x y : OpId) → first_absent plans eager h x ≡ None → Contains (operations plans) y → are_fit plans eager x y ≡ true → has_started plans y h ≡ true
   unfolding first_absent
   started_is h x y e listed fit =
@@ -127,12 +127,12 @@ module _ (plans : List Plan) (eager : OpId → Bool) where
   partner_is_stuck h x y i e = unstarted_unended plans eager h y i (partner_is_absent h x y e).unstarted
 
   module _ (h : List Act) (c : IsCompleteInterleaving plans eager h) where
-    -- what fits is an operation of the schedule
+    -- an operation that fits is one of the schedule
     fit_listed : (x y : OpId) → (fits plans x y ≡ true) ⊎ (fits plans y x ≡ true) → Contains (operations plans) y
     fit_listed x y (inl f) = let s = fits_send plans x y f in kind_listed plans y (Send s.bytes s.to s.tag) s.kind
     fit_listed x y (inr f) = let r = fits_receive plans y x f in kind_listed plans y (Recv r.room r.from r.tag) r.kind
 
-    -- what is alone finds each operation that fits started, and paired with another
+    -- if an operation is alone, each that fits it has started, and is paired with another
     pub alone_is_alone : (x y : OpId) → IsStuck plans eager h x → reason plans eager h x ≡ why.Alone → are_fit plans eager x y ≡ true → (has_started plans y h ≡ true) × IsTaken plans h y x
     alone_is_alone x y stuck e fit = (started, go (fitting_taken plans eager h c x y (ready_is h x facts.0) stuck fits_one))
       where
@@ -149,7 +149,7 @@ module _ (plans : List Plan) (eager : OpId → Bool) where
         go (inl f) = absurd (both_ways _ f started)
         go (inr t) = t
 
-    -- a stuck calc has a need that is not there
+    -- a stuck calc has an unmet need
     pub calc_is_not_alone : (x : OpId) → IsCalc plans x → IsStuck plans eager h x → reason plans eager h x ≢ why.Alone
     calc_is_not_alone x k stuck e =
         both_ways _ stuck (ready_calc_ended plans eager h c x k (ready_is h x (alone_is h x e).0))

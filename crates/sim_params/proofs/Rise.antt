@@ -1,4 +1,4 @@
--- Along a run times rise: what an action makes possible does not happen before it.
+-- Times rise along a run: what an action makes possible is not earlier than it.
 use Rattle.std.proofs.Common.{ℕ, ◌+◌, ◌≤◌, ◌≡◌, ◌⊎◌, ◌||◌, Bool, true, false, not, List, [], ◌∷◌, Option, Some, None, if◌then◌else◌, All, inl, inr, refl, sym, ◌∙◌, subst, arith, le_trans}
 use Rattle.std.proofs.Math.Nat.{le-max_left, le-max_right}
 use Rattle.std.specs.List.{list_all}
@@ -26,7 +26,7 @@ use Rattle.sim_params.specs.Laws.{at_its_time}
 use Rattle.sim_params.proofs.Grow.{since_new, mate_stays, time_grows}
 use Rattle.sim_params.proofs.Interleavings.{possible_at, run_interleaving}
 
--- where not all passed before, and all pass now, one passes newly
+-- if not all passed before, and all pass now, one passes newly
 greatest_new : {A : Type 0} (before now : A → Bool) (f : A → ℕ) (n : ℕ) (xs : List A) → ((x : A) → before x ≡ false → now x ≡ true → n ≤ f x) → list_all before xs ≡ false → list_all now xs ≡ true → n ≤ greatest f xs
 unfolding greatest
 greatest_new before now f n [] new p q = absurd (both_ways _ p refl)
@@ -65,7 +65,7 @@ module _ (plans : List Plan) (costs : CostModel) where
       newly m e s =
           false_from_ne_true _ (λ t. let o = cases_some (mate plans costs h x) t in let same : Some m ≡ Some o.0 = sym e ∙ mate_stays plans costs a h x o.0 o.1 in apart m (inl s) (o.1 ∙ sym same))
 
-      -- a partner whose bytes were there was the partner before
+      -- a partner that had transferred its data was the partner before
       partner_before : (m : OpId) → mate plans costs (a ∷ h) x ≡ Some m → happened Data m (plain h) ≡ true → ⊥
       partner_before m e t =
           let o = cases_some (mate plans costs h m) (data_paired plans eager (plain h) m i.0 t) in
@@ -96,7 +96,7 @@ module _ (plans : List Plan) (costs : CostModel) where
   time_of_rises a h Serve x (Some (Recv room from tag)) e i p q = omega (arith, there_rises a h x i p q)
   time_of_rises a h _ x _ e i p q = absurd (both_ways false refl q)
 
-  -- what an action makes possible is not before it
+  -- what an action makes possible is not earlier than it
   pub newly_possible : (a b : Timed) (h : List Timed) → IsInterleaving plans (is_eager plans costs) (plain (a ∷ h)) → Possible plans costs (a ∷ h) b → allowed plans (is_eager plans costs) (plain h) b.class b.op ≡ false → a.time ≤ b.time
   unfolding plain time
   newly_possible a b h i p q =
@@ -105,7 +105,7 @@ module _ (plans : List Plan) (costs : CostModel) where
       let before : may plans eager (plain h) b.class b.op (kind_at plans b.op) ≡ false = false_from_ne_true _ (λ t. both_ways _ q (allowed_from plans eager (plain h) b.class b.op fresh t)) in
       subst (λ n. a.time ≤ n) (sym p.time) (time_of_rises a h b.class b.op (kind_at plans b.op) refl i before (allowed_may plans eager (plain (a ∷ h)) b.class b.op p.allowed))
 
-  -- what was possible before the next action, or is made so by it, is not before it
+  -- what was possible before the next action, or is possible by it, is not earlier than it
   pub next_rises : (a b : Timed) (h : List Timed) → IsRun plans costs (a ∷ h) → Possible plans costs (a ∷ h) b → a.time ≤ b.time
   next_rises a b h r p =
       elim (cases_Bool (allowed plans (is_eager plans costs) (plain h) b.class b.op)) [ inl t ↦ was t | inr f ↦ newly_possible a b h (run_interleaving plans costs (a ∷ h) r) p f ]
@@ -116,7 +116,7 @@ module _ (plans : List Plan) (costs : CostModel) where
           let grows : time plans costs h b.class b.op ≤ b.time = subst (λ n. time plans costs h b.class b.op ≤ n) (sym p.time) (time_grows plans costs a h b.class b.op) in
           elim (cases_lt (time plans costs h b.class b.op) a.time) [ inl s ↦ absurd (r.1.least before (possible_at plans costs h b.class b.op t) (inl s)) | inr s ↦ le_trans s grows ]
 
-  -- no time of a run is later than a possible action's
+  -- no time of a run is later than that of a possible action
   pub possible_last : (h : List Timed) (b : Timed) → IsRun plans costs h → Possible plans costs h b → All (λ (a : Timed). a.time ≤ b.time) h
   possible_last [] b r p = All-nil (λ (a : Timed). a.time ≤ b.time)
   possible_last (a ∷ h) b r p =

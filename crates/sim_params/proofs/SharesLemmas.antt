@@ -1,4 +1,4 @@
--- The share of an operation by what it does, and bounds on shares.
+-- The share of an operation by its kind, and bounds on shares.
 use Rattle.std.proofs.Common.{◌≡◌, ℕ, ◌+◌, ◌^◌, ◌<◌, ◌≤◌, true, false, nat_le, List, length, get_or, Option, Some, None, refl, ap, subst, inl, inr, arith, leb-true}
 use Rattle.std.specs.List.{sum_by}
 use Rattle.std.specs.Option.{option_map}

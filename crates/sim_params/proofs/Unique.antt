@@ -1,4 +1,4 @@
--- There is one run of each length, and one complete run.
+-- There is at most one run of each length, and one complete run.
 use Rattle.std.proofs.Common.{◌≤◌, ◌≡◌, ◌⊎◌, List, [], ◌∷◌, ◌++◌, length, inl, inr, refl, sym, ap, subst, arith}
 use Rattle.std.proofs.lemmas.Bool.{cases_eq, cases_lt}
 use Rattle.goal_graph.specs.declared.action.Timed.{Timed}
@@ -9,11 +9,11 @@ use Rattle.sim_params.specs.Run.{IsNext, IsRun, IsCompleteRun}
 use Rattle.goal_graph.proofs.ForCallers.{one_least}
 
 module _ (plans : List Plan) (costs : CostModel) where
-  -- one action is next
+  -- at most one action is next
   pub one_next : (h : List Timed) (a b : Timed) → IsNext plans costs h a → IsNext plans costs h b → a ≡ b
   one_next h a b n m = one_least a b (m.least a n.possible) (n.least b m.possible)
 
-  -- two runs of one length are one
+  -- two runs of the same length are the same
   pub one_of_length : (h k : List Timed) → length h ≡ length k → IsRun plans costs h → IsRun plans costs k → h ≡ k
   one_of_length [] [] e r s = refl
   one_of_length [] (b ∷ k) e r s = absurd (omega arith)
@@ -23,7 +23,7 @@ module _ (plans : List Plan) (costs : CostModel) where
       let first : a ≡ b = one_next h a b r.1 (subst (λ l. IsNext plans costs l b) (sym rest) s.1) in
       cc
 
-  -- of two runs, the shorter one is the start of the other
+  -- of two runs the longer begins with the shorter
   pub start_of_longer : (h k : List Timed) → length h ≤ length k → IsRun plans costs h → IsRun plans costs k → (l : List Timed) × (k ≡ l ++ h)
   start_of_longer h [] le r s = ([], one_of_length [] h (omega arith) s r)
   start_of_longer h (b ∷ k) le r s =
@@ -40,11 +40,11 @@ module _ (plans : List Plan) (costs : CostModel) where
       let le : length k ≤ length h = none_longer h k c s.0 in
       elim (cases_eq (length k) (length h)) [ inl e ↦ absurd (c.finished b (subst (λ l. Possible plans costs l b) (one_of_length k h e s.0 c.run) s.1.possible)) | inr f ↦ omega arith ]
 
-  -- each run is the start of a complete one
+  -- a complete run begins with every run
   pub starts_complete : (h k : List Timed) → IsRun plans costs h → IsCompleteRun plans costs k → (l : List Timed) × (k ≡ l ++ h)
   starts_complete h k r c = start_of_longer h k (none_longer k h c r) r c.run
 
-  -- two complete runs are one
+  -- two complete runs are the same
   pub one_complete : (h k : List Timed) → IsCompleteRun plans costs h → IsCompleteRun plans costs k → h ≡ k
   one_complete h k c d =
       let le = none_longer h k c d.run in

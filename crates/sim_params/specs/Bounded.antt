@@ -1,4 +1,4 @@
--- Costs and parameters that are within bounds.
+-- Bounds on costs and parameters.
 use Rattle.std.specs.Prelude.{ℕ, ◌<◌, ◌≤◌, ◌^◌}
 use Rattle.sim_params.specs.Costs.{CostModel, Numbers}
 use Rattle.goal_limits.specs.Limits.{param_limit, per_byte_limit}
@@ -11,7 +11,7 @@ pub record IsBounded (costs : CostModel) : Type 0 where
   pub flight : (from to bytes : ℕ) → bytes < 2 ^ 40 → costs.flight from to bytes ≤ 2 ^ 61
   pub latency : (from to : ℕ) → costs.latency from to ≤ 2 ^ 61
 
--- each parameter is at most its limit
+-- each parameter is within its limit
 pub record IsWithinLimits (n : Numbers) : Type 0 where
   pub latency : n.latency ≤ param_limit
   pub overhead : n.overhead ≤ param_limit

@@ -1,4 +1,4 @@
--- What a parameter is where a run gives none, and the most picoseconds of a rate. The constants of the code are these
+-- The defaults of the parameters, and the limit of the picoseconds per byte. The constants of the code are these
 -- numbers: `laws_of_defaults` says so.
 use Rattle.std.specs.Prelude.{ℕ}
 
@@ -26,6 +26,6 @@ default_overhead_per_byte = 0
 abbrev pub default_sync : ℕ
 default_sync = 65535
 
--- the largest Gp and Op, the picoseconds per byte besides G and O
+-- the limit of Gp and Op, the picoseconds per byte that are added to G and O
 abbrev pub picos_limit : ℕ
 picos_limit = 999

@@ -1,4 +1,4 @@
--- The laws of the timed run, as one reads them, and the words that they use.
+-- The laws of the timed run in words, and the notions that they use.
 use Rattle.std.specs.Prelude.{ℕ, ◌+◌, ◌*◌, ◌<◌, ◌≤◌, ◌≡◌, ◌≢◌, ◌⊎◌, ◌↔◌, max, Bool, true, false, List, [], ◌∷◌, ◌++◌, length, reverse, take, slice_get, All, Contains, Option, Some, if◌then◌else◌}
 use Rattle.goal_graph.specs.declared.action.OpId.{OpId}
 use Rattle.goal_graph.specs.declared.action.Timed.{Timed}
@@ -21,11 +21,11 @@ use Rattle.sim_params.specs.Run.{IsNext, IsRun, IsFinished, IsCompleteRun}
 use Rattle.sim_params.specs.Stuck.{are_fit, reason}
 use Rattle.sim_params.specs.Budget.{share, budget}
 
--- x has no end
+-- x is stuck: it has no end
 abbrev pub IsStuck : List Plan → (OpId → Bool) → List Act → OpId → Type 0
 IsStuck plans eager h x = has_ended plans eager x h ≡ false
 
--- a queue has an entry for b whose time is not later
+-- a queue has an entry for b, whose time is at most that of b
 pub record HasBound (InQueue : Timed → Type 0) (b : Timed) : Type 0 where
   pub entry : Timed
   pub queued : InQueue entry
@@ -33,7 +33,7 @@ pub record HasBound (InQueue : Timed → Type 0) (b : Timed) : Type 0 where
   pub op : entry.op ≡ b.op
   pub time : entry.time ≤ b.time
 
--- no entry of the queue is before a
+-- no entry of the queue is less than a
 abbrev pub IsLeastIn : (Timed → Type 0) → Timed → Type 0
 IsLeastIn InQueue a = (e : Timed) → InQueue e → ¬ (IsLess (key e) (key a))
 
@@ -42,18 +42,18 @@ module _ (plans : List Plan) (costs : CostModel) where
   abbrev pub at_its_time : List Timed → Class → OpId → Timed
   at_its_time h class x = record { time = time plans costs h class x; class = class; op = x }
 
-  -- how long an action holds its cpu or a side of its interface, whichever is longest
+  -- how long an action holds its cpu or a side of its NIC, whichever is longest
   abbrev pub hold : List Timed → Timed → ℕ
   hold h a =
       max (cpu_hold plans costs h a.class a.op (kind_at plans a.op))
       (max (tx_hold plans costs a.class a.op (kind_at plans a.op)) (rx_hold plans costs h a.class a.op (kind_at plans a.op)))
 
-  -- the greatest of the moments at which an action happened, or let go of what it held
+  -- the latest time at which an action happened, or released what it held
   unfoldable pub reach : List Timed → ℕ
   reach [] = 0
   reach (a ∷ h) = max (reach h) (a.time + hold h a)
 
-  -- what a share sets aside for each action: of the share of a send, Serve's part is that of the receive that takes it
+  -- the part of a share for each action; of a send's share, the part of Serve is for the receive that takes its message
   abbrev pub part_of : Class → OpId → Option Kind → ℕ
   part_of Begin x (Some (Calc nanos)) = nanos
   part_of Begin x (Some (Send bytes to tag)) =
@@ -71,7 +71,7 @@ module _ (plans : List Plan) (costs : CostModel) where
   unfoldable pub part : Class → OpId → ℕ
   part class x = part_of class x (kind_at plans x)
 
-  -- the operation out of whose share an action is paid: a Serve out of its partner's, another out of its own
+  -- the operation from whose share an action is paid: for a Serve its partner, for any other its own
   abbrev pub payer : List Timed → Class → OpId → Option OpId
   payer h Serve x = mate plans costs h x
   payer h Arrive x = Some x
@@ -79,7 +79,7 @@ module _ (plans : List Plan) (costs : CostModel) where
   payer h Post x = Some x
   payer h Begin x = Some x
 
-  -- no action is later than n, no operation starts or ends later, and nothing that one waits for is free later
+  -- no action is later than n, and no start, end, ready time or free time is
   pub record IsWithin (h : List Timed) (n : ℕ) : Type 0 where
     pub times : All (λ (a : Timed). a.time ≤ n) h
     pub starts : (x : OpId) → start plans costs h x ≤ n
@@ -89,7 +89,7 @@ module _ (plans : List Plan) (costs : CostModel) where
     pub free_senders : (x : OpId) → tx plans costs h x ≤ n
     pub free_receivers : (x : OpId) → rx plans costs h x ≤ n
 
-  -- no time after h and then a is less than it was after h
+  -- no time after h and then a is less than after h
   pub record NoneFalls (h : List Timed) (a : Timed) : Type 0 where
     pub times : (class : Class) (x : OpId) → time plans costs h class x ≤ time plans costs (a ∷ h) class x
     pub starts : (x : OpId) → start plans costs h x ≤ start plans costs (a ∷ h) x
@@ -100,13 +100,13 @@ module _ (plans : List Plan) (costs : CostModel) where
     pub free_senders : (x : OpId) → tx plans costs h x ≤ tx plans costs (a ∷ h) x
     pub free_receivers : (x : OpId) → rx plans costs h x ≤ rx plans costs (a ∷ h) x
 
-  -- in a list of actions, oldest first, each is next after those before it
+  -- in this list, oldest first, each action is next after those before it
   abbrev pub EachIsNext : List Timed → Type 0
   EachIsNext trace =
       (k : ℕ) (a : Timed) → slice_get trace k ≡ Some a → IsNext plans costs (reverse (take k trace)) a
 
 module _ (plans : List Plan) (eager : OpId → Bool) where
-  -- x needs y, or the start of y, and it is not there
+  -- x needs y or its start, and this has not happened
   pub record IsUnmet (h : List Act) (x y : OpId) : Type 0 where
     pub need : Need
     pub listed : Contains (needs plans x) need
@@ -119,26 +119,26 @@ module _ (plans : List Plan) (eager : OpId → Bool) where
     pub fit : are_fit plans eager x y ≡ true
     pub unstarted : has_started plans y h ≡ false
 
--- The laws of times, for every schedule, all costs and every history, be it a run or not: `laws_of_times` ensures each.
+-- The laws of times hold for every schedule, all costs and every history, a run or not. `laws_of_times` ensures each.
 
 -- no time falls
 abbrev pub TimesNeverFall : Type 0
 TimesNeverFall = (plans : List Plan) (costs : CostModel) (h : List Timed) (a : Timed) → NoneFalls plans costs h a
 
--- a possible action stays possible until it happens, at a time that is not less
+-- a possible action stays possible until it happens, and its time does not fall
 abbrev pub PossibleStays : Type 0
 PossibleStays = (plans : List Plan) (costs : CostModel) (h : List Timed) (a b : Timed)
     → Possible plans costs h b
     → ¬ ((a.class ≡ b.class) × (a.op ≡ b.op))
     → Possible plans costs (a ∷ h) (at_its_time plans costs (a ∷ h) b.class b.op) × (b.time ≤ time plans costs (a ∷ h) b.class b.op)
 
--- the start of an operation stays once it is there
+-- the start of an operation stays, once it has started
 abbrev pub StartStays : Type 0
 StartStays = (plans : List Plan) (costs : CostModel) (h : List Timed) (a : Timed) (x : OpId)
     → has_started plans x (plain h) ≡ true
     → start plans costs (a ∷ h) x ≡ start plans costs h x
 
--- and so does the time at which it was paired
+-- so does the time at which it was paired
 abbrev pub PairTimeStays : Type 0
 PairTimeStays = (plans : List Plan) (costs : CostModel) (h : List Timed) (a : Timed) (x : OpId)
     → is_paired (pairs plans (plain h)) x ≡ true
@@ -151,68 +151,68 @@ PairedByAction = (plans : List Plan) (costs : CostModel) (h : List Timed) (a : T
     → is_paired (pairs plans (plain (a ∷ h))) x ≡ true
     → paired_at plans costs (a ∷ h) x ≡ a.time
 
--- an operation starts with its first action
+-- an operation starts at its first action
 abbrev pub StartsWithFirst : Type 0
 StartsWithFirst = (plans : List Plan) (costs : CostModel) (h : List Timed) (a : Timed)
     → Possible plans costs h a
     → a.class ≡ first_class (kind_at plans a.op)
     → start plans costs (a ∷ h) a.op ≡ a.time
 
--- and ends when its last action lets go of the cpu
+-- it ends when its last action releases the cpu
 abbrev pub EndsWithLast : Type 0
 EndsWithLast = (plans : List Plan) (costs : CostModel) (h : List Timed) (a : Timed)
     → Possible plans costs h a
     → a.class ≡ last_class (is_eager plans costs a.op) (kind_at plans a.op)
     → end plans costs (a ∷ h) a.op ≡ a.time + cpu_hold plans costs h a.class a.op (kind_at plans a.op)
 
--- The laws of runs, for every schedule and all costs: `laws_of_runs` ensures each.
+-- The laws of runs hold for every schedule and all costs. `laws_of_runs` ensures each of them.
 
 -- a run without its times is an interleaving
 abbrev pub IsAnInterleaving : Type 0
 IsAnInterleaving = (plans : List Plan) (costs : CostModel) (h : List Timed) → IsRun plans costs h → IsInterleaving plans (is_eager plans costs) (plain h)
 
--- and a complete one, if the run is complete
+-- a complete run without its times is a complete interleaving
 abbrev pub IsACompleteInterleaving : Type 0
 IsACompleteInterleaving = (plans : List Plan) (costs : CostModel) (h : List Timed)
     → IsCompleteRun plans costs h
     → IsCompleteInterleaving plans (is_eager plans costs) (plain h)
 
--- what has happened in a run and what is left are at most three actions an operation
+-- actions that happened in a run and actions that are left number together at most three per operation
 abbrev pub AtMostThreeEach : Type 0
 AtMostThreeEach = (plans : List Plan) (costs : CostModel) (h : List Timed)
     → IsRun plans costs h
     → length h + left plans (plain h) ≤ 3 * length (operations plans)
 
--- where an action is possible, a run has not as many yet
+-- if an action is possible, the run is shorter than that
 abbrev pub RoomForPossible : Type 0
 RoomForPossible = (plans : List Plan) (costs : CostModel) (h : List Timed) (a : Timed)
     → IsRun plans costs h
     → Possible plans costs h a
     → length h < 3 * length (operations plans)
 
--- an end stays once it is there
+-- the end of an operation stays, once it has ended
 abbrev pub EndStays : Type 0
 EndStays = (plans : List Plan) (costs : CostModel) (h : List Timed) (a : Timed) (x : OpId)
     → IsRun plans costs h
     → has_ended plans (is_eager plans costs) x (plain h) ≡ true
     → end plans costs (a ∷ h) x ≡ end plans costs h x
 
--- an action is not before the one that it follows
+-- an action is not earlier than the one before it
 abbrev pub TimesRise : Type 0
 TimesRise = (plans : List Plan) (costs : CostModel) (h : List Timed) (a b : Timed) → IsRun plans costs (b ∷ a ∷ h) → a.time ≤ b.time
 
--- nor before any of those before it
+-- it is not earlier than any before it
 abbrev pub NewestIsLast : Type 0
 NewestIsLast = (plans : List Plan) (costs : CostModel) (h : List Timed) (b : Timed) → IsRun plans costs (b ∷ h) → All (λ (a : Timed). a.time ≤ b.time) h
 
--- what is possible after a run is not before any of its actions
+-- what is possible after a run is not earlier than any of its actions
 abbrev pub PossibleIsNotPast : Type 0
 PossibleIsNotPast = (plans : List Plan) (costs : CostModel) (h : List Timed) (b : Timed)
     → IsRun plans costs h
     → Possible plans costs h b
     → All (λ (a : Timed). a.time ≤ b.time) h
 
--- one action is next
+-- at most one action is next
 abbrev pub OneIsNext : Type 0
 OneIsNext = (plans : List Plan) (costs : CostModel) (h : List Timed) (a b : Timed) → IsNext plans costs h a → IsNext plans costs h b → a ≡ b
 
@@ -222,25 +222,25 @@ NextOrFinished = (plans : List Plan) (costs : CostModel) (h : List Timed)
     → IsRun plans costs h
     → ((a : Timed) × IsNext plans costs h a) ⊎ IsFinished plans costs h
 
--- two runs with as many actions are one
+-- two runs of the same length are the same
 abbrev pub OneRunOfEachLength : Type 0
 OneRunOfEachLength = (plans : List Plan) (costs : CostModel) (h k : List Timed) → length h ≡ length k → IsRun plans costs h → IsRun plans costs k → h ≡ k
 
--- of two runs, one begins as the other
+-- of two runs one begins with the other
 abbrev pub OneBeginsAsTheOther : Type 0
 OneBeginsAsTheOther = (plans : List Plan) (costs : CostModel) (h k : List Timed)
     → IsRun plans costs h
     → IsRun plans costs k
     → ((l : List Timed) × (k ≡ l ++ h)) ⊎ ((l : List Timed) × (h ≡ l ++ k))
 
--- a complete run begins as each run does
+-- a complete run begins with every run
 abbrev pub CompleteRunBeginsAsEach : Type 0
 CompleteRunBeginsAsEach = (plans : List Plan) (costs : CostModel) (h k : List Timed)
     → IsRun plans costs h
     → IsCompleteRun plans costs k
     → (l : List Timed) × (k ≡ l ++ h)
 
--- two complete runs are one
+-- two complete runs are the same
 abbrev pub OneCompleteRun : Type 0
 OneCompleteRun = (plans : List Plan) (costs : CostModel) (h k : List Timed) → IsCompleteRun plans costs h → IsCompleteRun plans costs k → h ≡ k
 
@@ -252,8 +252,8 @@ SomeCompleteRun = (plans : List Plan) (costs : CostModel) → (h : List Timed) �
 abbrev pub ReadOldestFirst : Type 0
 ReadOldestFirst = (plans : List Plan) (costs : CostModel) (h : List Timed) → IsRun plans costs h ↔ EachIsNext plans costs (reverse h)
 
--- where each possible action has an entry whose time is not later than its own, an entry that is least of all and
--- whose time is right is next
+-- if each possible action has an entry that is not later, then a least entry that is possible at its own time is the
+-- next action
 abbrev pub LeastEntryIsNext : Type 0
 LeastEntryIsNext = (plans : List Plan) (costs : CostModel) (h entries : List Timed) (a : Timed)
     → ((b : Timed) → Possible plans costs h b → HasBound (Contains entries) b)
@@ -261,7 +261,7 @@ LeastEntryIsNext = (plans : List Plan) (costs : CostModel) (h entries : List Tim
     → Possible plans costs h a
     → IsNext plans costs h a
 
--- The laws of the budget, for every schedule and all costs: `laws_of_the_budget` ensures each.
+-- The laws of the budget hold for every schedule and all costs. `laws_of_the_budget` ensures each of them.
 
 -- no time of a run is later than its reach
 abbrev pub WithinReach : Type 0
@@ -271,43 +271,43 @@ WithinReach = (plans : List Plan) (costs : CostModel) (h : List Timed) → IsRun
 abbrev pub WithinBudget : Type 0
 WithinBudget = (plans : List Plan) (costs : CostModel) (h : List Timed) → IsRun plans costs h → IsWithin plans costs h (budget plans costs)
 
--- a possible action lets go of what it holds within the budget
+-- a possible action releases what it holds within the budget
 abbrev pub PossibleWithinBudget : Type 0
 PossibleWithinBudget = (plans : List Plan) (costs : CostModel) (h : List Timed) (a : Timed)
     → IsRun plans costs h
     → Possible plans costs h a
     → a.time + hold plans costs h a ≤ budget plans costs
 
--- an action raises the reach by at most its part of the share that it is paid out of
+-- an action raises the reach by at most its part of the share that pays for it
 abbrev pub ReachRisesByPart : Type 0
 ReachRisesByPart = (plans : List Plan) (costs : CostModel) (h : List Timed) (a : Timed)
     → IsRun plans costs h
     → Possible plans costs h a
     → reach plans costs (a ∷ h) ≤ reach plans costs h + at_partner (part plans costs a.class) (payer plans costs h a.class a.op)
 
--- the parts of an operation are its share
+-- the parts of an operation add up to its share
 abbrev pub PartsAreTheShare : Type 0
 PartsAreTheShare = (plans : List Plan) (costs : CostModel) (x : OpId)
     → part plans costs Begin x + part plans costs Arrive x + part plans costs Data x + part plans costs Serve x ≡ share plans costs x
 
--- The laws of reasons, for every schedule and whatever is eager: `laws_of_reasons` ensures each.
+-- The laws of reasons hold for every schedule, whichever sends are eager. `laws_of_reasons` ensures each of them.
 
--- an operation that a reason names is stuck itself
+-- an operation that a reason names is itself stuck
 abbrev pub ReasonsAreStuck : Type 0
 ReasonsAreStuck = (plans : List Plan) (eager : OpId → Bool) (h : List Act) (x y : OpId)
     → IsInterleaving plans eager h
     → ((reason plans eager h x ≡ why.Op y) ⊎ (reason plans eager h x ≡ why.Partner y))
     → IsStuck plans eager h y
 
--- an operation whose reason is Op y needs y
+-- an operation with the reason Op y needs y, and what it needs of y has not happened
 abbrev pub OpIsNeeded : Type 0
 OpIsNeeded = (plans : List Plan) (eager : OpId → Bool) (h : List Act) (x y : OpId) → reason plans eager h x ≡ why.Op y → IsUnmet plans eager h x y
 
--- an operation whose reason is Partner y fits y, which has not started
+-- an operation with the reason Partner y fits y, which has not started
 abbrev pub PartnerIsAbsent : Type 0
 PartnerIsAbsent = (plans : List Plan) (eager : OpId → Bool) (h : List Act) (x y : OpId) → reason plans eager h x ≡ why.Partner y → IsAbsent plans eager h x y
 
--- where nothing is left to happen, each operation that fits a stuck one that is alone has started, and is paired
+-- after a complete interleaving, each operation that fits a stuck one with the reason Alone has started, and is paired
 -- with another
 abbrev pub AloneIsAlone : Type 0
 AloneIsAlone = (plans : List Plan) (eager : OpId → Bool) (h : List Act) (x y : OpId)
@@ -317,7 +317,7 @@ AloneIsAlone = (plans : List Plan) (eager : OpId → Bool) (h : List Act) (x y :
     → are_fit plans eager x y ≡ true
     → (has_started plans y h ≡ true) × IsTaken plans h y x
 
--- there a stuck calc is never alone
+-- then a stuck calc never has the reason Alone
 abbrev pub CalcIsNotAlone : Type 0
 CalcIsNotAlone = (plans : List Plan) (eager : OpId → Bool) (h : List Act) (x : OpId)
     → IsCompleteInterleaving plans eager h

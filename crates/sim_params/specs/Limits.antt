@@ -6,7 +6,7 @@ use Rattle.sim_params.specs.declared.params.Param.{Param}
 use Rattle.sim_params.specs.declared.params.Param.TheVariants.{Latency, Overhead, Gap, GapPerByte, Gp, OverheadPerByte, Op, Sync}
 use Rattle.sim_params.specs.Costs.{Numbers}
 
--- this parameter where its value is over the limit, and else what is found of the others
+-- this parameter if its value is over the limit, and otherwise the first of the others
 abbrev pub over_or : ℕ → ℕ → Param → Option Param → Option Param
 over_or limit value which others = if nat_lt limit value then Some which else others
 

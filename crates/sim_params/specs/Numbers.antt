@@ -3,7 +3,7 @@ use Rattle.std.specs.Prelude.{ℕ}
 use Rattle.sim_params.specs.declared.params.Params.{Params}
 use Rattle.sim_params.specs.Costs.{Numbers}
 
--- the numbers that the parameters are seen as
+-- the numbers of the parameters, as contracts see them
 abbrev pub numbers : Params → Numbers
 numbers p = record {
   latency = p.latency;
@@ -16,7 +16,7 @@ numbers p = record {
   sync = p.sync;
 }
 
--- the numbers that are asked for: L, o, g, G, Gp, O, Op, S
+-- the numbers of a request: L, o, g, G, Gp, O, Op, S
 abbrev pub asked : (l o g gb gp ob op s : ℕ) → Numbers
 asked l o g gb gp ob op s = record {
   latency = l;

@@ -1,4 +1,4 @@
--- The run: at each step the possible action with the least key happens.
+-- The run: in each step the possible action with the least key happens.
 use Rattle.std.specs.Prelude.{List, [], ◌∷◌}
 use Rattle.goal_graph.specs.declared.action.Timed.{Timed}
 use Rattle.goal_graph.specs.Schedule.{Plan}
@@ -21,7 +21,7 @@ module _ (plans : List Plan) (costs : CostModel) where
   abbrev pub IsFinished : List Timed → Type 0
   IsFinished h = (a : Timed) → ¬ (Possible plans costs h a)
 
-  -- a run after which nothing is possible
+  -- a complete run: no action is possible after it
   pub record IsCompleteRun (h : List Timed) : Type 0 where
     pub run : IsRun h
     pub finished : IsFinished h

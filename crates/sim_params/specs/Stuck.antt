@@ -1,4 +1,4 @@
--- Stuck operations, and the reason of each.
+-- Stuck operations, and the reason for each.
 use Rattle.std.specs.Prelude.{◌||◌, ◌&&◌, Bool, not, nat_lt, count_by, List, Option, Some, None}
 use Rattle.std.specs.List.{find}
 use Rattle.goal_graph.specs.declared.action.OpId.{OpId}
@@ -13,7 +13,7 @@ use Rattle.goal_graph.specs.Allowed.{has_started, has_ended, is_met}
 use Rattle.sim_params.specs.Costs.{CostModel, is_eager}
 
 module _ (plans : List Plan) (eager : OpId → Bool) where
-  -- the first thing that x needs and that is not there, in the order of the dependencies
+  -- the first need of x that is not met, in the order of the dependencies
   unfoldable pub first_unmet : List Act → OpId → Option Need
   first_unmet h x = find (λ (d : Need). not (is_met plans eager h d.when (needed x d))) (needs plans x)
 
@@ -33,17 +33,17 @@ module _ (plans : List Plan) (eager : OpId → Bool) where
   reason_by h x (Some d) = why.Op (needed x d)
   reason_by h x None = partner_or_alone (first_absent h x)
 
-  -- the reason of a stuck operation: what it needs and never comes, else the least partner that never starts,
+  -- the reason for a stuck operation: its first unmet need; or else the least fitting operation that never starts; or
   -- else it is alone
   unfoldable pub reason : List Act → OpId → Why
   reason h x = reason_by h x (first_unmet h x)
 
--- The same of a run: which operations have no end.
+-- The same for a run: which operations have no end.
 module _ (plans : List Plan) (costs : CostModel) (h : List Timed) where
   -- x has no end
   abbrev pub lacks_end : OpId → Bool
   lacks_end x = not (has_ended plans (is_eager plans costs) x (plain h))
 
-  -- an operation has none
+  -- some operation has no end
   abbrev pub is_stuck : Bool
   is_stuck = nat_lt 0 (count_by lacks_end (operations plans))

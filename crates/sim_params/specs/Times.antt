@@ -1,6 +1,6 @@
--- The times of a history, in nanoseconds: when operations start and end, when cpus and interfaces are free, and when
--- an action may happen. A history is newest first. A time that is absent counts as 0 here; whether it is there is
--- told by the rules without times.
+-- The times of a history, in nanoseconds: when operations start and end, when cpus and NICs are free, and when an
+-- action may happen. A history is newest first. A missing time counts as 0 here; the rules without times say whether it
+-- is missing.
 use Rattle.std.specs.Prelude.{ℕ, ◌+◌, ◌≡◌, ◌&&◌, max, Bool, true, false, List, [], ◌∷◌, Option, Some, None, if◌then◌else◌}
 use Rattle.goal_graph.specs.declared.action.OpId.{OpId}
 use Rattle.goal_graph.specs.declared.action.Timed.{Timed}
@@ -19,22 +19,22 @@ use Rattle.goal_graph.specs.Matching.{pairs, partner, is_paired}
 use Rattle.goal_graph.specs.Allowed.{last_class, has_started, has_ended, allowed}
 use Rattle.sim_params.specs.Costs.{CostModel, over, over_one, gap, gap_one, flight, flight_one, latency, is_eager}
 
--- the time of the action since which a test holds
+-- the time of the action from which on a test holds
 unfoldable pub since : (List Act → Bool) → List Timed → ℕ
 since test [] = 0
 since test (a ∷ h) = if test (plain h) then since test h else (if test (plain (a ∷ h)) then a.time else 0)
 
--- the greatest of the numbers that f gives, 0 for an empty list
+-- the greatest of the numbers of f, or 0 for an empty list
 unfoldable pub greatest : {A : Type 0} → (A → ℕ) → List A → ℕ
 greatest f [] = 0
 greatest f (x ∷ xs) = max (f x) (greatest f xs)
 
--- a number at the partner, 0 where there is none
+-- a number of the partner, or 0 if there is none
 abbrev pub at_partner : (OpId → ℕ) → Option OpId → ℕ
 at_partner f None = 0
 at_partner f (Some m) = f m
 
--- the actions that hold a cpu, the sending side of an interface, its receiving side
+-- the actions that hold a cpu; the sending side of a NIC; its receiving side
 abbrev pub holds_cpu : Class → Bool
 holds_cpu Arrive = false
 holds_cpu Serve = true
@@ -59,7 +59,7 @@ module _ (plans : List Plan) (costs : CostModel) where
   abbrev pub mate : List Timed → OpId → Option OpId
   mate h x = partner (pairs plans (plain h)) x
 
-  -- how long an action holds its cpu; b is the size of the message, never that of the receive
+  -- how long an action holds its cpu; the size that counts is that of the message, never that of the receive
   abbrev pub cpu_hold : List Timed → Class → OpId → Option Kind → ℕ
   cpu_hold h Begin x (Some (Calc nanos)) = nanos
   cpu_hold h Begin x (Some (Send bytes to tag)) =
@@ -68,20 +68,20 @@ module _ (plans : List Plan) (costs : CostModel) where
   cpu_hold h Serve x (Some (Recv room from tag)) = at_partner (over plans costs) (mate h x)
   cpu_hold h _ x _ = 0
 
-  -- how long an action holds the sending side of its interface
+  -- how long an action holds the sending side of its NIC
   abbrev pub tx_hold : Class → OpId → Option Kind → ℕ
   tx_hold Begin x (Some (Send bytes to tag)) =
       if is_eager plans costs x then gap plans costs x else gap_one plans costs x
   tx_hold Data x (Some (Send bytes to tag)) = gap plans costs x
   tx_hold _ x _ = 0
 
-  -- how long an action holds the receiving side of its interface
+  -- how long an action holds the receiving side of its NIC
   abbrev pub rx_hold : List Timed → Class → OpId → Option Kind → ℕ
   rx_hold h Serve x (Some (Recv room from tag)) = at_partner (gap plans costs) (mate h x)
   rx_hold h _ x _ = 0
 
-  -- When the cpu that x uses is free: the greatest time + hold of the actions on it. The partner of a served
-  -- receive is that of the actions before the Serve.
+  -- When the cpu of x is free: the greatest time plus hold of the actions on it. The partner of a served receive is its
+  -- partner before the Serve.
   unfoldable pub cpu : List Timed → OpId → ℕ
   cpu [] x = 0
   cpu (a ∷ h) x =
@@ -90,7 +90,7 @@ module _ (plans : List Plan) (costs : CostModel) where
       then a.time + cpu_hold h a.class a.op (kind_at plans a.op)
       else 0)
 
-  -- when the sending side of the interface that x uses is free
+  -- when the sending side of the NIC of x is free
   unfoldable pub tx : List Timed → OpId → ℕ
   tx [] x = 0
   tx (a ∷ h) x =
@@ -99,7 +99,7 @@ module _ (plans : List Plan) (costs : CostModel) where
       then a.time + tx_hold a.class a.op (kind_at plans a.op)
       else 0)
 
-  -- when the receiving side of the interface that x uses is free
+  -- when the receiving side of the NIC of x is free
   unfoldable pub rx : List Timed → OpId → ℕ
   rx [] x = 0
   rx (a ∷ h) x =
@@ -112,17 +112,17 @@ module _ (plans : List Plan) (costs : CostModel) where
   abbrev pub start : List Timed → OpId → ℕ
   start h x = since (has_started plans x) h
 
-  -- when x ends: its last action lets go of the cpu
+  -- when x ends: its last action releases the cpu
   abbrev pub end : List Timed → OpId → ℕ
   end h x =
       since (has_ended plans (is_eager plans costs) x) h + cpu_hold h (last_class (is_eager plans costs x) (kind_at plans x)) x (kind_at plans x)
 
-  -- the moment of y that a dependency waits for
+  -- the start or end of y that a dependency waits for
   abbrev pub met_at : List Timed → When → OpId → ℕ
   met_at h AfterEnd y = end h y
   met_at h AfterStart y = start h y
 
-  -- the ready time: the greatest of what x waits for, 0 where it needs nothing
+  -- the ready time: the greatest time that x waits for, or 0 if it needs nothing
   unfoldable pub ready : List Timed → OpId → ℕ
   ready h x = greatest (λ (d : Need). met_at h d.when (needed x d)) (needs plans x)
 

@@ -1,4 +1,4 @@
-// What messages cost.
+//! The costs of messages.
 ghost use Rattle.std.specs.Prelude.{◌≡◌, ◌<◌, ◌≤◌, ◌+◌, ◌^◌};
 ghost use Rattle.sim_params.specs.Costs.{CostModel, up};
 ghost use Rattle.sim_params.specs.Bounded.{IsBounded};
@@ -7,12 +7,12 @@ use crate::Params;
 use crate::params::MAX_PICOS;
 use goal_limits::MAX_PER_BYTE;
 
-/// The spans of time of one message, in nanoseconds.
+/// The times of one message, in nanoseconds.
 #[derive(Clone, Copy, Debug, PartialEq, Eq)]
 pub struct Spans {
-    /// How long it holds a cpu at each side.
+    /// How long it holds a cpu, at each side.
     pub over: u64,
-    /// How long it holds an interface at each side.
+    /// How long it holds a side of a NIC, at each end.
     pub gap: u64,
     /// How long it takes from its start until it arrives.
     pub flight: u64,
@@ -20,25 +20,25 @@ pub struct Spans {
 
 /// The costs of messages between ranks. Every number is at most 2^61, for sizes of at most 2^40-1 bytes.
 pub trait Costs {
-    /// What the costs are, as functions of source, target and size.
+    /// The costs, as functions of sender, receiver and size.
     ghost model: { Self → CostModel };
 
-    /// How long a message of `bytes` bytes holds a cpu at each side, in nanoseconds.
+    /// Returns how long a message of `bytes` bytes holds a cpu at each side, in nanoseconds.
     fn over(&self, from: u32, to: u32, bytes: u64) -> u64
         requires { bytes < 2 ^ 40 }
         ensures { result ≡ (model self.now).over from to bytes };
 
-    /// How long it holds an interface at each side, in nanoseconds.
+    /// Returns how long it holds a side of a NIC at each end, in nanoseconds.
     fn gap(&self, from: u32, to: u32, bytes: u64) -> u64
         requires { bytes < 2 ^ 40 }
         ensures { result ≡ (model self.now).gap from to bytes };
 
-    /// How long it takes from its start until it arrives, in nanoseconds.
+    /// Returns how long it takes from its start until it arrives, in nanoseconds.
     fn flight(&self, from: u32, to: u32, bytes: u64) -> u64
         requires { bytes < 2 ^ 40 }
         ensures { result ≡ (model self.now).flight from to bytes };
 
-    /// These three at once, in nanoseconds, for who needs more than one: costs that look the message up do so once for all.
+    /// Returns these three, in nanoseconds. Costs that have to look the message up do so only once.
     fn spans(&self, from: u32, to: u32, bytes: u64) -> Spans
         requires { bytes < 2 ^ 40 }
         ensures over { result.over ≡ (model self.now).over from to bytes }
@@ -52,11 +52,11 @@ pub trait Costs {
         }
     }
 
-    /// How long the clearance of a large message takes back to its sender, in nanoseconds.
+    /// Returns how long the clear to send (CTS) of a rendezvous message takes back to the sender, in nanoseconds.
     fn latency(&self, from: u32, to: u32) -> u64
         ensures { result ≡ (model self.now).latency from to };
 
-    /// Whether it is sent whole, with no handshake.
+    /// Returns whether the message is eager: it is sent without a handshake.
     fn eager(&self, from: u32, to: u32, bytes: u64) -> bool
         requires { bytes < 2 ^ 40 }
         ensures { result ≡ (model self.now).eager from to bytes };
@@ -65,14 +65,15 @@ pub trait Costs {
     ghost bounded: { (costs : Self) → IsBounded (model costs) };
 }
 
-/// The costs of LogGOPS, the same between all ranks.
+/// The costs of LogGOPS, the same between all ranks. `specs/Costs` has the formulas (`log_gops`).
 #[derive(Clone, Copy, Debug, PartialEq, Eq)]
 pub struct LogGops {
+    /// The parameters.
     pub params: Params,
 }
 
-// What the bytes of a message cost at so many nanoseconds and so many picoseconds for each but the first, in nanoseconds,
-// rounded up once.
+// Returns the cost of the bytes of a message, in nanoseconds, for these nanoseconds and picoseconds for each byte but
+// the first. The picoseconds are rounded up once.
 fn up(nanos: u64, picos: u64, bytes: u64) -> u64
     requires nanos { nanos ≤ MAX_PER_BYTE }
     requires picos { picos ≤ MAX_PICOS }
@@ -88,7 +89,7 @@ impl LogGops {
     ghost use Rattle.std.specs.Prelude.{◌≡◌, ◌<◌, ◌≤◌, ◌+◌, ◌^◌};
     ghost use Rattle.sim_params.specs.Costs.{up};
 
-    // What the bytes of a message cost a cpu.
+    // Returns the cost of the bytes of a message on a cpu, in nanoseconds.
     fn overhead_up(&self, bytes: u64) -> u64
         requires { bytes < 2 ^ 40 }
         ensures is { result ≡ up self.now.params.overhead_per_byte self.now.params.overhead_picos bytes }
@@ -98,7 +99,7 @@ impl LogGops {
         up(params.overhead_per_byte, params.overhead_picos, bytes)
     }
 
-    // What they cost an interface.
+    // Returns the cost of the bytes of a message on a side of a NIC, in nanoseconds.
     fn gap_up(&self, bytes: u64) -> u64
         requires { bytes < 2 ^ 40 }
         ensures is { result ≡ up self.now.params.gap_per_byte self.now.params.gap_picos bytes }

@@ -1,29 +1,29 @@
-// The parameters of LogGOPS, kept within their limits.
+//! The parameters of LogGOPS, within their limits.
 ghost use Rattle.std.specs.Prelude.{◌≡◌, ◌≤◌, ◌<◌, None, Some, IfOk, IfErr, OnOk, OnErr};
 ghost use Rattle.sim_params.specs.Limits.{first_over};
 ghost use Rattle.sim_params.specs.Bounded.{IsWithinLimits};
 
 use goal_limits::{MAX_PARAM, MAX_PER_BYTE};
 
-/// The largest gap and overhead for each byte in picoseconds, besides those in nanoseconds.
+/// The limit of Gp and Op, the picoseconds per byte that are added to G and O.
 pub const MAX_PICOS: u64 = 999;
 
-/// The latency L of a run where none is given, in nanoseconds.
+/// The default of the latency L, in nanoseconds.
 pub const DEFAULT_LATENCY: u64 = 2_500;
 
-/// The overhead o, in nanoseconds.
+/// The default of the overhead o, in nanoseconds.
 pub const DEFAULT_OVERHEAD: u64 = 1_500;
 
-/// The gap g, in nanoseconds.
+/// The default of the gap g, in nanoseconds.
 pub const DEFAULT_GAP: u64 = 1_000;
 
-/// The gap per byte G, in nanoseconds per byte. Gp is 0 where it is not given.
+/// The default of the gap per byte G, in nanoseconds per byte. The default of Gp is 0.
 pub const DEFAULT_GAP_PER_BYTE: u64 = 6;
 
-/// The overhead per byte O, in nanoseconds per byte. Op is 0 where it is not given.
+/// The default of the overhead per byte O, in nanoseconds per byte. The default of Op is 0.
 pub const DEFAULT_OVERHEAD_PER_BYTE: u64 = 0;
 
-/// The greatest eager size S, in bytes.
+/// The default of the greatest eager size S, in bytes.
 pub const DEFAULT_SYNC: u64 = 65_535;
 
 /// A parameter of the costs, in the order in which they are checked.
@@ -50,29 +50,28 @@ pub enum Param {
 /// A parameter that is over its limit.
 #[derive(Clone, Copy, Debug, PartialEq, Eq)]
 pub struct ParamFault {
-    /// The first that is, in the order L, o, g, G, Gp, O, Op, S.
+    /// The first such parameter, in the order L, o, g, G, Gp, O, Op, S.
     pub which: Param,
 }
 
-/// The parameters of LogGOPS. Each keeps its limit: 2^40-1 for the latency, the overhead, the gap and the greatest
-/// eager size, 2^20-1 for the two costs per byte in nanoseconds, 999 for those in picoseconds.
+/// The parameters of LogGOPS, each within its limit: 2^40-1 for L, o, g and S, 2^20-1 for G and O, 999 for Gp and Op.
 #[derive(Clone, Copy, Debug, PartialEq, Eq)]
 pub struct Params {
-    /// L: nanoseconds from one rank to another.
+    /// L: the latency from one rank to another, in nanoseconds.
     pub latency: u64,
-    /// o: nanoseconds of a cpu for each message.
+    /// o: the time of a cpu for each message, in nanoseconds.
     pub overhead: u64,
-    /// g: nanoseconds of an interface for each message.
+    /// g: the time of a side of a NIC for each message, in nanoseconds.
     pub gap: u64,
-    /// G: nanoseconds of an interface for each byte but the first.
+    /// G: the time of a side of a NIC for each byte but the first, in nanoseconds.
     pub gap_per_byte: u64,
-    /// Gp: picoseconds of an interface for each byte but the first, besides G.
+    /// Gp: as G, in picoseconds, added to it.
     pub gap_picos: u64,
-    /// O: nanoseconds of a cpu for each byte but the first.
+    /// O: the time of a cpu for each byte but the first, in nanoseconds.
     pub overhead_per_byte: u64,
-    /// Op: picoseconds of a cpu for each byte but the first, besides O.
+    /// Op: as O, in picoseconds, added to it.
     pub overhead_picos: u64,
-    /// S: the greatest size, in bytes, that is sent eagerly.
+    /// S: the greatest size that is sent eagerly, in bytes.
     pub sync: u64,
     pub ghost within_limits: { IsWithinLimits (record {
       latency = latency;
@@ -90,8 +89,8 @@ impl Params {
     ghost use Rattle.sim_params.specs.Costs.{Numbers};
     ghost use Rattle.sim_params.specs.Numbers.{numbers, asked};
 
-    /// The parameters with these numbers, and no picoseconds: L, o and g in nanoseconds, `gb` for G and `ob` for O in
-    /// nanoseconds per byte, S in bytes. Where one is over its limit, the first that is.
+    /// Returns the parameters with these numbers, and no picoseconds: L, o and g in nanoseconds, `gb` for G and `ob`
+    /// for O in nanoseconds per byte, S in bytes. `Err` names the first that is over its limit.
     pub fn new(l: u64, o: u64, g: u64, gb: u64, ob: u64, s: u64) -> Result<Params, ParamFault>
         ensures numbers { IfOk result (λ p. numbers p ≡ asked l o g gb 0 ob 0 s) }
         ensures within { OnOk result (first_over (asked l o g gb 0 ob 0 s) ≡ None) }
@@ -100,8 +99,9 @@ impl Params {
         Params::fine(l, o, g, gb, 0, ob, 0, s)
     }
 
-    /// The parameters with these numbers: L, o and g in nanoseconds, `gb` for G and `ob` for O in nanoseconds per byte,
-    /// `gp` for Gp and `op` for Op in picoseconds per byte, S in bytes. Where one is over its limit, the first that is.
+    /// Returns the parameters with these numbers: L, o and g in nanoseconds, S in bytes; `gb` for G and `ob` for O in
+    /// nanoseconds per byte; `gp` for Gp and `op` for Op in picoseconds per byte. `Err` names the first that is over
+    /// its limit.
     pub fn fine(
         l: u64,
         o: u64,
@@ -137,7 +137,7 @@ impl Params {
     }
 }
 
-/// Takes a value up to a limit. A value over it is a fault of this parameter.
+/// Checks that a value is within a limit. Otherwise the fault names this parameter.
 fn at_most(value: u64, limit: u64, which: Param) -> Result<(), ParamFault>
     ensures within { OnOk result (value ≤ limit) }
     ensures over { OnErr result (limit < value) }

@@ -1,4 +1,4 @@
-// The time budget: a bound on every time of a run, known before it.
+//! The time budget: a bound on every time of a run that is known before it.
 ghost use Rattle.std.specs.Prelude.{◌≡◌, ◌<◌, ◌^◌};
 ghost use Rattle.goal_graph.specs.Fault.{IsOp};
 ghost use Rattle.sim_params.specs.Budget.{budget, share, message_share, request_share};
@@ -6,7 +6,8 @@ ghost use Rattle.sim_params.specs.Budget.{budget, share, message_share, request_
 use crate::Costs;
 use goal_graph::{Kind, OpId, Sched};
 
-/// The time budget of a run, in nanoseconds: the sum of what each operation may add to the times. It is below 2^87.
+/// Returns the time budget of a run, in nanoseconds: the sum of the most that each operation may add to the times. It
+/// is below 2^87.
 pub fn budget<C: Costs>(sched: &Sched, costs: &C) -> u128
     ensures { result ≡ budget sched.now (C.model costs.now) }
 {
@@ -19,7 +20,7 @@ pub fn budget<C: Costs>(sched: &Sched, costs: &C) -> u128
     sum
 }
 
-// What an operation may add to the times.
+// Returns the most that an operation may add to the times.
 fn share<C: Costs>(sched: &Sched, costs: &C, id: OpId) -> u128
     requires { IsOp sched.now id }
     ensures { result ≡ share sched.now (C.model costs.now) id }
@@ -39,7 +40,7 @@ fn share<C: Costs>(sched: &Sched, costs: &C, id: OpId) -> u128
     }
 }
 
-// What a message may add to the times.
+// Returns the most that a message may add to the times.
 fn message_share<C: Costs>(costs: &C, from: u32, to: u32, bytes: u64) -> u64
     requires { bytes < 2 ^ 40 }
     ensures { result ≡ message_share (C.model costs.now) from to bytes }
@@ -48,7 +49,7 @@ fn message_share<C: Costs>(costs: &C, from: u32, to: u32, bytes: u64) -> u64
     2 * (spans.over + spans.gap) + spans.flight
 }
 
-// What the handshake before a large message may add.
+// Returns the most that the handshake of a rendezvous message may add.
 fn request_share<C: Costs>(costs: &C, from: u32, to: u32) -> u64
     ensures { result ≡ request_share (C.model costs.now) from to }
 {
