@@ -1,5 +1,5 @@
 #!/usr/bin/env python3
-"""Tests of .ci/believed: what it reaches name by name, and that it tells a table or a group that is not right."""
+"""Tests of .ci/believed: what it reaches name by name, and that it reports a wrong table, group or name."""
 from __future__ import annotations
 
 import os
@@ -12,26 +12,50 @@ TOP = os.path.dirname(os.path.dirname(os.path.dirname(os.path.abspath(__file__))
 
 
 class Believed(unittest.TestCase):
-    def setUp(self) -> None:
-        self.top = tempfile.mkdtemp()
-        self.addCleanup(shutil.rmtree, self.top)
-        keep = shutil.ignore_patterns("out", "proofs", "must-fail", "data")
-        shutil.copytree(f"{TOP}/crates", f"{self.top}/crates", ignore=keep)
-        os.makedirs(f"{self.top}/docs")
-        shutil.copy(f"{TOP}/docs/PROVED.md", f"{self.top}/docs")
-        os.makedirs(f"{self.top}/.ci")
-        shutil.copy(f"{TOP}/.ci/believed", f"{self.top}/.ci")
+    top = ""
+
+    @classmethod
+    def setUpClass(cls) -> None:
+        """A copy of what is read and changed; the rest is linked."""
+        cls.top = tempfile.mkdtemp()
+        cls.addClassCleanup(shutil.rmtree, cls.top)
+        linked = ("proofs", "must-fail")
+        shutil.copytree(f"{TOP}/crates", f"{cls.top}/crates", ignore=shutil.ignore_patterns("out", "data", *linked))
+        for crate in os.listdir(f"{TOP}/crates"):
+            for folder in linked:
+                if os.path.exists(f"{TOP}/crates/{crate}/{folder}"):
+                    os.symlink(f"{TOP}/crates/{crate}/{folder}", f"{cls.top}/crates/{crate}/{folder}")
+        shutil.copytree(f"{TOP}/docs", f"{cls.top}/docs")
+        os.makedirs(f"{cls.top}/.ci")
+        for folder in ("", ".ci/"):
+            for name in os.listdir(f"{TOP}/{folder}"):
+                if name not in (".git", "believed") and not os.path.exists(f"{cls.top}/{folder}{name}"):
+                    os.symlink(f"{TOP}/{folder}{name}", f"{cls.top}/{folder}{name}")
+        shutil.copy(f"{TOP}/.ci/believed", f"{cls.top}/.ci")
 
     def called(self, *words: str) -> tuple[int, str]:
         answer = subprocess.run([f"{self.top}/.ci/believed", *words], capture_output=True, text=True, check=False)
         return answer.returncode, answer.stdout
 
-    def change(self, path: str, old: str, new: str) -> None:
+    def kept(self, path: str) -> str:
+        """The text of a file, which it has again after the test."""
         with open(f"{self.top}/{path}") as it:
             text = it.read()
-        self.assertEqual(text.count(old), 1, old)
+        self.addCleanup(self.write, path, text)
+        return text
+
+    def write(self, path: str, text: str) -> None:
         with open(f"{self.top}/{path}", "w") as it:
-            it.write(text.replace(old, new))
+            it.write(text)
+
+    def change(self, path: str, old: str, new: str) -> None:
+        text = self.kept(path)
+        self.assertEqual(text.count(old), 1, old)
+        self.write(path, text.replace(old, new))
+
+    def write_table(self) -> None:
+        self.kept("docs/PROVED.md")
+        self.called("--write")
 
     def test_names_are_followed_and_not_files(self) -> None:
         reached = dict(line.split(": ") for line in self.called("--list")[1].splitlines())
@@ -46,7 +70,7 @@ class Believed(unittest.TestCase):
         status, said = self.called()
         self.assertEqual(status, 1)
         self.assertIn("docs/PROVED.md", said)
-        self.called("--write")
+        self.write_table()
         self.assertEqual(self.called()[0], 0)
 
     def test_a_file_in_another_group_is_told(self) -> None:
@@ -59,7 +83,7 @@ class Believed(unittest.TestCase):
         rule = "abbrev pub IsLess : List ℕ → List ℕ → Type 0\n"
         law = "abbrev pub NoneIsLess : Type 0\nNoneIsLess = (k : List ℕ) → ¬ (IsLess k k)\n\n"
         self.change("crates/goal_graph/specs/Order.antt", rule, law + rule)
-        self.called("--write")
+        self.write_table()
         status, said = self.called()
         self.assertEqual(status, 1)
         self.assertIn("crates/goal_graph/specs/Order.antt: NoneIsLess is in the first group, and the top call does not reach it", said)
@@ -69,6 +93,54 @@ class Believed(unittest.TestCase):
         status, said = self.called()
         self.assertEqual(status, 1)
         self.assertIn(".ci/believed: BY_ITSELF lists goal_blocks/Walk, and needs not", said)
+
+    def test_a_constant_of_code_in_a_definition_is_told(self) -> None:
+        path = "crates/goal_graph/specs/Order.antt"
+        self.change(path, "key a = a.time", "key a = MOST_TIME")
+        use = "use Rattle.goal_graph.specs.declared.plan.TheConstants.{MOST_TIME}\n\n"
+        self.change(path, "abbrev pub IsLess : ", use + "abbrev pub IsLess : ")
+        self.write_table()
+        status, said = self.called()
+        self.assertEqual(status, 1)
+        self.assertIn(f"{path}: key cites MOST_TIME of src/ (goal_graph/plan)", said)
+        self.assertIn("of src/: MOST_TIME of goal_graph/plan, cited by key of goal_graph/Order", self.called("--list")[1])
+        with open(f"{self.top}/docs/PROVED.md") as it:
+            self.assertIn("`MOST_TIME`", it.read())
+
+    def test_an_exception_for_code_that_is_none_is_told(self) -> None:
+        begin = "OF_CODE: dict[str, str] = {"
+        self.change(".ci/believed", begin, begin + '\n    "goal_graph/plan": "no reason",\n')
+        self.assertIn(".ci/believed: OF_CODE lists goal_graph/plan, and needs not", self.called()[1])
+
+    def test_a_name_that_is_nowhere_is_told(self) -> None:
+        self.change("docs/PROVED.md", "`HaveReturned`", "`HaveGone`")
+        status, said = self.called()
+        self.assertEqual(status, 1)
+        self.assertRegex(said, r"docs/PROVED.md:\d+: `HaveGone` is not in the sources")
+
+    def test_a_name_that_a_comment_alone_has_is_told(self) -> None:
+        self.change("docs/PROVED.md", "`HaveReturned`", "`HaveGone`")
+        self.change("crates/goal_graph/specs/Order.antt", "abbrev pub IsLess : ", "-- HaveGone\nabbrev pub IsLess : ")
+        self.assertIn("`HaveGone` is not in the sources", self.called()[1])
+
+    def test_a_row_whose_call_or_clause_is_gone_is_told(self) -> None:
+        self.change("crates/sim_match/src/laws.rt", "pub fn laws_of_posts_and_arrivals", "pub fn laws_of_posts")
+        self.change("crates/goal_words/src/laws.rt", "ensures options_join {", "ensures options_joined {")
+        said = self.called()[1]
+        self.assertIn("there is no call `laws_of_posts_and_arrivals` in sim_match, sim_resources", said)
+        self.assertIn("`laws_of_lines` has no clause `options_join`", said)
+
+    def test_a_row_for_a_contract_without_names_is_told_where_it_has_them(self) -> None:
+        self.change("docs/PROVED.md", "| `Sentence::of` | `sentence`, `priced` |", "| `Sentence::of` | — |")
+        self.assertIn("`Sentence::of` has no clause without a name", self.called()[1])
+
+    def test_a_mutant_that_no_clause_of_this_name_refuses_is_told(self) -> None:
+        self.change("docs/PROVED.md", "| `said` of `say` |", "| `read` of `say` |")
+        self.assertIn("`say` has no clause `read`", self.called()[1])
+
+    def test_a_clause_of_a_trait_counts_for_those_who_meet_it(self) -> None:
+        self.change("docs/PROVED.md", "| `EventOrder::before` |", "| `EventKey::before` |")
+        self.assertEqual(self.called()[0], 0)
 
 
 if __name__ == "__main__":
