@@ -4,11 +4,14 @@ from __future__ import annotations
 
 import os
 import pty
+import signal
 import subprocess
 import sys
 import tempfile
+import time
 import unittest
 import xml.etree.ElementTree
+from typing import Any
 
 TOP = os.path.dirname(os.path.dirname(os.path.dirname(os.path.abspath(__file__))))
 sys.path.insert(0, os.path.join(TOP, "tools"))
@@ -82,8 +85,9 @@ class Axes(unittest.TestCase):
 class Results(unittest.TestCase):
     def test_the_exchange(self) -> None:
         self.assertEqual(table(f"schedule={EXCHANGE}"), [
-            ["schedule", "L", "o", "g", "G", "O", "S", "finish", "stuck", "wait", "protocol"],
-            [EXCHANGE, "2500", "1500", "1000", "6", "0", "65535", "11408", "0", "9908", "eager"]])
+            ["schedule", "L", "o", "g", "G", "O", "S", "finish", "stuck", "protocol"],
+            [EXCHANGE, "2500", "1500", "1000", "6", "0", "65535", "11408", "0", "eager"]])
+        self.assertEqual(rows(["finish", "stuck", "wait", "protocol"], f"schedule={EXCHANGE}", "--wait"), [["11408", "0", "9908", "eager"]])
 
     def test_what_goal_says(self) -> None:
         for size in ("8", "100000"):
@@ -92,7 +96,7 @@ class Results(unittest.TestCase):
             finish = program.call(program.chosen(), ["sim", "/dev/stdin", *words], text).out.split()[9]
             waits = program.call(program.chosen(), ["waits", "/dev/stdin", *words], text).out
             greatest = next(line.split()[3] for line in waits.splitlines() if line.startswith("wait"))
-            lines = rows(["finish", "stuck", "wait", "protocol"], "algorithm=reduce", "ranks=6", f"size={size}", "root=2", "G=0.080", "L=700")
+            lines = rows(["finish", "stuck", "wait", "protocol"], "algorithm=reduce", "ranks=6", f"size={size}", "root=2", "G=0.080", "L=700", "--wait")
             self.assertEqual(lines, [[finish, "0", greatest, "eager" if size == "8" else "rendezvous"]])
 
     def test_stuck_runs(self) -> None:
@@ -116,7 +120,7 @@ class Results(unittest.TestCase):
                 with open(name, "w", encoding="utf-8") as file:
                     file.write(text)
             words = [f"schedule={names[0]}", f"machine={names[1]}"]
-            self.assertEqual(table(*words, "cards=own,1,2,2 in turn", "placement=block,cyclic")[1:], [
+            self.assertEqual(table(*words, "cards=own,1,2,2 in turn", "placement=block,cyclic", "--wait")[1:], [
                 [*names[:2], cards, placement, finish, "0", wait, "eager"] for cards, placement, finish, wait in (
                     ("own", "block", "2199", "2099"), ("own", "cyclic", "20", "15"), ("1", "block", "3248", "3148"),
                     ("1", "cyclic", "20", "15"), ("2", "block", "2199", "2099"), ("2", "cyclic", "20", "15"),
@@ -128,11 +132,12 @@ class Results(unittest.TestCase):
         done = sweep("algorithm=allreduce", "ranks=4..8+1", "size=8")
         self.assertEqual(done.returncode, 2)
         self.assertIn("3 of 5 runs failed, the first at algorithm=allreduce ranks=5 size=8: goal: refused: generator: power of two", done.stderr)
-        self.assertEqual([line.endswith(",,,") for line in done.stdout.splitlines()[1:]], [False, True, True, True, False])
+        self.assertEqual([line.endswith(",,") for line in done.stdout.splitlines()[1:]], [False, True, True, True, False])
 
     def test_no_run_at_all_is_told_and_no_picture_is_drawn(self) -> None:
-        done = sweep("algorithm=bcast", "ranks=70000,80000", "size=8", "--plot", "/no/such/picture")
-        self.assertEqual((done.returncode, len(told(done))), (2, 1))
+        with tempfile.TemporaryDirectory() as folder:
+            done = sweep("algorithm=bcast", "ranks=70000,80000", "size=8", "--plot", os.path.join(folder, "picture"))
+            self.assertEqual((done.returncode, len(told(done)), os.listdir(folder)), (2, 1, []))
         self.assertIn("2 of 2 runs failed, the first at algorithm=bcast ranks=70000 size=8: goal: ", done.stderr)
 
     def test_how_far_it_is_on_a_terminal(self) -> None:
@@ -142,19 +147,140 @@ class Results(unittest.TestCase):
         os.close(its)
         told = os.read(ours, 4096)
         os.close(ours)
-        self.assertEqual((done.returncode, told.split(b"\r")[-1].strip() or told.split(b"\r")[-2]), (0, b"sweep: 2 of 2 runs"))
+        self.assertEqual((done.returncode, (told.split(b"\r")[-1].strip() or told.split(b"\r")[-2]).strip()), (0, b"sweep: 2 of 2 runs"))
 
     def test_one_job_and_many_give_the_same(self) -> None:
         words = ["algorithm=scan,reduce", "ranks=2..8+2", "size=1..64x4"]
         self.assertEqual(sweep(*words, "--jobs", "1").stdout, sweep(*words, "--jobs", "8").stdout)
 
 
+def is_ended(number: int) -> bool:
+    """Whether a process ends within ten seconds."""
+    for _ in range(100):
+        try:
+            os.kill(number, 0)
+        except ProcessLookupError:
+            return True
+        time.sleep(0.1)
+    return False
+
+
+class Lasting(unittest.TestCase):
+    """What was done lasts, and nothing is left in the temporary folder."""
+
+    WORDS = (f"schedule={EXCHANGE}", "L=1..4000+1")
+
+    def setUp(self) -> None:
+        holder = tempfile.TemporaryDirectory()
+        self.addCleanup(holder.cleanup)
+        self.folder, self.path = os.path.join(holder.name, "temporary"), os.path.join(holder.name, "rows.csv")
+        os.mkdir(self.folder)
+
+    def begun(self, *words: str, **how: object) -> subprocess.Popen[str]:
+        call: Any = subprocess.Popen
+        begun: subprocess.Popen[str] = call([os.path.join(TOP, "tools", "sweep"), *words], stderr=subprocess.PIPE, text=True,
+                                            env={**os.environ, "TMPDIR": self.folder}, **how)
+        return begun
+
+    def test_a_signal_leaves_the_rows_that_are_done(self) -> None:
+        for number, status in ((signal.SIGINT, 130), (signal.SIGTERM, 143)):
+            with self.begun(*self.WORDS, stdout=subprocess.PIPE) as running:
+                assert running.stdout
+                lines = [running.stdout.readline() for _ in range(5)]
+                running.send_signal(number)
+                lines += running.stdout.read().splitlines(True)
+                running.wait()
+            self.assertEqual((running.returncode, os.listdir(self.folder)), (status, []))
+            self.assertEqual([line.split(",")[1] for line in lines[1:]], [str(at) for at in range(1, len(lines))])
+            self.assertTrue(all(line.endswith(",eager\n") for line in lines[1:]))
+
+    def test_a_signal_ends_what_is_being_run(self) -> None:
+        """The program is one that sleeps, and says who it is."""
+        program_path, said = os.path.join(self.folder, "..", "sleeps"), os.path.join(self.folder, "..", "who")
+        with open(program_path, "w", encoding="utf-8") as file:
+            file.write(f"#!/bin/sh\necho $$ >>{said}\nexec sleep 600\n")
+        os.chmod(program_path, 0o755)
+        with self.begun(*self.WORDS, "--goal", program_path, "--jobs", "2", stdout=subprocess.DEVNULL) as running:
+            while not os.path.exists(said) or not os.path.getsize(said):
+                time.sleep(0.05)
+            running.terminate()
+            running.wait()
+        with open(said, encoding="utf-8") as file:
+            self.assertTrue(all(is_ended(int(number)) for number in file))
+        self.assertEqual(os.listdir(self.folder), [])
+
+    def test_a_reader_that_goes_and_a_full_disk(self) -> None:
+        with self.begun(*self.WORDS, stdout=subprocess.PIPE) as running:
+            assert running.stdout and running.stderr
+            self.assertEqual(running.stdout.readline().split(",")[0], "schedule")
+            running.stdout.close()
+            self.assertEqual((running.wait(), os.listdir(self.folder)), (5, []))
+        with open("/dev/full", "w", encoding="utf-8") as full, self.begun(*self.WORDS, stdout=full) as running:
+            assert running.stderr
+            told = running.stderr.read().splitlines()[-1]
+        self.assertEqual((running.returncode, told, os.listdir(self.folder)), (2, "sweep: standard output: No space left on device", []))
+        self.assertIn("/dev/full: no regular file", sweep(*self.WORDS, "--into", "/dev/full").stderr)
+
+    def test_a_file_that_cannot_grow_keeps_its_whole_rows(self) -> None:
+        """A limit on the size of files stands for a full disk."""
+        call = f"ulimit -f 1; exec {os.path.join(TOP, 'tools', 'sweep')} schedule={EXCHANGE} L=1..40+1 --into {self.path} --jobs 1"
+        done = subprocess.run(["bash", "-c", call], capture_output=True, text=True, check=False)
+        self.assertEqual((done.returncode, told(done)), (2, [f"sweep: {self.path}: File too large"]))
+        self.assertEqual(self.into("L=1..40+1").returncode, 0)
+        self.assertEqual([line.split(",")[1] for line in self.read().splitlines()[1:]], [str(at) for at in range(1, 41)])
+
+    def into(self, *words: str) -> subprocess.CompletedProcess[str]:
+        return sweep(f"schedule={EXCHANGE}", *words, "--into", self.path)
+
+    def read(self) -> str:
+        with open(self.path, encoding="utf-8") as file:
+            return file.read()
+
+    def test_a_file_is_continued_where_it_ends(self) -> None:
+        self.assertEqual(self.into("L=1..6+1").returncode, 0)
+        whole = self.read()
+        lines = whole.splitlines(True)
+        self.assertEqual((len(lines), len({line.rsplit(",", 1)[1] for line in lines[1:]})), (7, 1))
+        for cut in ("", lines[0][:9], "".join(lines[:1]), "".join(lines[:4]), "".join(lines[:4]) + lines[4][:9], whole):
+            with open(self.path, "w", encoding="utf-8") as file:
+                file.write(cut)
+            self.assertEqual((self.into("L=1..6+1").returncode, self.read()), (0, whole))
+        # rows that are there are not run again
+        with open(self.path, "w", encoding="utf-8") as file:
+            file.write("".join(lines[:2]).replace(",eager,", ",kept,"))
+        self.into("L=1..6+1")
+        self.assertEqual(self.read(), whole.replace(",eager,", ",kept,", 1))
+
+    def test_other_rows_are_refused(self) -> None:
+        self.into("L=1,2")
+        kept = self.read()
+        for words, why in ((["L=1,3"], "rows.csv:3: a row of other axes: L is 2 there, and 3 in this grid"), (["o=1", "L=1,2"], "rows.csv:1: the columns are "),
+                           (["L=1"], "rows.csv:3: the grid has 1 points"), (["L=1,2", "--wait"], "rows.csv:1: the columns are ")):
+            done = self.into(*words)
+            self.assertEqual((done.returncode, self.read()), (2, kept))
+            self.assertIn(why, told(done)[0])
+        with open(self.path, "w", encoding="utf-8") as file:
+            file.write(kept.replace(kept.rsplit(",", 1)[1].strip(), "0123456789ab"))
+        self.assertIn("rows.csv:2: the program is 0123456789ab there, and ", self.into("L=1,2,3").stderr)
+
+    def test_a_run_that_was_refused_is_remembered(self) -> None:
+        for _ in range(2):
+            done = sweep("algorithm=allreduce", "ranks=4,5", "size=8", "--into", self.path)
+            self.assertEqual(done.returncode, 2)
+            self.assertIn("1 of 2 runs failed, the first at algorithm=allreduce ranks=5 size=8: ", done.stderr)
+
+    def test_a_picture_that_cannot_be_written_is_refused_first(self) -> None:
+        for path, why in (("/no/such/picture", "No such file or directory"), (self.folder, "Is a directory")):
+            done = sweep(*self.WORDS, "--plot", path, "--goal", "/no/such/program")
+            self.assertEqual((done.returncode, done.stdout, done.stderr), (2, "", f"sweep: {path}: {why}\n"))
+
+
 class Parameters(unittest.TestCase):
     def test_all_are_in_the_table_and_those_not_given_are_named(self) -> None:
         done = sweep("algorithm=bcast,allreduce-ring", "ranks=4", "size=8", "g=5")
         self.assertEqual(done.stdout.splitlines(), [
-            "algorithm,ranks,size,g,root,segments,sum-ps,L,o,G,O,S,finish,stuck,wait,protocol",
-            "bcast,4,8,5,0,,,2500,1500,6,0,65535,11084,0,9584,eager", "allreduce-ring,4,8,5,,1,0,2500,1500,6,0,65535,33036,0,19024,eager"])
+            "algorithm,ranks,size,g,root,segments,sum-ps,L,o,G,O,S,finish,stuck,protocol",
+            "bcast,4,8,5,0,,,2500,1500,6,0,65535,11084,0,eager", "allreduce-ring,4,8,5,,1,0,2500,1500,6,0,65535,33036,0,eager"])
         self.assertEqual(done.stderr, "sweep: not given: root=0, segments=1, sum-ps=0 ps per byte (sums cost no time), L=2500 ns, o=1500 ns, "
                                       "G=6 ns per byte (1.3 Gbit/s), O=0 ns per byte, S=65535 bytes\n")
 
@@ -210,6 +336,88 @@ class Scaled(unittest.TestCase):
             file.write(f"num_ranks 1 rank 0 {{ calc {2**48 - 1} }}")
             file.flush()
             self.assertIn("a calc is so long that 10 times as much", sweep(f"schedule={file.name}", "G=0.0025").stderr)
+
+
+class Crossings(unittest.TestCase):
+    WORDS = ("ranks=16", "size=1K..1Mx32", "segments=8", "L=1500", "o=400", "g=300", "G=0.080", "--x", "size")
+
+    def test_neighbours_between_which_the_faster_one_changes(self) -> None:
+        done = sweep(*self.WORDS, "--cross", "bcast,bcast-chain")
+        lines = [line.split(",") for line in done.stdout.splitlines()]
+        columns = [lines[0].index(name) for name in ("size", "algorithm", "finish")]
+        found = [[line[at] for at in columns] for line in lines[1:]]
+        self.assertEqual((done.returncode, len(found)), (0, 4), done.stderr)
+        low, high = int(found[0][0]), int(found[2][0])
+        self.assertEqual(([row[:2] for row in found], high - low),
+                         ([[str(size), name] for size in (low, high) for name in ("bcast", "bcast-chain")], 1))
+        self.assertLess(int(found[0][2]), int(found[1][2]))
+        self.assertGreaterEqual(int(found[2][2]), int(found[3][2]))
+        self.assertIn(f"bcast is faster at size={low}, ", done.stderr)
+        wanted = [column("finish", "ranks=16", f"size={low},{high}", f"algorithm={name}", *self.WORDS[2:-2]) for name in ("bcast", "bcast-chain")]
+        self.assertEqual([[row[2] for row in found if row[1] == name] for name in ("bcast", "bcast-chain")], wanted)
+
+    def test_none_is_told(self) -> None:
+        done = sweep("ranks=4", "size=8,16", "--x", "size", "--cross", "bcast,bcast-chain")
+        self.assertEqual((done.returncode, len(done.stdout.splitlines()), told(done)),
+                         (0, 1, ["sweep: no crossing at these values: bcast is faster at size=8"]))
+
+    def test_wrong_words(self) -> None:
+        for words in (["--cross", "bcast", "--x", "size"], ["--cross", "bcast,bcast", "--x", "size"], ["--cross", "bcast,bcast-chain"],
+                      ["--cross", "bcast,bcast-chain", "--x", "ranks"], ["--cross", "bcast,bcast-chain", "--x", "size", "--into", "x"],
+                      ["--cross", "bcast,none", "--x", "size"], ["--cross", "bcast,bcast-chain", "--x", "size", "algorithm=bcast"]):
+            done = sweep("ranks=4", "size=8,16", *words)
+            self.assertEqual((done.returncode, done.stdout, len(told(done))), (2, "", 1), done.stderr)
+
+
+class Jobs(unittest.TestCase):
+    """Commands that run points, and their rows put together."""
+
+    WORDS = ("algorithm=bcast,bcast-chain", "ranks=4", "size=8..64x2", "segments=1,2")
+
+    def listed(self, *words: str) -> list[str]:
+        done = sweep(*self.WORDS, "--list", *words)
+        self.assertEqual((done.returncode, done.stderr), (0, ""))
+        return done.stdout.splitlines()
+
+    def test_commands_give_the_rows_of_the_grid(self) -> None:
+        whole = sweep(*self.WORDS).stdout.splitlines()
+        commands = self.listed("--each", "5")
+        self.assertEqual((len(self.listed()), len(commands)), (len(whole) - 1, 3))
+        with tempfile.TemporaryDirectory() as folder:
+            paths = [os.path.join(folder, str(at)) for at in range(len(commands))]
+            for path, command in reversed(list(zip(paths, commands))):
+                with open(path, "w", encoding="utf-8") as file:
+                    done = subprocess.run(["sh", "-c", command], stdout=file, stderr=subprocess.PIPE, text=True, check=False)
+                self.assertEqual((done.returncode, done.stderr), (0, ""))
+            gathered = sweep(*self.WORDS, "--gather", *reversed(paths))
+            self.assertEqual((gathered.returncode, gathered.stderr), (0, ""))
+            self.assertEqual([line.rsplit(",", 1)[0] for line in gathered.stdout.splitlines()], whole)
+            # one is missing, and of another the last line is cut
+            with open(paths[2], "r+", encoding="utf-8") as file:
+                file.truncate(len(file.read()) - 3)
+            partly = sweep(*self.WORDS, "--gather", paths[0], paths[2])
+            self.assertEqual(partly.returncode, 2)
+            self.assertIn("sweep: 6 of 12 points are missing: 6..10 12", partly.stderr.splitlines())
+            again = self.listed("--each", "5", "--gather", paths[0], paths[2])
+            self.assertEqual([line.split(" --points ")[1].split()[0] for line in again], ["6..10", "12"])
+
+    def test_other_rows_are_refused(self) -> None:
+        row = subprocess.run(["sh", "-c", self.listed()[0]], capture_output=True, text=True, check=True).stdout
+        with tempfile.TemporaryDirectory() as folder:
+            paths = [os.path.join(folder, name) for name in ("one", "other")]
+            for text, why in ((row.replace("bcast,4", "bcast,5"), "other:2: a row of other axes: algorithm=bcast ranks=5"), (row.replace("11084", "11085"), "other:2: another result"),
+                              (row.replace(row.rsplit(",", 1)[1], "0123456789ab\n").replace(",eager,p", ",eager,p"), "other:"), (row.replace("ranks,", ""), "other:1: the columns are")):
+                for path, written in zip(paths, (row, text)):
+                    with open(path, "w", encoding="utf-8") as file:
+                        file.write(written)
+                done = sweep(*self.WORDS, "--gather", *paths)
+                self.assertEqual((done.returncode, done.stdout), (2, ""))
+                self.assertIn(why, done.stderr)
+
+    def test_wrong_words(self) -> None:
+        for words in (["--points", "0"], ["--points", "13"], ["--points", "3..2"], ["--points", "x"], ["--each", "2"], ["--list", "--points", "1"], ["--list", "--plot", "x"]):
+            done = sweep(*self.WORDS, *words)
+            self.assertEqual((done.returncode, done.stdout, len(told(done))), (2, "", 1), done.stderr)
 
 
 class Curves(unittest.TestCase):

@@ -9,17 +9,19 @@ COLOURS = ("#2f6fc4", "#e07b24", "#2f9461", "#c8324b", "#7a55b5", "#8a6540", "#d
 MOST_CURVES = 2 * len(COLOURS)
 WIDTH, HEIGHT, TOP, LEFT, BELOW, TEXT = 900, 480, 52, 84, 58, 12
 RENDEZVOUS, LARGE = "filled: rendezvous", ": some messages are over S and wait for their receive"
-GRID, FRAME, STUCK = "#e4e7ec", "#9aa3af", "#cc2233"
+GRID, FRAME, STUCK, REFUSED = "#e4e7ec", "#9aa3af", "#cc2233", "#6b7280"
 
 
 @dataclass
 class Curve:
     """Its points in order, each a value of the axis and of what is measured, or none where the run is stuck. At the values in
-    `large` some messages wait for their receive: these points are filled, and a bar across the curve marks the step to them."""
+    `large` some messages wait for their receive: these points are filled, and a bar across the curve marks the step to them. The
+    run at a value in `refused` was refused."""
 
     name: str
     points: List[Tuple[float, Optional[float]]] = field(default_factory=list)
     large: Set[float] = field(default_factory=set)
+    refused: Set[float] = field(default_factory=set)
 
     def steps(self) -> List[Tuple[Tuple[float, float], Tuple[float, float]]]:
         """The neighbouring points of which one is large and the other is not."""
@@ -41,8 +43,11 @@ class Axis:
     given: List[float] = field(default_factory=list)
 
     def ticks(self, scale: Scale, count: int) -> List[float]:
-        """The ticks that are given, every second, third .. of them where there are many; else rounded ones."""
-        return self.given[:: -(-len(self.given) // count)] if self.given else scale.ticks(count)
+        """The ticks that are given, every second, third .. of them where there are many; else rounded ones, of sizes powers
+        of two or multiples of one."""
+        if self.given:
+            return self.given[:: -(-len(self.given) // count)]
+        return scale.binary_ticks(count) if self.unit == "size" else scale.ticks(count)
 
     def ends(self, values: Sequence[float], from_zero: bool) -> Tuple[float, float]:
         if self.is_log:
@@ -71,8 +76,8 @@ def rounded_up(value: float) -> float:
 def chart(title: str, curves: List[Curve], x_axis: Axis, y_axis: Axis) -> str:
     """The picture of the curves, with a legend in the order of their last values."""
     values = [y for curve in curves for _, y in curve.points if y is not None]
-    xs = [x for curve in curves for x, _ in curve.points]
-    room = 60 + max(text_width(name, TEXT) for name in [*(curve.name for curve in curves), RENDEZVOUS])
+    xs = [x for curve in curves for x in [*curve.refused, *(x for x, _ in curve.points)]]
+    room = 60 + max(text_width(name, TEXT) for name in [*names_of(curves), RENDEZVOUS])
     right, bottom = WIDTH - room, HEIGHT - BELOW
     x_scale = Scale(*x_axis.ends(xs, False), LEFT, right, x_axis.is_log)
     y_scale = Scale(*y_axis.ends(values or [1], True), bottom, TOP, y_axis.is_log)
@@ -127,6 +132,9 @@ def draw_curve(drawing: Drawing, curve: Curve, x_scale: Scale, y_scale: Scale, s
         stretch = []
         if x is not None:
             drawing.text(x_scale(x), y_scale.start - 4, "✕", fill=STUCK, text_anchor="middle", note=f"{curve.name}: stuck at {plain(x)}")
+    for x in sorted(curve.refused):
+        note = f"{curve.name}: refused at {plain(x)}"
+        drawing.text(x_scale(x), y_scale.start - 4, "✕", fill=REFUSED, text_anchor="middle", note=note)
     for x, y in curve.points:
         if y is not None:
             note = f"{curve.name}: {plain(x)}, {plain(y)}" + (LARGE if x in curve.large else "")
@@ -144,12 +152,30 @@ def draw_legend(drawing: Drawing, curves: List[Curve], x: float) -> None:
         values = [y for _, y in numbered[1].points if y is not None]
         return -(values[-1] if values else 0)
 
+    names = names_of(curves)
     for place, (number, curve) in enumerate(sorted(enumerate(curves), key=last)):
         y = TOP + 8 + 20 * place
         drawing.line(x, y, x + 22, y, stroke_width=2, **style_of(number))
         drawing.shape("circle", cx=x + 11, cy=y, r=3, fill="#ffffff", stroke=style_of(number)["stroke"], stroke_width=2)
-        drawing.text(x + 30, y + 4, curve.name, size=TEXT)
+        drawing.text(x + 30, y + 4, names[number], size=TEXT)
+    y = TOP + 8 + 20 * len(curves)
     if any(curve.large for curve in curves):
-        y = TOP + 8 + 20 * len(curves)
         drawing.shape("circle", cx=x + 11, cy=y, r=3, fill=FRAME, stroke=FRAME, stroke_width=2)
         drawing.text(x + 30, y + 4, RENDEZVOUS, size=TEXT)
+        y += 20
+    is_stuck = any(value is None for curve in curves for _, value in curve.points)
+    is_refused = any(curve.refused for curve in curves)
+    for name, colour, is_there in (("stuck", STUCK, is_stuck), ("refused", REFUSED, is_refused)):
+        if is_there:
+            drawing.text(x + 11, y + 4, "✕", fill=colour, text_anchor="middle")
+            drawing.text(x + 30, y + 4, name, size=TEXT)
+            y += 20
+
+
+def names_of(curves: List[Curve]) -> List[str]:
+    """What the legend calls the curves: of one that lies on another it names that."""
+    names = []
+    for number, curve in enumerate(curves):
+        same = [other.name for other in curves[:number] if other.points == curve.points]
+        names.append(f"{curve.name} (same as {same[0]})" if same else curve.name)
+    return names

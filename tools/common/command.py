@@ -5,13 +5,14 @@ import argparse
 import errno
 import os
 import re
+import signal
 import sys
 from functools import lru_cache
 from typing import IO, Callable, NoReturn, Optional
 
 FAULT = 2
 WRITE_FAULT = 5
-INTERRUPTED = 130
+INTERRUPTED, TERMINATED = 130, 143
 STANDARD_INPUT = "/dev/stdin"
 # What may follow a number of bytes, and what it stands for.
 FACTORS = {"": 1, "K": 1024, "M": 1024**2}
@@ -21,6 +22,22 @@ INSTALLED = "goal-"
 
 class Fault(Exception):
     """What is wrong with what the user gave, in one line."""
+
+
+class Terminated(BaseException):
+    """A signal asks this program to end."""
+
+
+def end_when_asked() -> None:
+    """Lets a signal that asks this program to end raise `Terminated`, so that it leaves nothing behind."""
+
+    def end(number: int, _: object) -> None:
+        signal.signal(number, signal.SIG_IGN)
+        raise Terminated
+
+    for number in (signal.SIGTERM, signal.SIGHUP):
+        if signal.getsignal(number) == signal.SIG_DFL:
+            signal.signal(number, end)
 
 
 class Parser(argparse.ArgumentParser):
@@ -120,6 +137,8 @@ def ended(main: Callable[[], int]) -> int:
         return FAULT
     except KeyboardInterrupt:
         return INTERRUPTED
+    except Terminated:
+        return TERMINATED
     except SystemExit as end:
         return end.code if isinstance(end.code, int) else 0
 

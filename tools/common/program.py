@@ -2,7 +2,9 @@
 from __future__ import annotations
 
 import argparse
+import hashlib
 import os
+import shutil
 import subprocess
 import sys
 from dataclasses import dataclass
@@ -15,6 +17,8 @@ DONE, STUCK, REFUSED, NOT_CERTIFIED = 0, 1, 3, 6
 # the words KIND of `goal gen` and `goal certify`, and those of them that take a root
 KINDS = ("bcast", "barrier", "allgather", "allreduce", "alltoall", "reduce", "gather", "scatter", "reduce_scatter", "scan")
 ROOTED = ("bcast", "reduce", "gather", "scatter")
+# how many digits name a version
+DIGITS = 12
 TOP = os.path.dirname(os.path.dirname(os.path.dirname(os.path.abspath(__file__))))
 BESIDE = os.path.join(TOP, "goal")
 # It says whether the program beside the tools is proved. An installation does not have it, since `./install` has asked it.
@@ -70,3 +74,21 @@ def expect(answer: Answer, *statuses: int) -> Answer:
         said = answer.err.splitlines()[-1] if answer.err else f"it ended with status {answer.status}"
         raise Fault(said if said.startswith("goal: ") else f"goal: {said}")
     return answer
+
+
+@lru_cache(maxsize=None)
+def version(path: str) -> str:
+    """What distinguishes this program from others: the first digits of the SHA-256 of its file, or of the sources where
+    the launcher of a checkout is called."""
+    if os.path.exists(ANSWER) and os.path.realpath(path) == os.path.realpath(BESIDE):
+        code = "import sys; sys.path.insert(0, sys.argv[1]); import sources; print(sources.digest())"
+        words = [sys.executable, "-B", "-c", code, os.path.join(TOP, "launch")]
+        return subprocess.run(words, stdout=subprocess.PIPE, check=False, encoding="utf-8").stdout[:DIGITS]
+    found = os.path.realpath(shutil.which(path) or path)
+    # (the launcher of an installation is the same for all programs)
+    installed = os.path.join(os.path.dirname(found), os.pardir, "lib", "goal", "goal")
+    try:
+        with open(installed if os.path.exists(installed) else found, "rb") as file:
+            return hashlib.sha256(file.read()).hexdigest()[:DIGITS]
+    except OSError as error:
+        raise Fault(f"{path}: {error.strerror}") from error

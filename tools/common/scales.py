@@ -60,6 +60,17 @@ class Scale:
         ticks = [k * step for k in range(math.ceil(self.low / step - 1e-9), math.floor(self.high / step + 1e-9) + 1)]
         return [int(round(tick)) for tick in ticks] if whole else [round(tick, 9) for tick in ticks]
 
+    def binary_ticks(self, count: int) -> List[float]:
+        """At most about `count` powers of two, or multiples of one where the scale is not geometric."""
+        if self.is_log:
+            powers = range(math.ceil(math.log2(self.low) - 1e-9), math.floor(math.log2(self.high) + 1e-9) + 1)
+            every = max(1, math.ceil(len(powers) / count))
+            return [2.0**power for power in powers if power % every == 0]
+        if self.high <= self.low:
+            return [self.low]
+        step = 2.0 ** max(0, math.ceil(math.log2((self.high - self.low) / count)))
+        return [k * step for k in range(math.ceil(self.low / step), math.floor(self.high / step) + 1)]
+
 
 def log_ticks(low: float, high: float, count: int) -> List[float]:
     """Powers of ten from low to high, or every second, third .. of them; where there is room, 2 and 5 between."""

@@ -1,0 +1,51 @@
+"""The plan that words ask for, as in `tools/schedule`: an algorithm, ranks, bytes and options. It is not proved."""
+import argparse
+from typing import Callable, Tuple
+
+from algorithms import own
+from algorithms.collectives import Wish
+from algorithms.plan import MOST_BYTES, Plan
+from algorithms.table import ALGORITHMS, printed
+from common import command
+
+MOST_RANKS = 65536
+OPTIONS = {"root": "--root", "segments": "--segments", "node": "--node", "sum_ps": "--sum-ps"}
+
+
+def algorithm_of(word: str) -> Tuple[str, Callable[[Wish], Plan], Tuple[str, ...]]:
+    """The algorithm of a word: its name, what makes its plan, and its options."""
+    if own.is_own(word):
+        return (word, *own.own_algorithm(word))
+    for algorithm in ALGORITHMS:
+        if algorithm.name == word:
+            return word, algorithm.make, algorithm.options
+    names = ", ".join(repr(algorithm.name) for algorithm in ALGORITHMS)
+    raise argparse.ArgumentTypeError(f"invalid choice: {word!r} (choose from {names}, or FILE.py:NAME)")
+
+
+def add_words(parser: argparse.ArgumentParser) -> None:
+    """The words that ask for a plan."""
+    parser.add_argument("--list", action="version", version=printed(), help="print the table of the algorithms and end")
+    parser.add_argument("algorithm", metavar="ALGORITHM", type=algorithm_of, help="one of those below")
+    parser.add_argument("ranks", metavar="RANKS", type=command.number(1, MOST_RANKS, "ranks"), help="1 to 65536")
+    size = command.size(0, MOST_BYTES)
+    parser.add_argument("size", metavar="BYTES", type=size, help="0 to 2^40-1, as 4096, 4K or 16M")
+    parser.add_argument("--root", metavar="Z", type=command.number(0, MOST_RANKS - 1, "a rank"), help="the root (0)")
+    parser.add_argument("--segments", type=command.number(1, MOST_RANKS, "segments"), metavar="K",
+                        help="cut the vector, or each block of the ring, into K segments (1)")
+    node = command.number(1, MOST_RANKS, "ranks")
+    parser.add_argument("--node", type=node, metavar="N", help="so many ranks a node (1)")
+    parser.add_argument("--sum-ps", type=command.number(0, 10**9, "ps per byte"), metavar="PS",
+                        help="picoseconds a byte that a sum costs, rounded up to whole ns for each sum (0)")
+
+
+def plan_of(given: argparse.Namespace) -> Plan:
+    """The plan that the words ask for."""
+    algorithm, make, taken = given.algorithm
+    options = {name: getattr(given, name) for name in OPTIONS if getattr(given, name) is not None}
+    for name in options:
+        if name not in taken:
+            raise command.Fault(f"{algorithm} takes no {OPTIONS[name]}")
+    if options.get("root", 0) >= given.ranks:
+        raise command.Fault(f"the root {given.root} is none of {given.ranks} ranks")
+    return make(Wish(given.ranks, given.size, **options))  # type: ignore[no-any-return]

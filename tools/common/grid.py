@@ -1,0 +1,203 @@
+"""The grid of a sweep: its axes from the words of the command line, and its points. Nothing of it is proved."""
+from __future__ import annotations
+
+import itertools
+import re
+import sys
+from decimal import Decimal
+from typing import Dict, Iterable, List, Tuple
+
+from algorithms import own
+from algorithms.table import ALGORITHMS
+from common import command
+from common.description import PLACEMENTS, cards_of, read_cluster
+from common.parameters import DECIMALS, DEFAULTS, MOST_DECIMALS, RATES, scale_for, scaled_options
+from common.program import KINDS, ROOTED
+
+OPTIONS: Dict[str, Tuple[str, ...]] = {
+    **{kind: ("root",) if kind in ROOTED else () for kind in KINDS},
+    **{it.name: it.options for it in ALGORITHMS},
+}
+MADE_BY = ("algorithm", "ranks", "size", "root", "segments", "node", "sum-ps")
+NAMES = ("schedule", "machine", "algorithm")
+PARAMETERS = ("L", "o", "g", "G", "O", "S")
+ON_MACHINES = ("cards", "placement")
+AXES = ("schedule",) + MADE_BY + ("machine",) + ON_MACHINES + PARAMETERS
+UNITS = {"size": "size", "S": "size", "L": "ns", "o": "ns", "g": "ns", "G": "ns per byte", "O": "ns per byte",
+         "sum-ps": "ps per byte"}  # fmt: skip
+MOST_POINTS = 100000
+# Of these, `gen` makes messages of one size for any number of slots; what is taken in their place.
+ONE_SIZE = {"gather": "gather-tree", "scatter": "scatter-tree"}
+# What is taken where it is not given.
+TAKEN = {"root": "0", "segments": "1", "node": "1", "sum-ps": "0", **{name: str(DEFAULTS[name]) for name in PARAMETERS}}
+Point = Dict[str, str]
+Axes = Dict[str, List[str]]
+
+
+def number_of(axis: str, text: str) -> Decimal:
+    """A number of an axis as a Decimal."""
+    found = re.fullmatch(r"(\d{1,20}(?:\.\d{1,6})?)([KM]?)", text)
+    if not found or ("." in text and axis not in RATES) or (found[2] and axis not in ("size", "S")):
+        unit = {"size": "bytes, as 4096, 4K or 16M", "S": "bytes, as 65535 or 64K"}.get(axis, UNITS.get(axis, axis))
+        more = f", with up to {MOST_DECIMALS} decimals" if axis in RATES else ""
+        raise command.Fault(f"{axis}: {text} is no number of {unit}{more}")
+    return Decimal(found[1]) * {"": 1, "K": 1024, "M": 1024**2}[found[2]]
+
+
+def range_of(axis: str, text: str) -> List[Decimal]:
+    """The numbers of one of the values: a number, A..B+STEP or A..BxFACTOR."""
+    found = re.fullmatch(r"([^.]+(?:\.\d+)?)\.\.(.+?)([+x])(.+)", text)
+    if not found:
+        return [number_of(axis, text)]
+    low, high = number_of(axis, found[1]), number_of(axis, found[2])
+    if not re.fullmatch(r"\d+(\.\d+)?[KM]?", found[4]):
+        raise command.Fault(f"{axis}: {found[4]} is no step")
+    step = number_of(axis, found[4]) if found[3] == "+" else Decimal(found[4])
+    if step <= (0 if found[3] == "+" else 1) or (found[3] == "x" and low == 0):
+        raise command.Fault(f"{axis}: {text} does not rise")
+    numbers: List[Decimal] = []
+    while low <= high and len(numbers) < MOST_POINTS:
+        numbers.append(low)
+        low = low + step if found[3] == "+" else low * step
+    return numbers
+
+
+def rate_of(number: Decimal, part: str) -> str:
+    """Nanoseconds a byte, to the picosecond, or to as many decimals as the value or the range has that gives them."""
+    given = part.split("x")[0] if ".." in part else part
+    decimals = max(DECIMALS, *(len(found) for found in re.findall(r"(?<!\.)\.(\d+)", given)), 0)
+    rounded = f"{number:.{decimals}f}"
+    while len(rounded.partition(".")[2]) > DECIMALS and rounded.endswith("0"):
+        rounded = rounded[:-1]
+    return str(int(number)) if number == int(number) else rounded
+
+
+def values_of(axis: str, text: str) -> List[str]:
+    """All values of an axis, as they are written for goal."""
+    parts = text.split(",")
+    if axis in NAMES + ON_MACHINES:
+        values = parts
+    else:
+        numbers = [(number, part) for part in parts for number in range_of(axis, part)]
+        values = [rate_of(number, part) if axis in RATES else str(int(number)) for number, part in numbers]
+    if "" in values or not values:
+        raise command.Fault(f"{axis} has no value")
+    return list(dict.fromkeys(values))
+
+
+def axes_of(words: Iterable[str]) -> Axes:
+    """The axes that the words tell, in their order."""
+    axes: Axes = {}
+    for word in words:
+        axis, equals, text = word.partition("=")
+        if not equals or axis not in AXES:
+            raise command.Fault(f"{word} is no axis: AXIS=VALUES, AXIS one of {' '.join(AXES)}")
+        if axis in axes:
+            raise command.Fault(f"{axis} stands twice")
+        axes[axis] = values_of(axis, text)
+    check_axes(axes)
+    return axes
+
+
+def check_axes(axes: Axes) -> None:
+    if "schedule" in axes:
+        wrong = [axis for axis in MADE_BY if axis in axes]
+        if wrong:
+            raise command.Fault(f"schedule gives files: {wrong[0]} does not go with it")
+    elif not all(axis in axes for axis in MADE_BY[:3]):
+        raise command.Fault("algorithm, ranks and size must be there, or schedule")
+    for name in axes.get("algorithm", ()):
+        if own.is_own(name):
+            OPTIONS[name] = own.own_algorithm(name)[1]
+        if name in ONE_SIZE:
+            why = "has BYTES in each message, for any number of items"
+            raise command.Fault(f"{name} of `goal gen` {why}: take {ONE_SIZE[name]}")
+        if name not in OPTIONS:
+            where = "see `tools/schedule --list` and `goal gen`, or give FILE.py:NAME"
+            raise command.Fault(f"{name} is no algorithm: {where}")
+    check_machines(axes)
+    files = [name for axis in ("schedule", "machine") for name in axes.get(axis, ())]
+    if sum(command.source(name) == command.STANDARD_INPUT for name in files) > 1:
+        raise command.Fault("only one file can be standard input")
+    if "machine" in axes and any(axis in axes for axis in PARAMETERS):
+        raise command.Fault("a machine has its own parameters: give no others")
+
+
+def check_machines(axes: Axes) -> None:
+    for axis in ON_MACHINES:
+        if axis in axes and "machine" not in axes:
+            raise command.Fault(f"{axis} is of a machine: give machine=FILE")
+    for cards in axes.get("cards", ()):
+        cards_of(cards)
+    for placement in axes.get("placement", ()):
+        if placement not in PLACEMENTS:
+            raise command.Fault(f"{placement} is no placement: {' or '.join(PLACEMENTS)}")
+
+
+def note_on_cards(axes: Axes) -> None:
+    """Says so where nothing is said of cards, and ranks are on one node."""
+    for name in axes.get("machine", ()) if "cards" not in axes else ():
+        cluster = read_cluster(name)
+        if cluster.cards is None and cluster.has_neighbours():
+            note = "each rank has a card of its own here; cards=1 lets the ranks of a node share one"
+            print(f"sweep: {note}", file=sys.stderr)
+            return
+
+
+def with_options_taken(point: Point) -> Point:
+    """The point, where the options that its algorithm does not take are empty."""
+    for option in MADE_BY[3:]:
+        if option in point and option.replace("-", "_") not in OPTIONS[point["algorithm"]]:
+            point[option] = ""
+    return point
+
+
+def points_of(axes: Axes) -> List[Point]:
+    """The points of the grid, each once: an option is empty for an algorithm that does not take it."""
+    points: Dict[Tuple[Tuple[str, str], ...], Point] = {}
+    for values in itertools.product(*axes.values()):
+        point = with_options_taken(dict(zip(axes, values)))
+        points[tuple(point.items())] = point
+        if len(points) > MOST_POINTS:
+            raise command.Fault(f"more than {MOST_POINTS} points")
+    return list(points.values())
+
+
+def with_defaults(axes: Axes) -> Axes:
+    """The axes and, as axes of one value, all parameters that are not given: the table has them."""
+    taken = dict(axes)
+    options = {option for name in axes.get("algorithm", ()) for option in OPTIONS[name]}
+    for name in MADE_BY[3:]:
+        if name not in axes and name.replace("-", "_") in options:
+            taken[name] = [TAKEN[name]]
+    for name in PARAMETERS:
+        if name not in axes and "machine" not in axes:
+            taken[name] = [TAKEN[name]]
+    return taken
+
+
+def note_on_defaults(axes: Axes, taken: Axes) -> None:
+    """Names the parameters that were not given, with what they come to."""
+    told = []
+    for name in taken:
+        if name not in axes:
+            unit = {"S": " bytes", "root": "", "segments": "", "node": ""}.get(name, f" {UNITS.get(name, '')}")
+            more = {"G": f" ({8 / float(TAKEN['G']):.1f} Gbit/s)", "sum-ps": " (sums cost no time)"}.get(name, "")
+            told.append(f"{name}={TAKEN[name]}{unit}{more}")
+    if told:
+        print(f"sweep: not given: {', '.join(told)}", file=sys.stderr)
+
+
+def scale_of(axes: Axes) -> int:
+    """By what all times are multiplied, so that each rate is a whole number of picoseconds."""
+    scale = scale_for(value for name in RATES for value in axes.get(name, ()))
+    for name in PARAMETERS if "machine" not in axes else ():
+        for value in axes[name]:
+            try:
+                scaled_options(name, value, scale)
+            except ValueError as why:
+                raise command.Fault(str(why)) from None
+    if scale > 1:
+        reason = f"for rates finer than a picosecond per byte: bytes cost whole 1/{scale} ns"
+        print(f"sweep: times are taken {scale} times, {reason}", file=sys.stderr)
+    return scale
