@@ -95,7 +95,7 @@ class Tools(unittest.TestCase):
         """For each tool words with which it writes something."""
         exchange = os.path.join(TOP, "examples", "exchange")
         return {"certify": ["bcast", exchange], "check": [exchange], "fold": [exchange, self.pair()], "locate": [exchange, "0", "0"], "machine": [os.path.join(TOP, "examples", "eight_nodes")],
-                "path": [exchange],
+                "path": [exchange], "plot": [self.table(), "--x", "L"],
                 "schedule": ["bcast-chain", "2", "8"], "segments": ["bcast", exchange], "sweep": [f"schedule={exchange}", "L=1,2"],
                 "timeline": [exchange], "trace": [exchange, "--machine", self.pair()],
                 "waits": [exchange]}
@@ -105,6 +105,13 @@ class Tools(unittest.TestCase):
         path = os.path.join(self.folder.name, "pair")
         with open(path, "w", encoding="utf-8") as file:
             file.write("class a L=5\nnodes 2 of 1\ninside a\nbetween a\n")
+        return path
+
+    def table(self) -> str:
+        """A table of two runs."""
+        path = os.path.join(self.folder.name, "table")
+        with open(path, "w", encoding="utf-8") as file:
+            file.write("L,finish,stuck\n1,5,0\n2,6,0\n")
         return path
 
     def setUp(self) -> None:
