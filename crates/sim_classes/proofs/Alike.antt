@@ -1,4 +1,4 @@
--- Parameters that are alike.
+-- Equal parameters.
 use Rattle.std.proofs.Common.{ℕ, zero, suc, Bool, true, false, not, List, [], ◌∷◌, ◌≡◌, ◌≢◌, ◌<◌, ◌+◌, ◌==◌, ◌&&◌, length, map, get_or, slice_get, unwrap_or, refl, subst, arith, eq-eqb}
 use Rattle.std.proofs.lemmas.Bool.{and_parts, eqb-true, eqb-false, both_ways}
 use Rattle.std.proofs.lemmas.List.{length-map}
@@ -6,7 +6,7 @@ use Rattle.sim_params.specs.declared.params.Params.{Params}
 use Rattle.sim_params.specs.Costs.{Numbers}
 use Rattle.sim_params.specs.Numbers.{numbers, asked}
 
--- whether the last numbers are the same, from this one on
+-- the last numbers are the same, from this one on
 abbrev from_sync : Numbers → Numbers → Bool
 from_sync m n = m.sync == n.sync
 
@@ -28,7 +28,7 @@ from_gap m n = m.gap == n.gap && from_gap_per_byte m n
 abbrev from_overhead : Numbers → Numbers → Bool
 from_overhead m n = m.overhead == n.overhead && from_gap m n
 
--- whether all are
+-- all numbers are the same
 abbrev pub alike : Numbers → Numbers → Bool
 alike m n = m.latency == n.latency && from_overhead m n
 
@@ -82,7 +82,7 @@ not_false false e = cc
 pub mapped_length : (ps : List Params) → length (map numbers ps) ≡ length ps
 mapped_length ps = length-map ps numbers
 
--- so many classes have these numbers, and so has the next
+-- these classes have these numbers, and so has the next
 pub next_alike : (ps : List Params) (i : ℕ) (d : Params) (n : Numbers) → ((k : ℕ) → k < i → numbers (get_or ps k d) ≡ n) → numbers (get_or ps i d) ≡ n → (k : ℕ) → k < i + 1 → numbers (get_or ps k d) ≡ n
 next_alike ps i d n before here k low = go (k == i) refl
   where

@@ -15,14 +15,14 @@ same_key a b x y small low = alike_numbers (pair_key a b) (pair_key x y) ∙ eqb
     go true false e f = false_from_ne_true (pair_key x y == pair_key a b) (λ k. both_ways (y == b) f (eq-eqb y b (omega (arith, eqb-true (pair_key x y) (pair_key a b) k, small, low))))
     go false t e f = false_from_ne_true (pair_key x y == pair_key a b) (λ k. both_ways (x == a) e (eq-eqb x a (omega (arith, eqb-true (pair_key x y) (pair_key a b) k, small, low))))
 
--- what a map tells is what stands at the key
+-- the class that a map gives is the value at the key
 pub told_low : (m : BTreeMap ℕ ℕ) (x y : ℕ) → y < 4294967296 → told_by m.entries x y ≡ get nat_cmp m (pair_key x y)
 told_low m x y low = rw (lt-ltb y 4294967296 low) refl
 
 told_high : (m : BTreeMap ℕ ℕ) (x y : ℕ) → 4294967296 ≤ y → told_by m.entries x y ≡ None
 told_high m x y high = rw (le-ltb y 4294967296 high) refl
 
--- what a map tells after a pair was put into it
+-- the class that a map gives after a pair was inserted
 pub told_after : (m n : BTreeMap ℕ ℕ) (a b key class : ℕ) → key ≡ pair_key a b → b < 4294967296 → ((q : ℕ) → get nat_cmp n q ≡ cond (is_at (nat_cmp key) q) (Some class) (get nat_cmp m q)) → (x y : ℕ) → told_by n.entries x y ≡ telling (told_by m.entries) a b class x y
 told_after m n a b key class is small updates x y = go (nat_lt y 4294967296) refl
   where
@@ -39,7 +39,7 @@ told_after m n a b key class is small updates x y = go (nat_lt y 4294967296) ref
         told_low n x y low ∙ updates (pair_key x y) ∙ mid low ((x == a) && (y == b)) (ap (λ (k : ℕ). is_at (nat_cmp k) (pair_key x y)) is ∙ same_key a b x y small low)
     go false e = told_high n x y (ltb-false y 4294967296 e) ∙ far e ((x == a) && (y == b)) refl
 
--- each class that it tells is in range, where the new one is
+-- each class of the map exists, if the new one does
 pub told_within : (m n : BTreeMap ℕ ℕ) (a b class limit : ℕ) → ((x y : ℕ) → told_by n.entries x y ≡ telling (told_by m.entries) a b class x y) → class < limit → ((x y c : ℕ) → told_by m.entries x y ≡ Some c → c < limit) → (x y c : ℕ) → told_by n.entries x y ≡ Some c → c < limit
 told_within m n a b class limit after low before x y c is = go ((x == a) && (y == b)) (sym (after x y) ∙ is)
   where

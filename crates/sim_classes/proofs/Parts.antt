@@ -1,11 +1,11 @@
--- The parts of a machine text, a step at a time.
+-- The parts of a machine text, step by step.
 use Rattle.std.proofs.Common.{ℕ, zero, suc, List, [], ◌∷◌, ◌++◌, ◌≡◌, ◌+◌, ◌-◌, ◌<◌, codes, ap, arith, add-one}
 use Rattle.sim_params.specs.Costs.{Numbers}
 use Rattle.sim_classes.specs.Machine.{Known, machine_with}
 use Rattle.sim_classes.specs.declared.machine.TheConstants.{MAX_NODE}
 use Rattle.sim_classes.specs.Form.{Fixed, Value, End, between, class_number, new_target, telling, triples, triples_part, nodes_part, classes_part, class_part, places_part}
 
--- what is left before a step is one more than what is left after it
+-- before a step one more is left than after it
 one_less : (n i : ℕ) → i < n → n - i ≡ suc (n - (i + 1))
 one_less n i low = omega (arith, low, add-one (n - (i + 1)))
 

@@ -1,4 +1,4 @@
--- The rows of a table of pairs of nodes, and what a search in one finds.
+-- The rows of a table of pairs of nodes, and the result of a search in one.
 use Rattle.std.proofs.Common.{ℕ, ◌<◌, ◌≤◌, ◌+◌, ◌-◌, ◌≡◌, nat_lt, true, false, inl, inr, [], ◌∷◌, ◌++◌, List, length, get_or, take, drop, slice_get, Option, Some, None, Result, Ok, Err, arith, refl, sym, ap, ap₂, ◌∙◌, subst, eq-eqb}
 use Rattle.std.specs.BTreeMap.{is_at}
 use Rattle.std.specs.Map.{keys_of, lookup}
@@ -16,11 +16,11 @@ use Rattle.goal_graph.proofs.ForCallers.{alike_numbers}
 use Rattle.sim_classes.specs.Parts.{pair_key, told_by}
 use Rattle.sim_classes.specs.Rows.{node_of, IsStart, AreStarts, IsRow}
 
--- what entries tell of a node in range is what stands at the key
+-- the class that entries give for a node in range is the value at the key
 told_at : (es : List (ℕ × ℕ)) (a b : ℕ) → b < 4294967296 → told_by es a b ≡ lookup (is_at (nat_cmp (pair_key a b))) es
 told_at es a b low = rw (lt-ltb b 4294967296 low) refl
 
--- the key of a pair is one of its first node
+-- the key of a pair belongs to its first node
 node_of_key : (a b : ℕ) → b < 4294967296 → node_of (pair_key a b) ≡ a
 node_of_key a b low = omega (arith, low)
 
@@ -34,11 +34,11 @@ module _ (es : List (ℕ × ℕ)) (sorted : IsStrictlySortedBy nat_cmp (keys_of 
   keys_length : length (keys_of es) ≡ length es
   keys_length = length-map es (λ (x : ℕ × ℕ). x.0)
 
-  -- an entry is what stands at its key
+  -- an entry is the value at its key
   pub stands : (key i : ℕ) (e : ℕ × ℕ) → slice_get es i ≡ Some e → e.0 ≡ key → lookup (is_at (nat_cmp key)) es ≡ Some e.1
   stands key i e at same = subst (λ (k : ℕ). lookup (is_at (nat_cmp k)) es ≡ Some e.1) same (lookup_from_place (eq_by_cmp_equiv nat_cmp_total) es i e.0 e.1 (IsDistinct-from_sorted nat_cmp (keys_of es) sorted) at)
 
-  -- nodes do not fall
+  -- nodes are in ascending order
   pub nodes_rise : (n : ℕ) → IsNonDecreasingBy (λ (e : ℕ × ℕ). node_of e.0) es
   nodes_rise n i j d l b =
       let rise = non_decreasing_from_sorted (keys_of es) sorted i j 0 l (omega (arith, b, keys_length)) in
@@ -64,7 +64,7 @@ module _ (es : List (ℕ × ℕ)) (sorted : IsStrictlySortedBy nat_cmp (keys_of 
         let less = Less-from_sorted nat_cmp (keys_of es) (start + k) (start + (k + 1)) 0 sorted (omega arith) (omega (arith, inside, keys_length)) in
         ap₂ (λ (x y : ℕ). is_lt (nat_cmp x y)) next here ∙ ap is_lt (nat_cmp_total.antisymm (get_or (keys_of es) (start + (k + 1)) 0) (get_or (keys_of es) (start + k) 0) ∙ ap ordering_reverse less)
 
-    -- what a binary search found in the row is what stands at the key
+    -- what a binary search found in the row is the value at the key
     found : (r : Result ℕ ℕ) → IsSearchInRange r (length part) → IsBinarySearchResult (λ (e : ℕ × ℕ). nat_cmp e.0 key) part r
         → MatchResult r (λ i. lookup (is_at (nat_cmp key)) es ≡ Some (get_or part i (0, 0)).1) (λ i. lookup (is_at (nat_cmp key)) es ≡ None)
     found (Ok i) inside equal =
@@ -93,7 +93,7 @@ module _ (es : List (ℕ × ℕ)) (sorted : IsStrictlySortedBy nat_cmp (keys_of 
             let at = place_from_lookup (is_at (nat_cmp key)) es class e in
             absurd (nowhere at.0 (at.1, class) at.2 (sym (same_number key at.1 at.3)))
 
--- what a binary search found in the row of a node is what is told of it and another
+-- what a binary search found in the row of a node is the class given for it and another
 pub told_in_row : (es : List (ℕ × ℕ)) → IsStrictlySortedBy nat_cmp (keys_of es) → (a b : ℕ) → b < 4294967296 → (start end : ℕ) → IsRow es a start end
     → (r : Result ℕ ℕ) → IsSearchInRange r (length (take (end - start) (drop start es))) → IsBinarySearchResult (λ (e : ℕ × ℕ). nat_cmp e.0 (pair_key a b)) (take (end - start) (drop start es)) r
     → MatchResult r (λ i. told_by es a b ≡ Some (get_or (take (end - start) (drop start es)) i (0, 0)).1) (λ i. told_by es a b ≡ None)
@@ -101,7 +101,7 @@ told_in_row es sorted a b low start end row r inside is =
     subst (λ (o : Option ℕ). MatchResult r (λ i. o ≡ Some (get_or (take (end - start) (drop start es)) i (0, 0)).1) (λ i. o ≡ None)) (sym (told_at es a b low))
     (found es sorted (pair_key a b) start end (subst (λ (n : ℕ). IsRow es n start end) (sym (node_of_key a b low)) row) r inside is)
 
--- where the nodes stop being lower, those from the node begin
+-- where the nodes are no longer less, those from the node begin
 pub start_at : (es : List (ℕ × ℕ)) (node start : ℕ) → start ≤ length es → IsPartitionPoint (λ (e : ℕ × ℕ). nat_lt (node_of e.0) node ≡ true) (λ (e : ℕ × ℕ). nat_lt (node_of e.0) node ≡ false) es start → IsStart es node start
 start_at es node start within point = record {
   within = within;
@@ -133,7 +133,7 @@ row_between es node start end s e = record {
   );
 }
 
--- the row of all
+-- the row of all entries
 pub row_of_all : (es : List (ℕ × ℕ)) (node end : ℕ) → end ≡ length es → IsRow es node 0 end
 row_of_all es node end all = record {
   order = omega arith;
@@ -141,7 +141,7 @@ row_of_all es node end all = record {
   between = λ k e at same. (omega arith, omega (arith, all, slice_get_within es k e at));
 }
 
--- one start more
+-- another start
 pub starts_more : (es : List (ℕ × ℕ)) (starts : List ℕ) (start : ℕ) → AreStarts es starts → IsStart es (length starts) start → AreStarts es (starts ++ start ∷ [])
 starts_more es starts start before new node s e =
     elim (cases_lt node (length starts)) [

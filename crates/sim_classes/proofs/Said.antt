@@ -1,4 +1,4 @@
--- What words of a form say, a word at a time.
+-- The machine given by words of a form, word by word.
 use Rattle.std.proofs.Common.{ℕ, Bool, true, false, List, [], ◌∷◌, ◌≡◌, ◌+◌, Some, None, Ok, Err, Result, refl, ap, if◌then◌else◌}
 use Rattle.std.specs.Prelude.{bytes_eq}
 use Rattle.std.specs.Str.Parse.{digits_value}

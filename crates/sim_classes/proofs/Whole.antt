@@ -1,4 +1,4 @@
--- A machine that a text says is whole.
+-- The machine of a text is whole.
 use Rattle.std.proofs.Common.{ℕ, zero, suc, Bool, true, false, Option, Some, None, List, [], ◌∷◌, ◌++◌, ◌≡◌, ◌<◌, ◌+◌, ◌==◌, ◌&&◌, length, Ok, Err, Result, refl, subst, if◌then◌else◌}
 use Rattle.std.specs.Prelude.{bytes_eq, nat_lt}
 use Rattle.std.specs.Str.Parse.{digits_value}
@@ -11,7 +11,7 @@ use Rattle.sim_classes.specs.Machine.{Known, machine_with}
 use Rattle.sim_classes.specs.Parts.{IsWhole}
 use Rattle.sim_classes.specs.Form.{Form, Fixed, Value, End, said, or_fault, is_number, words, class_number, telling, triples, nodes_part, classes_part, machine_form, machine}
 
--- a fact that holds of each machine that words of a form may say
+-- a property of each machine that words of a form may give
 abbrev Ends : (Known → Type 0) → Form → Type 0
 Ends P (Fixed word rest) = Ends P rest
 Ends P (Value test rest) = (n : ℕ) → test n ≡ None → Ends P (rest n)
@@ -42,7 +42,7 @@ module _ (P : Known → Type 0) (m : Known) where
   said_ends (End known) place [] ends is = let same : known ≡ m = cc in subst P same ends
   said_ends (End known) place (w ∷ ws) ends is = cc
 
--- a class number that passes is that of a class
+-- a number that passes belongs to an existing class
 passed : (classes : List Numbers) (n : ℕ) → class_number classes n ≡ None → n < length classes
 passed classes n is = by (nat_lt n (length classes)) refl is
   where
@@ -50,7 +50,7 @@ passed classes n is = by (nat_lt n (length classes)) refl is
     by true e h = ltb-true n (length classes) e
     by false e h = cc
 
--- one pair of nodes more
+-- another pair of nodes
 one_told : (m : Known) (a b class : ℕ) → IsWhole m → class < length m.classes
     → IsWhole (machine_with m.classes m.inside m.usual m.nodes (telling m.told a b class))
 one_told m a b class whole there = record {

@@ -1,4 +1,4 @@
--- The words of a text, one after the other.
+-- The words of a text, one after another.
 use Rattle.std.proofs.Common.{ℕ, Bool, true, false, List, [], ◌∷◌, ◌≡◌, ◌≢◌, ◌+◌, ◌<◌, length, cond, not, refl, sym, ap, ◌∙◌, take, drop, filter, get_or, arith, ◌*◌, suc, add-one, ◌-◌, subst}
 use Rattle.std.proofs.lemmas.List.{take_all, length-drop, nil_from_length}
 use Rattle.std.proofs.lemmas.Bool.{lt-ltb}
@@ -17,7 +17,7 @@ one_more n = omega arith ∙ add-one n
 abbrev full : List ℕ → Bool
 full w = nat_lt 0 (length w)
 
--- the parts behind the first one, by what follows that
+-- the parts after the first one, by what follows it
 rest_of : List ℕ → List (List ℕ)
 rest_of [] = []
 rest_of (c ∷ cs) = slice_split is_blank cs
@@ -25,7 +25,7 @@ rest_of (c ∷ cs) = slice_split is_blank cs
 abbrev no_blank : ℕ → Bool
 no_blank b = not (is_blank b)
 
--- how many bytes the first part has
+-- the length of the first part
 abbrev first_len : List ℕ → ℕ
 first_len xs = prefix_len no_blank xs
 
@@ -47,7 +47,7 @@ rest_words (x ∷ xs) = go (is_blank x) refl (rest_words xs)
     go true e h = rw e refl
     go false e h = rw (one_more (first_len xs)) h
 
--- blanks at the front make no word
+-- blanks at the front are no part of a word
 pub skip : (xs : List ℕ) → words xs ≡ words (drop (prefix_len is_blank xs) xs)
 unfolding words
 skip [] = refl
@@ -61,7 +61,7 @@ pub no_words : words [] ≡ []
 unfolding words
 no_words = refl
 
--- behind the blanks at the front stands no blank
+-- what follows the blanks at the front is not a blank
 pub has_word : (xs : List ℕ) → 0 < length (drop (prefix_len is_blank xs) xs) → 0 < first_len (drop (prefix_len is_blank xs) xs)
 has_word [] some = omega (arith, some)
 has_word (x ∷ xs) some = go (is_blank x) refl some (has_word xs)
@@ -79,12 +79,12 @@ first_word xs some =
     kept : (w : List ℕ) (ws : List (List ℕ)) → full w ≡ true → filter full (w ∷ ws) ≡ w ∷ filter full ws
     kept w ws e = rw e refl
 
--- digits behind those of n
+-- digits after those of n
 pub more_digits : (ds : List ℕ) (n i : ℕ) → i < length ds → digits_value_after 10 n (drop i ds) ≡ digits_value_after 10 (n * 10 + digit_value (get_or ds i 0)) (drop (i + 1) ds)
 more_digits ds n i low = ap (digits_value_after 10 n) (drop-cons ds i 0 low ∙ ap (λ (j : ℕ). get_or ds i 0 ∷ drop j ds) (sym (add-one i)))
 
 module _ (xs : List ℕ) (n : ℕ) (front : n ≡ prefix_len is_blank xs) where
-  -- the rest behind the blanks, as a part of a slice
+  -- the rest after the blanks, as a part of a slice
   abbrev tail : List ℕ
   tail = take (length xs - n) (drop n xs)
 

@@ -10,7 +10,7 @@ use Rattle.sim_classes.specs.Machine.{costs_of, costs_between, class_of}
 use Rattle.sim_classes.specs.Known.{known}
 use Rattle.std.proofs.Common.{arith}
 
--- each cost of a class is at most 2^61, and so is that of no class
+-- each cost of a class is at most 2^61, also that of a class that does not exist
 bounded_at : (classes : List Params) (class : ℕ) → IsBounded (log_gops (unwrap_or (slice_get (map numbers classes) class) (asked 0 0 0 0 0 0 0 0)))
 bounded_at [] class = record {
   over = λ from to bytes small. omega (arith, up_bound 0 0 bytes (omega arith) (omega arith) small);

@@ -1,4 +1,4 @@
--- The text of a machine: its words, and what must stand at each.
+-- The text of a machine: its words, and what each word must be.
 use Rattle.std.specs.Prelude.{ℕ, zero, suc, ◌+◌, ◌==◌, ◌&&◌, ◌||◌, nat_lt, nat_le, Bool, List, [], ◌∷◌, ◌++◌, length, filter, Option, Some, None, is_some, Result, Ok, Err, codes, bytes_eq, if◌then◌else◌}
 use Rattle.std.specs.List.{list_all, slice_split}
 use Rattle.std.specs.Char.{is_ascii_digit}
@@ -24,24 +24,24 @@ words text = filter (λ (w : List ℕ). nat_lt 0 (length w)) (slice_split is_bla
 abbrev pub is_number : List ℕ → Bool
 is_number w = nat_lt 0 (length w) && nat_le (length w) 20 && list_all is_ascii_digit w
 
--- a test of a number: None where it passes, or else the fault at the number's place
+-- a test of a number: None if it passes, and otherwise a fault at the number's place
 abbrev pub Test : Type 0
 Test = ℕ → Option (ℕ → MachineFault)
 
--- What must stand at the next words: a fixed word; a number that passes a test, and then what depends on it; or the end of
--- the text, which says this machine.
+-- What the next words must be: a fixed word; a number that passes a test, followed by words that may depend on it; or
+-- the end of the text, which gives this machine.
 pub data Form : Type 0 where
   Fixed : List ℕ → Form → Form
   Value : Test → (ℕ → Form) → Form
   End : Known → Form
 
--- where a test of a number failed, its fault, and else what the rest says
+-- the fault of a failed test, or otherwise what the rest gives
 abbrev pub or_fault : Option (ℕ → MachineFault) → ℕ → Result Known MachineFault → Result Known MachineFault
 or_fault None place rest = rest
 or_fault (Some fault) place rest = Err (fault place)
 
--- The machine that words of this form say, or the fault of the first that fails. The number of the first word is told, and
--- the end counts as a word.
+-- The machine given by words of this form, or the fault of the first word that fails. `place` is the number of the
+-- first word, and the end counts as a word.
 unfoldable pub said : Form → ℕ → List (List ℕ) → Result Known MachineFault
 said (Fixed word rest) place [] = Err (Syntax place)
 said (Fixed word rest) place (w ∷ ws) = if bytes_eq w word then said rest (place + 1) ws else Err (Syntax place)
@@ -51,23 +51,23 @@ said (Value test rest) place (w ∷ ws) =
 said (End m) place [] = Ok m
 said (End m) place (w ∷ ws) = Err (Syntax place)
 
--- a number from the least to the most
+-- a number from `least` to `most`
 abbrev pub between : ℕ → ℕ → Test
 between least most n = if nat_le least n && nat_le n most then None else Some Number
 
--- the number of a class
+-- the number of an existing class
 abbrev pub class_number : List Numbers → Test
 class_number classes n = if nat_lt n (length classes) then None else Some Number
 
--- a node to which no class is told yet from node a
+-- a node for which the class from node a is not yet given
 abbrev pub new_target : Known → ℕ → Test
 new_target m a n = if nat_le n node_limit then (if is_some (m.told a n) then Some Repeat else None) else Some Number
 
--- the class from node a to node b is told
+-- the class from node a to node b is given
 abbrev pub telling : (ℕ → ℕ → Option ℕ) → ℕ → ℕ → ℕ → ℕ → ℕ → Option ℕ
 telling told a b class x y = if (x == a) && (y == b) then Some class else told x y
 
--- so many triples: a node, another, and the class from the one to the other
+-- k triples: a node, another node, and the class from the first to the second
 unfoldable pub triples : ℕ → Known → Form
 triples zero m = End m
 triples (suc k) m =
@@ -77,12 +77,12 @@ abbrev pub triples_part : List Numbers → ℕ → ℕ → List ℕ → Form
 triples_part classes inside usual nodes =
     Fixed (codes "pairs") (Value (between 0 pair_limit) (λ k. triples k (machine_with classes inside usual nodes (λ a b. None))))
 
--- so many nodes more behind these
+-- further nodes of ranks, as many as the first argument says, after these
 unfoldable pub nodes_part : ℕ → List Numbers → ℕ → ℕ → List ℕ → Form
 nodes_part zero classes inside usual nodes = triples_part classes inside usual nodes
 nodes_part (suc k) classes inside usual nodes = Value (between 0 node_limit) (λ node. nodes_part k classes inside usual (nodes ++ node ∷ []))
 
--- the class inside a node, the usual one between nodes, and the node of each rank
+-- the class inside a node, the default class between nodes, and the node of each rank
 abbrev pub places_part : List Numbers → Form
 places_part classes =
     Fixed (codes "inside") (Value (class_number classes) (λ inside.
@@ -96,7 +96,7 @@ class_part rest =
     Value (between 0 per_byte_limit) (λ gb. Value (between 0 picos_limit) (λ gp. Value (between 0 per_byte_limit) (λ ob.
     Value (between 0 picos_limit) (λ op. Value (between 0 param_limit) (λ s. rest (asked l o g gb gp ob op s)))))))))
 
--- so many classes more behind these
+-- further classes, as many as the first argument says, after these
 unfoldable pub classes_part : ℕ → List Numbers → Form
 classes_part zero classes = places_part classes
 classes_part (suc k) classes = Fixed (codes "class") (class_part (λ n. classes_part k (classes ++ n ∷ [])))
@@ -105,6 +105,6 @@ classes_part (suc k) classes = Fixed (codes "class") (class_part (λ n. classes_
 abbrev pub machine_form : Form
 machine_form = Fixed (codes "classes") (Value (between 1 class_limit) (λ k. classes_part k []))
 
--- the machine that a text says, or the fault of the first of its words that fails
+-- the machine of a text, or the fault of the first of its words that fails
 unfoldable pub machine : List ℕ → Result Known MachineFault
 machine text = said machine_form 0 (words text)

@@ -1,4 +1,4 @@
--- What is known of a machine of the code.
+-- What contracts know of a machine of the code.
 use Rattle.sim_classes.specs.declared.machine.Machine.{Machine}
 use Rattle.sim_classes.specs.Machine.{Known}
 use Rattle.sim_classes.specs.Parts.{known_of}

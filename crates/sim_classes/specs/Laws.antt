@@ -1,4 +1,4 @@
--- The laws of machines. The function `laws_of_machines` ensures each.
+-- The laws of machines. The function `laws_of_machines` ensures each of them.
 use Rattle.std.specs.Prelude.{ℕ, ◌≡◌, ◌<◌, List, length, slice_get, Some, Ok}
 use Rattle.sim_params.specs.Costs.{Numbers, log_gops}
 use Rattle.sim_classes.specs.Machine.{Known, class_of, numbers_of, costs_of}
@@ -9,7 +9,7 @@ use Rattle.sim_classes.specs.Parts.{IsWhole}
 abbrev pub ClassesAreThere : Type 0
 ClassesAreThere = (m : Known) (from to : ℕ) → IsWhole m → class_of m from to < length m.classes
 
--- where all classes have the same parameters, the costs are those of LogGOPS with these
+-- if all classes have the same parameters, the costs are those of LogGOPS with these parameters
 abbrev pub AlikeIsLogGops : Type 0
 AlikeIsLogGops = (m : Known) (n : Numbers) → IsWhole m → ((class : ℕ) → class < length m.classes → numbers_of m class ≡ n) → costs_of m ≡ log_gops n
 
@@ -17,10 +17,10 @@ AlikeIsLogGops = (m : Known) (n : Numbers) → IsWhole m → ((class : ℕ) → 
 abbrev pub OwnIsInside : Type 0
 OwnIsInside = (m : Known) (rank : ℕ) → class_of m rank rank ≡ m.inside
 
--- and so has a message between two ranks of one node
+-- so has a message between two ranks of one node
 abbrev pub OneNodeIsInside : Type 0
 OneNodeIsInside = (m : Known) (from to node : ℕ) → slice_get m.nodes from ≡ Some node → slice_get m.nodes to ≡ Some node → class_of m from to ≡ m.inside
 
--- a machine that a text says is whole
+-- the machine of a text is whole
 abbrev pub SaidIsWhole : Type 0
 SaidIsWhole = (text : List ℕ) (m : Known) → machine text ≡ Ok m → IsWhole m

@@ -1,9 +1,9 @@
--- What a reader of words has left, and the value of a word.
+-- The state of a reader of words, and the value of a word.
 use Rattle.std.specs.Prelude.{ℕ, List, Option, Some, None, if◌then◌else◌}
 use Rattle.std.specs.Str.Parse.{digits_value}
 use Rattle.sim_classes.specs.Form.{is_number}
 
--- the words that are left, and the number of the first of them
+-- the remaining words, and the number of the first of them
 pub record Left : Type 0 where
   pub place : ℕ
   pub words : List (List ℕ)

@@ -1,4 +1,4 @@
--- How large the parts of a machine may be. The constants of the code are these numbers: `laws_of_machines` says so.
+-- The limits of a machine. The constants of the code are these numbers: `laws_of_machines` says so.
 use Rattle.std.specs.Prelude.{ℕ}
 
 -- the most classes of a machine

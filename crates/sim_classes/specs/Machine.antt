@@ -3,8 +3,8 @@ use Rattle.std.specs.Prelude.{ℕ, ◌==◌, Bool, List, slice_get, Option, Some
 use Rattle.sim_params.specs.Costs.{Numbers, CostModel, log_gops}
 use Rattle.sim_params.specs.Numbers.{asked}
 
--- the parameters of the classes, the class of a message inside a node, the class between two nodes that is told for them,
--- the class between all others, and the node of each rank
+-- `classes`: the parameters of each class. `inside`: the class of a message inside a node. `told`: the class given for
+-- a pair of nodes. `usual`: the class between all other nodes. `nodes`: the node of each rank.
 pub record Known : Type 0 where
   pub classes : List Numbers
   pub inside : ℕ
@@ -12,7 +12,7 @@ pub record Known : Type 0 where
   pub nodes : List ℕ
   pub told : ℕ → ℕ → Option ℕ
 
--- a machine by its parts
+-- a machine, from its parts
 abbrev pub machine_with : List Numbers → ℕ → ℕ → List ℕ → (ℕ → ℕ → Option ℕ) → Known
 machine_with classes inside usual nodes told = record {
   classes = classes;
@@ -26,14 +26,14 @@ machine_with classes inside usual nodes told = record {
 abbrev pub class_between : Known → ℕ → ℕ → ℕ
 class_between m a b = if a == b then m.inside else unwrap_or (m.told a b) m.usual
 
--- The same, where a rank that the machine does not have is on a node of its own. The last says whether sender and receiver
--- are one rank.
+-- The same with ranks, of which one that the machine does not have is on its own node. The flag says whether sender and
+-- receiver are the same rank.
 abbrev pub class_by : Known → Option ℕ → Option ℕ → Bool → ℕ
 class_by m (Some a) (Some b) one = class_between m a b
 class_by m (Some a) None one = if one then m.inside else m.usual
 class_by m None b one = if one then m.inside else m.usual
 
--- the class of a message from a rank to a rank
+-- the class of a message, by sending and receiving rank
 unfoldable pub class_of : Known → ℕ → ℕ → ℕ
 class_of m from to = class_by m (slice_get m.nodes from) (slice_get m.nodes to) (from == to)
 
@@ -41,11 +41,11 @@ class_of m from to = class_by m (slice_get m.nodes from) (slice_get m.nodes to) 
 abbrev pub numbers_of : Known → ℕ → Numbers
 numbers_of m class = unwrap_or (slice_get m.classes class) (asked 0 0 0 0 0 0 0 0)
 
--- the costs of a message from a rank to a rank: those of its class
+-- the costs of a message, by sending and receiving rank: those of its class
 abbrev pub costs_between : Known → ℕ → ℕ → CostModel
 costs_between m from to = log_gops (numbers_of m (class_of m from to))
 
--- the costs of each message are those of its class
+-- the costs of a machine: each message has those of its class
 unfoldable pub costs_of : Known → CostModel
 costs_of m = record {
   over = λ from to bytes. (costs_between m from to).over from to bytes;

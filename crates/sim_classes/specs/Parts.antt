@@ -1,4 +1,4 @@
--- What the parts of a machine of the code tell.
+-- What the parts of a machine of the code mean.
 use Rattle.std.specs.Prelude.{ℕ, ◌+◌, ◌*◌, nat_lt, List, map, Option, None, if◌then◌else◌, ◌≡◌, ◌<◌, length, Some}
 use Rattle.std.specs.Ordering.{nat_cmp}
 use Rattle.std.specs.BTreeMap.{is_at}
@@ -11,14 +11,14 @@ use Rattle.sim_classes.specs.Machine.{Known, machine_with}
 abbrev pub pair_key : ℕ → ℕ → ℕ
 pair_key a b = 4294967296 * a + b
 
--- the class that entries tell for two nodes
+-- the class that the entries give for two nodes
 abbrev pub told_by : List (ℕ × ℕ) → ℕ → ℕ → Option ℕ
 told_by told a b = if nat_lt b 4294967296 then lookup (is_at (nat_cmp (pair_key a b))) told else None
 
 abbrev pub known_of : List Params → ℕ → ℕ → List ℕ → List (ℕ × ℕ) → Known
 known_of classes inside usual nodes told = machine_with (map numbers classes) inside usual nodes (told_by told)
 
--- each class that is named is one of the machine's
+-- the machine is whole: each class that it names exists
 pub record IsWhole (m : Known) : Type 0 where
   pub inside : m.inside < length m.classes
   pub usual : m.usual < length m.classes

@@ -1,19 +1,19 @@
-// What makes a text no machine.
+//! Why a text describes no machine.
 ghost use Rattle.std.specs.Prelude.{◌≡◌};
 ghost use Rattle.sim_classes.specs.declared.fault.MachineFault.TheVariants.{NoMemory};
 
 use std::alloc::{AllocError, AllocFailed};
 
-/// Why a text says no machine. `at` is the number of the first word that fails, from 0; the end counts as a word.
+/// Why a text describes no machine. `at` is the number of the first word that fails, from 0; the end counts as a word.
 #[derive(Clone, Copy, Debug, PartialEq, Eq)]
 pub enum MachineFault {
-    /// It is not the fixed word or not a number, where one must stand, or stands behind the last.
+    /// The word is not the fixed word or the number that must be here, or it follows the last word.
     Syntax { at: u64 },
     /// A number is outside its limits.
     Number { at: u64 },
-    /// The class between these two nodes was told before.
+    /// The class between these two nodes was already given.
     Repeat { at: u64 },
-    /// Memory ran out.
+    /// Out of memory.
     NoMemory,
 }
 

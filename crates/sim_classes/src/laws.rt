@@ -1,19 +1,20 @@
-//! The laws of machines. Their function does nothing: a proof cites a law by a call.
+//! The laws of machines. The function does nothing: a proof cites a law by a call.
 ghost use Rattle.std.specs.Prelude.{◌≡◌};
 ghost use Rattle.sim_classes.specs.Limits.{class_limit, pair_limit, node_limit};
 ghost use Rattle.sim_classes.specs.Laws.{ClassesAreThere, AlikeIsLogGops, OwnIsInside, OneNodeIsInside, SaidIsWhole};
 
 use crate::machine::{MAX_CLASSES, MAX_NODE, MAX_PAIRS};
 
-/// What holds of each machine whose named classes are its own (`IsWhole`), as those of each `Machine` are:
+/// Properties of each whole machine, whose named classes all exist (`IsWhole`), as every [`Machine`](crate::Machine)
+/// is:
 ///
 /// - `there`: each message has one of its classes.
-/// - `alike`: where all classes have the same parameters, the costs are those of LogGOPS with these.
+/// - `alike`: if all classes have the same parameters, the costs are those of LogGOPS with these parameters.
 /// - `own`: a message from a rank to itself has the class inside a node.
 /// - `one_node`: so has a message between two ranks of one node.
-/// - `whole`: each machine that a text says is one of these.
+/// - `whole`: the machine of a text is whole.
 ///
-/// `classes`, `pairs` and `node`: the limits of this crate are the numbers that the definitions name.
+/// `classes`, `pairs` and `node`: the limits of this crate are the numbers of the definitions.
 pub fn laws_of_machines()
     ensures there { ClassesAreThere }
     ensures alike { AlikeIsLogGops }

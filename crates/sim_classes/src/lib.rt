@@ -1,8 +1,8 @@
-//! Classes of messages: a machine text gives each rank a node, and each message the parameters of LogGOPS by the nodes of its
-//! two ranks.
+//! Classes of messages: a machine text gives a node for each rank, and the LogGOPS parameters of each message, by the
+//! nodes of its two ranks.
 //!
-//! [`read_machine`] reads the text, a list of words, or gives the fault of the first word that fails. A [`Machine`] is a model of
-//! costs, each at most 2^61, so the run takes it as it takes one set of parameters.
+//! [`read_machine`] reads the text, a list of words, or returns the fault of the first word that fails. A [`Machine`]
+//! is a model of costs, each at most 2^61, so a run uses it in the same way as one set of parameters.
 #![tactic(auto)]
 
 mod fault;

@@ -8,14 +8,14 @@ use sim_params::Params;
 /// The most classes of a machine.
 pub const MAX_CLASSES: u64 = 16;
 
-/// The most pairs of nodes for which a machine tells the class between them.
+/// The most pairs of nodes with their own class.
 pub const MAX_PAIRS: u64 = 65_536;
 
 /// The greatest number of a node.
 pub const MAX_NODE: u64 = 65_535;
 
-/// A machine: classes of messages, each with its own parameters, and the class of each message by the nodes of its ranks.
-/// Contracts see it by `known`.
+/// A machine: classes of messages, each with its own parameters, and the class of each message, by the nodes of its
+/// ranks. Contracts see it through `known`.
 #[derive(Drop)]
 pub struct Machine {
     pub(crate) classes: Vec<Params>,

@@ -1,4 +1,4 @@
-// The class of a message, and what it costs.
+//! The class of a message, and its costs.
 ghost use Rattle.std.specs.Prelude.{ℕ, ◌≡◌, ◌≢◌, ◌<◌, length, if◌then◌else◌, IfSome, IfNone};
 ghost use Rattle.sim_params.specs.Costs.{log_gops};
 ghost use Rattle.sim_params.specs.Numbers.{numbers};
@@ -9,15 +9,15 @@ use crate::machine::Machine;
 use sim_params::{Costs, LogGops, Params, Spans};
 
 impl Machine {
-    /// The number of ranks that it has a node for.
+    /// Returns the number of ranks that have a node.
     pub fn ranks(&self) -> u32
         ensures { result ≡ length (known self.now).nodes }
     {
         self.nodes.len() as u32
     }
 
-    /// The number of the class of a message from a rank to a rank. A rank that the machine does not have is on a node of its
-    /// own.
+    /// Returns the number of the class of a message, by sending and receiving rank. A rank that the machine does not
+    /// have is on its own node.
     pub fn class_of(&self, from: u32, to: u32) -> u32
         ensures class { result ≡ class_of (known self.now) from to }
         ensures within { result < length (known self.now).classes }
@@ -31,7 +31,7 @@ impl Machine {
         }
     }
 
-    // The class of a message of which one rank is on a node of its own.
+    // The class of a message, one of whose ranks is on its own node.
     fn class_apart(&self, one: bool) -> u32
         ensures class { result ≡ (if one then (known self.now).inside else (known self.now).usual) }
         ensures within { result < length (known self.now).classes }
@@ -53,7 +53,7 @@ impl Machine {
         }
     }
 
-    /// The parameters that all classes have. None where two classes differ.
+    /// Returns the parameters that all classes have, or `None` if two classes differ.
     pub fn uniform(&self) -> Option<Params>
         ensures same { IfSome result (λ p. (class : ℕ) → class < length (known self.now).classes
             → numbers_of (known self.now) class ≡ numbers p) }
@@ -69,7 +69,8 @@ impl Machine {
         Some(first)
     }
 
-    // The costs of a message from a rank to a rank. As a part of its callers it reads only the parameters that they ask for.
+    // The costs of a message, by sending and receiving rank. Inlined into its callers, it reads only the parameters
+    // that they use.
     #[inline(always)]
     fn costs(&self, from: u32, to: u32) -> LogGops
         ensures { log_gops (numbers result.params) ≡ costs_between (known self.now) from to }

@@ -1,4 +1,4 @@
-// From a text to its machine.
+//! Reading a machine from its text.
 ghost use Rattle.std.specs.Prelude.{ℕ, List, [], ◌∷◌, ◌++◌, ◌≡◌, ◌≢◌, ◌≤◌, ◌<◌, Ok, Err, None, map, length, codes, Some, IfOk, IfErr};
 ghost use Rattle.goal_limits.specs.declared.limits.TheConstants.{MAX_RANKS};
 ghost use Rattle.sim_params.specs.Costs.{Numbers};
@@ -19,7 +19,7 @@ use sim_params::{MAX_PICOS, Params};
 use std::alloc::Global;
 use std::collections::BTreeMap;
 
-// The parameters of a class.
+// Reads the parameters of a class.
 fn read_class(words: &mut Words<'_>) -> Result<Params, MachineFault>
     ensures next { IfOk result (λ p. (rest : Numbers → Form)
         → said (class_part rest) words.old.place words.old.words ≡ said (rest (numbers p)) words.new.place words.new.words) }
@@ -46,7 +46,7 @@ fn read_class(words: &mut Words<'_>) -> Result<Params, MachineFault>
     })
 }
 
-// The parameters of so many classes.
+// Reads the parameters of `count` classes.
 fn read_classes(
     alloc: Global,
     words: &mut Words<'_>,
@@ -66,7 +66,7 @@ fn read_classes(
     Ok(classes)
 }
 
-// The nodes of so many ranks.
+// Reads the nodes of `count` ranks.
 fn read_nodes(alloc: Global, words: &mut Words<'_>, count: u64) -> Result<Vec<u32>, MachineFault>
     ensures next { IfOk result (λ v. (classes : List Numbers) (inside usual : ℕ)
         → said (nodes_part count classes inside usual []) words.old.place words.old.words
@@ -82,7 +82,7 @@ fn read_nodes(alloc: Global, words: &mut Words<'_>, count: u64) -> Result<Vec<u3
     Ok(nodes)
 }
 
-// A node to which no class is told yet from node `from`.
+// Reads a node for which the class from node `from` is not yet given.
 fn read_target(
     words: &mut Words<'_>,
     told: &BTreeMap<u64, u32>,
@@ -106,7 +106,7 @@ fn read_target(
     Ok(target)
 }
 
-// So many pairs of nodes with the class between them, up to the end of the text.
+// Reads `count` pairs of nodes with the class between them, up to the end of the text.
 fn read_pairs(
     alloc: Global,
     words: &mut Words<'_>,
@@ -133,7 +133,7 @@ fn read_pairs(
     Ok(told)
 }
 
-// The class inside a node, and the usual one between nodes.
+// Reads the class inside a node, and the default class between nodes.
 fn read_usual(words: &mut Words<'_>, count: u64) -> Result<(u32, u32), MachineFault>
     requires { count ≤ 16 }
     ensures next { IfOk result (λ p. (classes : List Numbers) → length classes ≡ count
@@ -150,7 +150,7 @@ fn read_usual(words: &mut Words<'_>, count: u64) -> Result<(u32, u32), MachineFa
     Ok((inside, usual))
 }
 
-// The node of each rank.
+// Reads the node of each rank.
 fn read_ranks(alloc: Global, words: &mut Words<'_>) -> Result<Vec<u32>, MachineFault>
     ensures next { IfOk result (λ v. (classes : List Numbers) (inside usual : ℕ)
         → said (Fixed (codes "ranks") (Value (between 1 MAX_RANKS) (λ ranks. nodes_part ranks classes inside usual []))) words.old.place words.old.words
@@ -164,7 +164,7 @@ fn read_ranks(alloc: Global, words: &mut Words<'_>) -> Result<Vec<u32>, MachineF
     read_nodes(alloc, words, ranks)
 }
 
-// The class that is told for each pair of nodes, up to the end of the text.
+// Reads the class given for each pair of nodes, up to the end of the text.
 fn read_told(alloc: Global, words: &mut Words<'_>, classes: u64) -> Result<Told, MachineFault>
     requires { classes ≤ 16 }
     ensures next { IfOk result (λ told. (numbers : List Numbers) (inside usual : ℕ) (nodes : List ℕ) → length numbers ≡ classes
@@ -181,7 +181,7 @@ fn read_told(alloc: Global, words: &mut Words<'_>, classes: u64) -> Result<Told,
     Ok(Told::of(alloc, pairs)?)
 }
 
-// What stands behind the classes.
+// Reads what follows the classes.
 fn read_places(
     alloc: Global,
     words: &mut Words<'_>,
@@ -205,11 +205,11 @@ fn read_places(
     })
 }
 
-/// The machine that a text says.
+/// Returns the machine that a text describes.
 ///
 /// # Errors
 ///
-/// The fault of the first word that fails, and `NoMemory` where memory ran out.
+/// The fault of the first word that fails, or `NoMemory`.
 #[tactic(auto, unfolding(crate::specs::Form::machine))]
 pub fn read_machine(alloc: Global, text: &[u8]) -> Result<Machine, MachineFault>
     ensures machine { IfOk result (λ m. machine text.now ≡ Ok (known m)) }

@@ -1,4 +1,4 @@
-// The classes that a machine tells for pairs of nodes.
+//! The classes that a machine gives for pairs of nodes.
 ghost use Rattle.std.specs.Prelude.{◌≡◌, Some, IfOk, IfSome};
 ghost use Rattle.std.specs.Ordering.{nat_cmp};
 ghost use Rattle.std.specs.List.Sorted.{IsStrictlySortedBy};
@@ -11,11 +11,12 @@ use std::alloc::{AllocError, Global};
 use std::collections::BTreeMap;
 use std::marker::Model;
 
-/// The classes that are told, each at the key of its pair of nodes, in the order of the keys. Contracts see the list of them.
+/// The classes given for pairs of nodes, each at the key of its pair, in the order of the keys. Contracts see this
+/// list.
 #[derive(Drop)]
 pub(crate) struct Told {
     entries: Vec<(u64, u32)>,
-    // where those from each node begin, and last where all end
+    // the start of the entries from each node, and last the end of all
     starts: Vec<usize>,
 }
 
@@ -31,14 +32,14 @@ impl Model for Told {
     ghost invariant = { λ t. AreInRows t.entries.items t.starts.items };
 }
 
-// The key of a pair of nodes: its order is that of the pairs.
+// Returns the key of a pair of nodes. Keys are in the order of the pairs.
 pub(crate) fn pair_key(a: u32, b: u32) -> u64
     ensures { result ≡ pair_key a b }
 {
     u64::from(a) * 4_294_967_296 + u64::from(b)
 }
 
-// Where the entries from each node begin, and last where those from the greatest end.
+// Returns the start of the entries from each node, and last the end of those from the greatest.
 fn starts_of(alloc: Global, entries: &[(u64, u32)]) -> Result<Vec<usize>, AllocError>
     requires { IsStrictlySortedBy nat_cmp (keys_of entries.now) }
     ensures { IfOk result (λ starts. AreStarts entries.now starts.items) }
@@ -55,11 +56,7 @@ fn starts_of(alloc: Global, entries: &[(u64, u32)]) -> Result<Vec<usize>, AllocE
 }
 
 impl Told {
-    /// What a map tells.
-    ///
-    /// # Errors
-    ///
-    /// Where memory ran out.
+    /// Builds the table of a map. `Err` means out of memory.
     pub(crate) fn of(alloc: Global, map: BTreeMap<u64, u32>) -> Result<Told, AllocError>
         ensures { IfOk result (λ told. told ≡ map.entries) }
     {
@@ -71,7 +68,7 @@ impl Told {
         Ok(Told { entries, starts })
     }
 
-    // Between which places all entries from a node stand.
+    // Returns the places of all entries from a node: the first, and the one after the last.
     fn row(&self, node: u32) -> (usize, usize)
         ensures { IsRow self.now node result.0 result.1 }
     {
@@ -83,8 +80,8 @@ impl Told {
         }
     }
 
-    // Where the entry of a pair stands, if a class is told to each node from the first of its row on. It counts for nothing
-    // until the key there has been looked at.
+    // Guesses the place of the entry of a pair, as if classes were given to every node from the first of its row on.
+    // The guess must be checked by the key at that place.
     fn guess(&self, a: u32, b: u32) -> usize {
         let start = self.row(a).0;
         match self.entries.get(start) {
@@ -95,7 +92,7 @@ impl Told {
         }
     }
 
-    // The class that is told at a key, where that stands at this place.
+    // Returns the class at a key, if that is at this place.
     fn class_at(&self, place: usize, key: u64) -> Option<u32>
         ensures { IfSome result (λ class. lookup (is_at (nat_cmp key)) self.now ≡ Some class) }
     {
@@ -105,7 +102,7 @@ impl Told {
         }
     }
 
-    // The class that is told for two nodes, found in as many steps as the count of those from the first has binary digits.
+    // Returns the class given for two nodes by binary search in the row of the first.
     fn search(&self, a: u32, b: u32) -> Option<u32>
         ensures { result ≡ told_by self.now a b }
     {
@@ -117,8 +114,8 @@ impl Told {
         }
     }
 
-    /// The class that is told for two nodes. It is found at once where the first tells classes to all nodes from its first
-    /// on, with itself or without.
+    /// Returns the class given for two nodes, if any. It is found at once if the first node has entries for all nodes
+    /// from its first entry on, with or without itself.
     pub(crate) fn class(&self, a: u32, b: u32) -> Option<u32>
         ensures { result ≡ told_by self.now a b }
     {

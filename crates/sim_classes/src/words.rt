@@ -1,4 +1,4 @@
-// The words of a machine text, one after the other.
+//! The words of a machine text, one after another.
 ghost use Rattle.std.specs.Prelude.{ℕ, List, Err, ◌≡◌, ◌≢◌, ◌+◌, ◌<◌, ◌≤◌, ◌^◌, [], ◌∷◌, length, not, IfOk, IfErr, IfSome, IfNone};
 ghost use Rattle.std.specs.List.{prefix_len, list_all};
 ghost use Rattle.std.specs.Char.{is_ascii_digit};
@@ -10,7 +10,7 @@ ghost use Rattle.sim_params.specs.Costs.{Numbers};
 use crate::fault::MachineFault;
 use std::marker::Model;
 
-// The words that are left, and the number of the first of them.
+/// The remaining words, and the number of the first of them.
 #[derive(Drop)]
 pub struct Words<'a> {
     rest: &'a [u8],
@@ -29,14 +29,14 @@ impl<'a> Model for Words<'a> {
     ghost invariant = { λ w. w.place + length w.rest.now < 2 ^ 64 };
 }
 
-// Whether a byte is a blank.
+// Returns whether a byte is a blank.
 fn is_blank(byte: u8) -> bool
     ensures { result ≡ is_blank byte }
 {
     byte == b' ' || byte == b'\t' || byte == b'\r' || byte == b'\n'
 }
 
-// How many blanks stand at the front.
+// Returns the number of blanks at the front.
 fn blanks(bytes: &[u8]) -> usize
     ensures { result ≡ prefix_len is_blank bytes.now }
 {
@@ -47,7 +47,7 @@ fn blanks(bytes: &[u8]) -> usize
     len
 }
 
-// How many bytes that are no blanks stand at the front.
+// Returns the number of bytes at the front that are not blanks.
 fn word_len(bytes: &[u8]) -> usize
     ensures { result ≡ prefix_len (λ b. not (is_blank b)) bytes.now }
 {
@@ -58,17 +58,17 @@ fn word_len(bytes: &[u8]) -> usize
     len
 }
 
-// The most digits that a number may have.
+// The most digits of a number.
 const MOST_DIGITS: usize = 20;
 
-// Whether all bytes are decimal digits.
+// Returns whether all bytes are decimal digits.
 fn are_digits(word: &[u8]) -> bool
     ensures { result ≡ list_all is_ascii_digit word.now }
 {
     word.iter().all(|byte| byte.is_ascii_digit())
 }
 
-// The value of a word that is a number.
+// Returns the value of a word that is a number.
 fn value_of(word: &[u8]) -> Option<u128>
     ensures { result ≡ value_of word.now }
 {
@@ -83,7 +83,7 @@ fn value_of(word: &[u8]) -> Option<u128>
 }
 
 impl<'a> Words<'a> {
-    // The words of a text.
+    /// Starts with the words of a text.
     pub fn new(text: &'a [u8]) -> Words<'a>
         ensures { result ≡ record { place = 0; words = words text.now } }
     {
@@ -93,7 +93,7 @@ impl<'a> Words<'a> {
         }
     }
 
-    // Takes the next word off. None, and nothing changes, where no word is left.
+    /// Takes the next word. At the end it returns `None`, and nothing changes.
     pub fn take(&mut self) -> Option<&'a [u8]>
         ensures word { IfSome result (λ w. self.old.words ≡ w.now ∷ self.new.words) }
         ensures place { IfSome result (λ w. self.new.place ≡ self.old.place + 1) }
@@ -109,7 +109,7 @@ impl<'a> Words<'a> {
         Some(word)
     }
 
-    // Takes a fixed word off.
+    /// Takes a fixed word.
     pub fn fixed(&mut self, word: &str) -> Result<(), MachineFault>
         ensures next { IfOk result (λ _. (rest : Form)
             → said (Fixed word.now rest) self.old.place self.old.words ≡ said rest self.new.place self.new.words) }
@@ -129,7 +129,7 @@ impl<'a> Words<'a> {
         }
     }
 
-    // Takes a number off, and gives it with its place.
+    /// Takes a number, and returns its place and its value.
     pub fn number(&mut self) -> Result<(u64, u128), MachineFault>
         ensures next { IfOk result (λ p. (test : Test) (rest : ℕ → Form)
             → said (Value test rest) self.old.place self.old.words
@@ -147,7 +147,7 @@ impl<'a> Words<'a> {
         }
     }
 
-    // Takes a number from the least to the most off.
+    /// Takes a number from `least` to `most`.
     pub fn number_from(&mut self, least: u64, most: u64) -> Result<u64, MachineFault>
         ensures next { IfOk result (λ n. (rest : ℕ → Form)
             → said (Value (between least most) rest) self.old.place self.old.words ≡ said (rest n) self.new.place self.new.words) }
@@ -162,7 +162,7 @@ impl<'a> Words<'a> {
         Ok(value as u64)
     }
 
-    // Takes the number of one of so many classes off.
+    /// Takes the number of a class, of which there are `count`.
     pub fn class_number(&mut self, count: u64) -> Result<u64, MachineFault>
         ensures next { IfOk result (λ n. (classes : List Numbers) (rest : ℕ → Form) → length classes ≡ count
             → said (Value (class_number classes) rest) self.old.place self.old.words ≡ said (rest n) self.new.place self.new.words) }
@@ -177,7 +177,7 @@ impl<'a> Words<'a> {
         Ok(value as u64)
     }
 
-    // The end of the text.
+    /// Checks that no word is left.
     pub fn end(&mut self) -> Result<(), MachineFault>
         ensures next { IfOk result (λ _. self.old.words ≡ []) }
         ensures fault { IfErr result (λ fault. (m : Known) → said (End m) self.old.place self.old.words ≡ Err fault) }

@@ -9,7 +9,7 @@ use Rattle.sim_classes.proofs.Said.{end_said}
 use Rattle.sim_classes.proofs.Keys.{told_after, told_within}
 use Rattle.sim_classes.proofs.reading.read_pairs.Goals as goal
 
--- what stands behind the numbers of two nodes, and behind the first
+-- what follows the numbers of two nodes, and of the first
 abbrev last : ℕ → ℕ → List Numbers → ℕ → ℕ → List ℕ → (ℕ → ℕ → Option ℕ) → ℕ → ℕ → ℕ → Form
 last n i numbers inside usual nodes told a b class = triples (n - (i + 1)) (machine_with numbers inside usual nodes (telling told a b class))
 

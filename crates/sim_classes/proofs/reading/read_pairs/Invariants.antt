@@ -5,7 +5,7 @@ use Rattle.sim_classes.specs.Parts.{told_by}
 use Rattle.sim_classes.specs.Form.{said, triples}
 use Rattle.sim_classes.proofs.reading.read_pairs.Given as goal
 
--- the pairs that are left follow those so far
+-- the remaining pairs follow those so far
 abbrev pub invariant-loop : goal.invariant-loop
 invariant-loop l =
     ((numbers : List Numbers) (inside usual : ℕ) (nodes : List ℕ) → length numbers ≡ l.classes

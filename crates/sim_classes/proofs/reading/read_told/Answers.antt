@@ -5,7 +5,7 @@ use Rattle.sim_classes.specs.Machine.{machine_with}
 use Rattle.sim_classes.specs.Form.{Form, triples}
 use Rattle.sim_classes.proofs.reading.read_told.Goals as goal
 
--- what stands behind the count of the pairs
+-- what follows the number of pairs
 abbrev behind : List Numbers → ℕ → ℕ → List ℕ → ℕ → Form
 behind numbers inside usual nodes k = triples k (machine_with numbers inside usual nodes (λ a b. None))
 

@@ -2,6 +2,6 @@ use Rattle.std.proofs.Common.{◌≡◌, length}
 use Rattle.sim_classes.specs.Rows.{AreStarts}
 use Rattle.sim_classes.proofs.told.starts_of.Given as goal
 
--- the starts so far, one a node
+-- the starts so far, one per node
 abbrev pub invariant-loop-node : goal.invariant-loop-node
 invariant-loop-node l = AreStarts l.entries l.starts.items × (length l.starts.items ≡ l.node-counter)

@@ -3,7 +3,7 @@ use Rattle.std.specs.List.{prefix_len}
 use Rattle.sim_classes.specs.Form.{is_blank}
 use Rattle.sim_classes.proofs.words.blanks.Given as goal
 
--- what is at the front is so many, and what is at the front behind them
+-- the blanks counted so far, followed by those at the front of the rest, are all blanks at the front
 abbrev pub invariant-loop-len : goal.invariant-loop-len
 invariant-loop-len l = (l.len ≤ length l.bytes) × (prefix_len is_blank l.bytes ≡ l.len + prefix_len is_blank (drop l.len l.bytes))
 

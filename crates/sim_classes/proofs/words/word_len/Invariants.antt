@@ -3,7 +3,7 @@ use Rattle.std.specs.List.{prefix_len}
 use Rattle.sim_classes.specs.Form.{is_blank}
 use Rattle.sim_classes.proofs.words.word_len.Given as goal
 
--- what is at the front is so many, and what is at the front behind them
+-- the bytes counted so far, followed by those at the front of the rest, are all at the front
 abbrev pub invariant-loop-len : goal.invariant-loop-len
 invariant-loop-len l = (l.len ≤ length l.bytes) × (prefix_len (λ b. not (is_blank b)) l.bytes ≡ l.len + prefix_len (λ b. not (is_blank b)) (drop l.len l.bytes))
 
