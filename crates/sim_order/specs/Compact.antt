@@ -1,4 +1,4 @@
--- The key of an event in two numbers: its time, and its class, rank and number as the digits of one number.
+-- The key of an event as two numbers: its time, and its class, rank and number as the digits of one number.
 use Rattle.std.specs.Prelude.{◌≡◌, ℕ, ◌+◌, ◌*◌, ◌/◌, ◌%◌, ◌<◌, ◌==◌, if◌then◌else◌, zero, suc, refl}
 use Rattle.std.proofs.Common.{ap, ◌∙◌, arith}
 use Rattle.std.proofs.lemmas.Nat.{div-add-mod'}
@@ -9,11 +9,11 @@ use Rattle.goal_graph.specs.declared.action.OpId.{OpId}
 use Rattle.goal_graph.specs.declared.action.Timed.{Timed}
 use Rattle.goal_graph.specs.Action.{place}
 
--- the class at a place in the order at one time
+-- the class at a place in the order of classes
 abbrev pub class_at : ℕ → Class
 class_at n = if n == 0 then Arrive else (if n == 1 then Serve else (if n == 2 then Data else (if n == 3 then Post else Begin)))
 
--- a class and an operation as one number, the tail, whose digits are the place of the class, the rank and the number
+-- the tail of a class and an operation: one number, whose digits are the place of the class, the rank and the number
 abbrev pub tail_of : Class → OpId → ℕ
 tail_of class op = (place class * MAX_RANKS + op.rank) * MAX_OPS + op.op
 
@@ -25,7 +25,7 @@ timed_of time tail = record {
   op = record { rank = tail / MAX_OPS % MAX_RANKS; op = tail % MAX_OPS };
 }
 
--- there is a class at the place
+-- a class has that place
 abbrev pub IsTail : ℕ → Type 0
 IsTail tail = tail / MAX_OPS / MAX_RANKS < 5
 
@@ -37,7 +37,7 @@ place_of_class_at (suc (suc (suc zero))) h = refl
 place_of_class_at (suc (suc (suc (suc zero)))) h = refl
 place_of_class_at (suc (suc (suc (suc (suc n))))) h = absurd (omega (arith, h))
 
--- a tail is that of its class and operation
+-- a tail comes from its class and operation
 pub tail_of_parts : (tail : ℕ) → IsTail tail → tail_of (timed_of 0 tail).class (timed_of 0 tail).op ≡ tail
 tail_of_parts tail h =
     ap (λ n. (n * MAX_RANKS + tail / MAX_OPS % MAX_RANKS) * MAX_OPS + tail % MAX_OPS) (place_of_class_at (tail / MAX_OPS / MAX_RANKS) h)

@@ -11,7 +11,7 @@ use Rattle.sim_order.specs.Order.{lexical}
 abbrev pub class_less : Class → Class → Bool
 class_less a b = nat_lt (place a) (place b)
 
--- events by time, at one time by class, then by the rank of the operation, then by its number
+-- the order of events: by time, then by class, then by the rank of the operation, then by its number
 abbrev pub event_before : Timed → Timed → Bool
 event_before a b =
     lexical (nat_lt a.time b.time) (nat_lt b.time a.time)

@@ -1,11 +1,11 @@
--- The key of an event, as the event and as the nest of pairs.
+-- The key of an event, as the event and as nested pairs.
 use Rattle.std.specs.Prelude.{ℕ}
 use Rattle.goal_graph.specs.declared.action.Timed.{Timed}
 use Rattle.goal_graph.specs.declared.action.Class.{Class}
 use Rattle.sim_order.specs.declared.key.Lex.{Lex}
 use Rattle.sim_order.specs.declared.order.Counted.{Counted}
 
--- time, class, rank and number, each after the one before it
+-- time, class, rank and number, nested in this order
 abbrev pub Nest : Type 0
 Nest = Counted (Lex ℕ (Lex Class (Lex ℕ ℕ)))
 

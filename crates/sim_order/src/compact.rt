@@ -1,4 +1,4 @@
-// Keys of events in two words.
+//! Keys of events in two words.
 ghost use Rattle.std.specs.Prelude.{◌≡◌, ◌<◌};
 ghost use Rattle.goal_limits.specs.declared.limits.TheConstants.{MAX_RANKS, MAX_OPS};
 ghost use Rattle.goal_graph.specs.Action.{place};
@@ -10,14 +10,14 @@ use goal_limits::{MAX_OPS, MAX_RANKS};
 use std::marker::Model;
 use std::sync::ledger::Ledger;
 
-// One more than the greatest rank of a compact key.
+// The number of ranks that a compact key can name.
 const RANKS: u64 = MAX_RANKS as u64;
 
-// One more than the greatest number of an operation in its rank.
+// The number of operations of a rank that a compact key can name.
 const OPS: u64 = MAX_OPS as u64;
 
-/// The key of an event of a schedule, whose rank is below 2^16 and whose number in the rank is below 2^20, in 16 bytes. It
-/// is compared in at most two comparisons of words, and is in the order of `EventKey`.
+/// The key of an event in 16 bytes: its rank is below 2^16, and its number in the rank below 2^20. It has the order of
+/// [`crate::EventKey`], and compares in at most two comparisons of words.
 #[derive(Clone, Copy, Debug, PartialEq, Eq)]
 pub struct CompactKey {
     time: u64,
@@ -40,7 +40,7 @@ impl Model for CompactKey {
     ghost inverse_ok = { λ k h i. record { time = k.time; tail = tail_of_parts k.tail h i } };
 }
 
-// The place of a class in the order at one time.
+// The place of a class in the order of classes.
 fn place(class: Class) -> u64
     ensures { result ≡ place class }
 {
@@ -53,7 +53,7 @@ fn place(class: Class) -> u64
     }
 }
 
-// The class at a place in the order at one time.
+// The class at a place in the order of classes.
 fn class_at(place: u64) -> Class
     ensures { result ≡ class_at place }
 {
@@ -67,7 +67,7 @@ fn class_at(place: u64) -> Class
 }
 
 impl CompactKey {
-    /// The key of the action of a class and operation at a time in nanoseconds.
+    /// Returns the key of an action, at a time in nanoseconds.
     pub fn new(time: u64, class: Class, id: OpId) -> CompactKey
         requires rank { id.rank < MAX_RANKS }
         requires number { id.op < MAX_OPS }

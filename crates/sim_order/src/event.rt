@@ -1,4 +1,4 @@
-// The keys of events.
+//! The keys of events.
 ghost use Rattle.std.specs.Prelude.{◌≡◌};
 
 use crate::{Counted, EventOrder, Lex, Steps};
@@ -6,8 +6,8 @@ use goal_graph::{Class, OpId};
 use std::marker::Model;
 use std::sync::ledger::Ledger;
 
-/// The key of an event: its time in nanoseconds, its class and its operation. Events are ordered by time, at one time
-/// by class, then by rank and by the number in the rank.
+/// The key of an event: its time in nanoseconds, its class and its operation. Events are ordered by time, then by
+/// class, then by rank, then by the number in the rank.
 #[derive(Clone, Copy, Debug, PartialEq, Eq)]
 pub struct EventKey {
     nest: Counted<Lex<u64, Lex<Class, Lex<u32, u32>>>>,
@@ -25,7 +25,7 @@ impl Model for EventKey {
 }
 
 impl EventKey {
-    /// The key of the action of a class and operation at a time in nanoseconds.
+    /// Returns the key of an action, at a time in nanoseconds.
     pub fn new(time: u64, class: Class, id: OpId) -> EventKey
         ensures { result ≡ record { time = time; class = class; op = id } }
     {
@@ -43,28 +43,28 @@ impl EventKey {
         }
     }
 
-    /// The key of the same action at another time, in nanoseconds.
+    /// Returns the key of the same action at another time, in nanoseconds.
     pub fn at(&self, time: u64) -> EventKey
         ensures { result ≡ record { time = time; class = self.now.class; op = self.now.op } }
     {
         EventKey::new(time, self.class(), self.id())
     }
 
-    /// The time, in nanoseconds.
+    /// Returns the time, in nanoseconds.
     pub fn time(&self) -> u64
         ensures { result ≡ self.now.time }
     {
         self.nest.0.first
     }
 
-    /// The class of the action.
+    /// Returns the class of the action.
     pub fn class(&self) -> Class
         ensures { result ≡ self.now.class }
     {
         self.nest.0.rest.first
     }
 
-    /// The operation.
+    /// Returns the operation.
     pub fn id(&self) -> OpId
         ensures { result ≡ self.now.op }
     {

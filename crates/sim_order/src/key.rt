@@ -1,19 +1,19 @@
-// Orders of keys, which count nothing.
+//! Orders of keys, whose comparisons are not counted.
 ghost use Rattle.std.specs.Prelude.{◌≡◌, Bool};
 ghost use Rattle.sim_order.specs.Order.{IsOrder};
 
 use goal_graph::Class;
 
-/// Keys in a total order.
+/// A type of keys with a total order.
 pub trait KeyOrder {
-    /// Whether the first key is less than the second.
+    /// The first key is less than the second.
     ghost less: { Self → Self → Bool };
 
-    /// Whether this key is less than the other.
+    /// Returns whether this key is less than the other.
     fn less(&self, other: &Self) -> bool
         ensures { result ≡ less self.now other.now };
 
-    /// Nothing is less than itself, the order is transitive, and of two different keys one is less.
+    /// No key is less than itself, the order is transitive, and of two different keys one is less.
     ghost laws: { IsOrder less };
 }
 
@@ -57,10 +57,12 @@ impl KeyOrder for Class {
     }
 }
 
-/// Pairs in lexical order: by their first parts and, where these are equal, by their rests.
+/// Pairs in lexical order: by their first parts, and if these are equal, by their rests.
 #[derive(Clone, Copy, Debug, PartialEq, Eq, Drop)]
 pub struct Lex<A, B> {
+    /// The part that is compared first.
     pub first: A,
+    /// The part that is compared if the first parts are equal.
     pub rest: B,
 }
 
@@ -78,7 +80,7 @@ impl<A: KeyOrder, B: KeyOrder> KeyOrder for Lex<A, B> {
     }
 }
 
-/// The order turned round: the greatest key is the least.
+/// The reversed order: the greatest key is the least.
 #[derive(Clone, Copy, Debug, PartialEq, Eq, Drop)]
 pub struct Flip<K>(pub K);
 

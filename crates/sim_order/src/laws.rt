@@ -1,4 +1,5 @@
-// The laws of orders that compare different values, and of events by key. Their functions do nothing: a proof cites a law by a call.
+//! The laws of orders: different values compare, and events are in the order of keys. The functions do nothing: a proof
+//! cites a law by a call.
 ghost use Rattle.std.specs.Prelude.{◌≡◌, ◌≢◌, ◌⊎◌, true};
 ghost use Rattle.sim_order.specs.Events.{EventsGoByKey};
 

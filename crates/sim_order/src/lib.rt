@@ -1,4 +1,5 @@
-//! Orders of keys and of events, each with its laws. The comparisons of events are counted. What has come so far, for proofs.
+//! Orders of keys and of events, each with its laws; comparisons of events are counted. Also lists of past items, for
+//! proofs.
 #![tactic(auto)]
 
 mod compact;

@@ -1,25 +1,25 @@
-// Orders of events, whose comparisons are counted.
+//! Orders of events, whose comparisons are counted.
 ghost use Rattle.std.specs.Prelude.{◌≡◌, ◌+◌, Bool};
 ghost use Rattle.sim_order.specs.Order.{IsOrder};
 
 use crate::{KeyOrder, Steps};
 use std::sync::ledger::Ledger;
 
-/// Events in a total order, each comparison of which counts.
+/// A type of events with a total order, whose comparisons are counted.
 pub trait EventOrder {
-    /// Whether the first event is before the second.
+    /// The first event is before the second.
     ghost before: { Self → Self → Bool };
 
-    /// Whether this event is before the other. It ticks once.
+    /// Returns whether this event is before the other, and counts one step.
     fn before<L: Ledger>(&self, other: &Self, steps: &mut Steps<L>) -> bool
         ensures tells { result ≡ before self.now other.now }
         ensures ticks { steps.new ≡ steps.old + 1 };
 
-    /// Nothing is before itself, the order is transitive, and of two different events one is before the other.
+    /// No event is before itself, the order is transitive, and of two different events one is before the other.
     ghost laws: { IsOrder before };
 }
 
-/// Keys whose comparisons count.
+/// Keys whose comparisons are counted.
 #[derive(Clone, Copy, Debug, PartialEq, Eq, Drop)]
 pub struct Counted<K>(pub K);
 

@@ -1,11 +1,11 @@
-// What has come so far, for proofs alone.
+//! Lists of past items, for proofs only.
 ghost use Rattle.std.specs.Prelude.{◌≡◌, List, [], ◌∷◌, ◌++◌};
 ghost use Rattle.std.specs.Borrow.{ftrue};
 
 use std::marker::{Model, PhantomData};
 
-/// The items that were pushed so far, oldest first. Contracts and proofs alone see them, as `items`: at run time it takes no
-/// bytes, and its calls do nothing.
+/// The items that were pushed so far, oldest first. Only contracts and proofs see them, as `items`: at run time it
+/// takes no memory, and its calls do nothing.
 #[derive(Drop)]
 pub struct Past<T> {
     of: PhantomData<T>,
@@ -17,7 +17,7 @@ impl<T> Model for Past<T> {
 }
 
 impl<T> Past<T> {
-    /// Nothing has come.
+    /// Returns an empty list.
     #[inline(always)]
     pub fn new() -> Past<T>
         ensures { result.items ≡ [] }
@@ -25,7 +25,7 @@ impl<T> Past<T> {
         Past { of: PhantomData }
     }
 
-    /// The same, and behind it one item more.
+    /// Returns the list with another item at its end.
     #[inline(always)]
     pub fn and(&self, item: &T) -> Past<T>
         ensures { result.items ≡ self.now.items ++ item.now ∷ [] }
@@ -33,7 +33,7 @@ impl<T> Past<T> {
         Past { of: PhantomData }
     }
 
-    /// One item more has come.
+    /// Appends an item.
     #[inline(always)]
     pub fn push(&mut self, item: &T)
         ensures { self.new.items ≡ self.old.items ++ item.now ∷ [] }

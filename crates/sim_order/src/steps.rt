@@ -1,11 +1,11 @@
-// Counting what is done.
+//! Counting steps.
 ghost use Rattle.std.specs.Prelude.{◌≡◌, ◌+◌, ◌<◌};
 
 use std::marker::Model;
 use std::sync::ledger::{Blank, Book, Ledger, Share};
 
-/// A counter, of comparisons or of what else a contract counts. To a contract it is a number; at run time it takes no bytes,
-/// and its calls do nothing.
+/// A counter of comparisons, or of whatever else a contract counts. Contracts see its number; at run time it takes no
+/// memory, and its calls do nothing.
 ///
 /// To make one, pass a `Blank` to a function over `L: Ledger` that is called with `Brand` for `L`.
 #[derive(Drop)]
@@ -25,7 +25,7 @@ impl<L: Ledger> Model for Steps<L> {
 }
 
 impl<L: Ledger> Steps<L> {
-    /// A counter that stands at 0.
+    /// Creates a counter at 0.
     pub fn new(blank: Blank) -> Steps<L>
         requires name { blank.name ≡ L.name }
         requires parts { blank.parts ≡ L.parts }
@@ -36,7 +36,7 @@ impl<L: Ledger> Steps<L> {
         Steps { book, share }
     }
 
-    /// Counts one.
+    /// Counts one step.
     pub fn tick(&mut self)
         ensures { self.new ≡ self.old + 1 }
     {
