@@ -1,4 +1,4 @@
--- The lemmas of this crate that upper crates cite: they import this file alone.
+-- The lemmas that upper crates may use: they import this file alone.
 pub use Rattle.sim_heaps.proofs.Weak.{not_both, through}
 pub use Rattle.sim_heaps.proofs.Maps.{get_added, get_before_added, get_set_other, get_set_same, key_within, least_is_sole, none_of, same_maps}
 pub use Rattle.sim_heaps.proofs.Items.{item_of, items_fit, length-placed}

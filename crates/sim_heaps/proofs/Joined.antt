@@ -1,4 +1,4 @@
--- What each slot has in one of two maps, of which one is changed.
+-- What each slot has in one of two maps, one of which is changed.
 use Rattle.std.proofs.Common.{◌≡◌, ℕ, zero, suc, List, [], ◌∷◌, length, replicate, slice_set, Option, Some, None, refl, ap, arith}
 use Rattle.sim_heaps.specs.Map.{either, key_at}
 use Rattle.sim_heaps.specs.RunHeap.{joined}
@@ -19,7 +19,7 @@ module _ {K : Type 0} where
   joined_at [] (b ∷ other) e slot = absurd (omega (arith, e))
   joined_at (a ∷ one) [] e slot = absurd (omega (arith, e))
 
-  -- the first map has no key
+  -- the first map is empty
   pub nothing_first : (other : List (Option K)) → joined (replicate (length other) None) other ≡ other
   unfolding joined
   nothing_first [] = refl
@@ -34,7 +34,7 @@ module _ {K : Type 0} where
   put_first [] (b ∷ other) e slot k = absurd (omega (arith, e))
   put_first (a ∷ one) [] e slot k = absurd (omega (arith, e))
 
-  -- one that has none in the second gives up its key in the first
+  -- a slot without a key in the second loses its key in the first
   pub drop_first : (one other : List (Option K)) → length one ≡ length other → (slot : ℕ) → key_at other slot ≡ None → joined (slice_set one slot None) other ≡ slice_set (joined one other) slot None
   unfolding joined
   drop_first [] [] e slot none = refl
@@ -43,7 +43,7 @@ module _ {K : Type 0} where
   drop_first [] (b ∷ other) e slot none = absurd (omega (arith, e))
   drop_first (a ∷ one) [] e slot none = absurd (omega (arith, e))
 
-  -- what a slot that has none in the first map has in the second is changed
+  -- what a slot without a key in the first has in the second is changed
   pub set_second : (one other : List (Option K)) → length one ≡ length other → (slot : ℕ) (value : Option K) → key_at one slot ≡ None → joined one (slice_set other slot value) ≡ slice_set (joined one other) slot value
   unfolding joined
   set_second [] [] e slot value none = refl

@@ -1,4 +1,4 @@
--- A run beside a heap: what the slots have, where the least is, and what a step changes.
+-- A run with a heap: what the slots have, where the least is, and what a step changes.
 use Rattle.std.proofs.Common.{◌≡◌, ◌≢◌, ◌⊎◌, ℕ, zero, suc, ◌-◌, ◌^◌, ◌<◌, ◌≤◌, ◌++◌, ◌∷◌, [], Bool, true, false, List, length, drop, slice_get, slice_set, Option, Some, None, refl, sym, subst, ap, ◌∙◌, arith, inl, inr}
 use Rattle.std.specs.Prelude.{not}
 use Rattle.std.proofs.lemmas.List.{get_or-set_same, get_or-set_other, length-set, length-append}
@@ -44,7 +44,7 @@ module _ {K : Type 0} (before : K → K → Bool) (laws : IsOrder before) (run :
   pub heap_has : (slot : ℕ) (k : K) → key_at heap slot ≡ Some k → key_at (with_run run heap) slot ≡ Some k
   heap_has slot k e = here slot ∙ ap (λ o. either o (key_at heap slot)) (not_in_run slot k e) ∙ e
 
-  -- a key is that of an item of the run, or in the heap
+  -- a key belongs to an item of the run, or is in the heap
   pub found : (slot : ℕ) (k : K) → key_at (with_run run heap) slot ≡ Some k → Holds run (item_of slot k) ⊎ (key_at heap slot ≡ Some k)
   found slot k e = go (key_at in_run slot) refl
     where
@@ -67,7 +67,7 @@ module _ {K : Type 0} (before : K → K → Bool) (laws : IsOrder before) (run :
   free_in_heap slot e =
       sym (here slot ∙ ap (λ o. either o (key_at heap slot)) (free_in_run slot e)) ∙ e
 
-  -- a slot that has no key is one more than those of the run
+  -- a slot without a key is not one of the run
   pub run_fits : (x : Item K) → x.slot < length heap → key_at (with_run run heap) x.slot ≡ None → length run < length heap
   run_fits x slot_in free =
       let fit = items_fit (length heap) _ (added_apart run x (length heap) is.apart slot_in (free_in_run x.slot free)) in
@@ -121,7 +121,7 @@ module _ {K : Type 0} (before : K → K → Bool) (laws : IsOrder before) (run :
       let no = empty r.first.slot in
       absurd (cc)
 
-  -- the slot that is taken is that of the first of the run
+  -- the slot that is taken belongs to the first of the run
   pub sole_in_run : (r : IsRunFirst before run heap) (slot : ℕ) → IsSoleLeast before (with_run run heap) slot → r.first.slot ≡ slot
   sole_in_run r slot sole =
       elim (sole.first r.first.slot r.first.key (run_has 0 r.first r.stands)) [ inl e ↦ e | inr b ↦ (let no = (least_of_run r).least slot sole.key sole.has in absurd (cc)) ]
@@ -146,7 +146,7 @@ module _ {K : Type 0} (before : K → K → Bool) (laws : IsOrder before) (run :
             | inr b ↦ absurd (cc)
           ]
 
-  -- what a slot that is not in the run has in the heap is changed
+  -- what a slot outside the run has in the heap is changed
   module _ (slot : ℕ) (value : Option K) (free : key_at in_run slot ≡ None) where
     same_long : length (slice_set heap slot value) ≡ length heap
     same_long = length-set heap slot value
@@ -176,7 +176,7 @@ module _ {K : Type 0} (before : K → K → Bool) (laws : IsOrder before) (run :
         let other : one.slot ≢ slot = λ s. (let there : key_at heap slot ≡ Some one.key = ap (key_at heap) (sym s) ∙ has in absurd (cc)) in
         record { slot = one.slot; key = one.key; has = get_or-set_other heap slot one.slot value None other ∙ has; first = one.first }
 
-  -- an item stands at the end of the run
+  -- an item is appended to the run
   module _ (x : Item K) (slot_in : x.slot < length heap) (free : key_at (with_run run heap) x.slot ≡ None) (behind : IsBehind before run x) where
     abbrev more : List (Item K)
     more = run ++ x ∷ []
@@ -212,7 +212,7 @@ module _ {K : Type 0} (before : K → K → Bool) (laws : IsOrder before) (run :
             subst (HasOneFirst before heap) p.1
             (record { slot = one.slot; key = one.key; has = one.has; first = through before laws x.key y.key one.key (behind 0 y stands) one.first })
 
-  -- an item stands before the first of the run
+  -- an item is put before the first of the run
   pub led_in_order : (x : Item K) → IsAhead before run x → AreInOrder before (x ∷ run)
   led_in_order x ahead zero zero y z h e f = absurd (omega (arith, h))
   led_in_order x ahead zero (suc other) y z h e f = subst (λ (w : Item K). before z.key w.key ≡ false) (same_Some x y e) (ahead other z f)
@@ -261,7 +261,7 @@ module _ {K : Type 0} (before : K → K → Bool) (laws : IsOrder before) (run :
         least = λ slot k e. through before laws k r.first.key x.key (r.least slot k e) (ahead 0 r.first r.stands);
       }
 
-    -- it comes into the heap, where it is not before the first
+    -- it goes into the heap, since it is not before the first
     pub among_first : IsNotAhead before run x → IsRunFirst before run heap → IsRunFirst before run (slice_set heap x.slot (Some x.key))
     among_first late r = record { first = r.first; stands = r.stands; least = λ slot k e. go slot k e (same_or_not slot x.slot) }
       where
@@ -294,7 +294,7 @@ module _ {K : Type 0} (before : K → K → Bool) (laws : IsOrder before) (x : I
       to y (zero, e) n = let same : x ≡ y = same_Some x y e in absurd (n (ap (λ (z : Item K). z.slot) (sym same)))
       to y (suc place, e) n = (place, e)
 
--- which of the two has the least
+-- whether the run or the heap has the least
 module _ {K : Type 0} (before : K → K → Bool) (laws : IsOrder before) (run : List (Item K)) (heap : List (Option K)) where
   pub run_is_first : (first : Item K) → slice_get run 0 ≡ Some first → (slot : ℕ) (top : K) → IsLeast before heap slot top → before top first.key ≡ false → IsRunFirst before run heap
   run_is_first first stands slot top least late = record {
@@ -323,9 +323,9 @@ module _ {K : Type 0} (before : K → K → Bool) (laws : IsOrder before) (run :
   pub heap_is_alone : length run ≡ 0 → IsHeapFirst before run heap
   heap_is_alone none place x e = let within = slice_get_within run place x e in absurd (omega (arith, within, none))
 
--- what stands behind a run
+-- an item after a run
 module _ {K : Type 0} (before : K → K → Bool) (laws : IsOrder before) (run : List (Item K)) where
-  -- an item that is not before the last is behind all
+  -- an item that is not before the last is before none
   pub behind_last : AreInOrder before run → (last x : Item K) → slice_get run (length run - 1) ≡ Some last → before x.key last.key ≡ false → IsBehind before run x
   behind_last in_order last x stands late place y e = go (same_or_not place (length run - 1))
     where
@@ -353,7 +353,7 @@ module _ {K : Type 0} (before : K → K → Bool) (laws : IsOrder before) (run :
   pub ahead_of_none : (x : Item K) → length run ≡ 0 → IsAhead before run x
   ahead_of_none x none place y e = let within = slice_get_within run place y e in absurd (omega (arith, within, none))
 
--- where no item is in the run
+-- the run is empty
 module _ {K : Type 0} (before : K → K → Bool) (heap : List (Option K)) where
   pub no_run : length heap ≤ MAX_OPS → IsRun before [] heap
   no_run few = record {
@@ -368,7 +368,7 @@ module _ {K : Type 0} (before : K → K → Bool) (heap : List (Option K)) where
   no_run_keys = nothing_first heap
 
 module _ {K : Type 0} where
-  -- a list that has a first item
+  -- a list with a first item
   pub with_first : (run : List (Item K)) (x : Item K) → slice_get run 0 ≡ Some x → run ≡ x ∷ drop 1 run
   with_first [] x e = absurd (cc)
   with_first (y ∷ run) x e = ap (λ z. z ∷ run) (same_Some y x e)
@@ -377,7 +377,7 @@ module _ {K : Type 0} where
   some_first [] h = absurd (omega (arith, h))
   some_first (x ∷ run) h = (x, refl)
 
--- what the opposite of a test tells
+-- the opposite of a test
 pub untrue : (b : Bool) → not b ≡ true → b ≡ false
 untrue false e = refl
 untrue true e = absurd (cc)
@@ -386,7 +386,7 @@ pub unfalse : (b : Bool) → not b ≡ false → b ≡ true
 unfalse true e = refl
 unfalse false e = absurd (cc)
 
--- among two slots and more a comparison more is within the bound
+-- with two slots or more, another comparison is within the bound
 pub some_steps : (k : ℕ) → 2 ≤ 2 ^ k → 1 ≤ k
 some_steps zero h = absurd (omega (arith, h))
 some_steps (suc k) h = omega arith

@@ -1,4 +1,4 @@
--- A key with its slot, and the same in two numbers: its time, and the tail of the key and the slot as the digits of one number.
+-- A key with its slot, also as two numbers: its time, and the tail of the key and the slot as the digits of one number.
 use Rattle.std.specs.Prelude.{◌≡◌, ℕ, ◌+◌, ◌*◌, ◌/◌, ◌%◌}
 use Rattle.std.proofs.Common.{ap, ◌∙◌}
 use Rattle.std.proofs.lemmas.Nat.{div-add-mod'}
@@ -10,12 +10,12 @@ use Rattle.sim_order.specs.Compact.{timed_of, tail_of, tail_of_parts, IsTail}
 abbrev pub at_time : ℕ → Timed → Timed
 at_time time k = record { time = time; class = k.class; op = k.op }
 
--- a key, and the slot that has it
+-- a key with its slot
 pub record Item (K : Type 0) : Type 0 where
   pub key : K
   pub slot : ℕ
 
--- an item's tail, whose digits are the tail of the key and the slot
+-- the tail of an item: one number, whose digits are the tail of the key and the slot
 abbrev pub item_tail : Item Timed → ℕ
 item_tail x = tail_of x.key.class x.key.op * MAX_OPS + x.slot
 
@@ -23,11 +23,11 @@ item_tail x = tail_of x.key.class x.key.op * MAX_OPS + x.slot
 abbrev pub item_from : ℕ → ℕ → Item Timed
 item_from time tail = record { key = timed_of time (tail / MAX_OPS); slot = tail % MAX_OPS }
 
--- it is the tail of an item
+-- the number is the tail of an item
 abbrev pub IsItemTail : ℕ → Type 0
 IsItemTail tail = IsTail (tail / MAX_OPS)
 
--- a tail is that of its key and slot
+-- a tail comes from its key and slot
 pub item_tail_parts : (tail : ℕ) → IsItemTail tail → item_tail (item_from 0 tail) ≡ tail
 item_tail_parts tail h =
     ap (λ n. n * MAX_OPS + tail % MAX_OPS) (tail_of_parts (tail / MAX_OPS) h) ∙ div-add-mod' tail MAX_OPS

@@ -1,8 +1,8 @@
--- Maps from slots to keys. A map is the list of what its slots have, from slot 0 on: a key, or None.
+-- Maps from slots to keys: the list of what each slot has, from slot 0 on, a key or None.
 use Rattle.std.specs.Prelude.{◌≡◌, ◌⊎◌, ℕ, Bool, true, false, List, Option, Some, None, replicate, slice_index_or}
 
 module _ {K : Type 0} where
-  -- what a slot has in one of two maps
+  -- the key that a slot has in one of two maps, the first one preferred
   abbrev pub either : Option K → Option K → Option K
   either (Some k) other = Some k
   either None other = other
@@ -11,7 +11,7 @@ module _ {K : Type 0} where
   abbrev pub key_at : List (Option K) → ℕ → Option K
   key_at keys slot = slice_index_or keys slot None
 
-  -- so many slots without a key
+  -- `count` slots without a key
   abbrev pub no_keys : ℕ → List (Option K)
   no_keys count = replicate count None
 
@@ -24,7 +24,7 @@ module _ {K : Type 0} where
     pub has : key_at keys slot ≡ Some key
     pub least : (other : ℕ) (k : K) → key_at keys other ≡ Some k → before k key ≡ false
 
-  -- the slot has a key that is before that of each other slot
+  -- the slot has a key that is before the key of every other slot
   pub record IsSoleLeast (before : K → K → Bool) (keys : List (Option K)) (slot : ℕ) : Type 0 where
     pub key : K
     pub has : key_at keys slot ≡ Some key

@@ -1,4 +1,4 @@
--- A run, which is a queue of items in the order of their keys, beside a heap of other slots.
+-- A run, a queue of items in the order of their keys, together with a heap for other slots.
 use Rattle.std.specs.Prelude.{◌≡◌, ℕ, ◌<◌, ◌≤◌, Bool, true, false, List, [], ◌∷◌, length, Option, Some, None, slice_get}
 use Rattle.goal_limits.specs.declared.limits.TheConstants.{MAX_OPS}
 use Rattle.sim_heaps.specs.Item.{Item}
@@ -21,7 +21,7 @@ module _ {K : Type 0} (before : K → K → Bool) where
   AreInOrder run =
       (one other : ℕ) (x y : Item K) → one < other → slice_get run one ≡ Some x → slice_get run other ≡ Some y → before y.key x.key ≡ false
 
-  -- the item is before none of the run
+  -- the item is before no item of the run
   abbrev pub IsBehind : List (Item K) → Item K → Type 0
   IsBehind run x = (place : ℕ) (y : Item K) → slice_get run place ≡ Some y → before x.key y.key ≡ false
 
@@ -33,7 +33,7 @@ module _ {K : Type 0} (before : K → K → Bool) where
   abbrev pub IsNotAhead : List (Item K) → Item K → Type 0
   IsNotAhead run x = (y : Item K) → slice_get run 0 ≡ Some y → before x.key y.key ≡ false
 
-  -- the run is in order, and each of its items has a slot of its own, which has no key in the heap
+  -- the run is in order, and each item has its own slot, which has no key in the heap
   pub record IsRun (run : List (Item K)) (heap : List (Option K)) : Type 0 where
     pub few : length heap ≤ MAX_OPS
     pub apart : AreApart (length heap) run
@@ -46,7 +46,7 @@ module _ {K : Type 0} (before : K → K → Bool) where
     pub stands : slice_get run 0 ≡ Some first
     pub least : (slot : ℕ) (k : K) → key_at heap slot ≡ Some k → before k first.key ≡ false
 
-  -- no item of the run is before some key of the heap
+  -- some key of the heap is at most that of the item
   pub record HasOneFirst (heap : List (Option K)) (x : Item K) : Type 0 where
     pub slot : ℕ
     pub key : K
@@ -56,7 +56,7 @@ module _ {K : Type 0} (before : K → K → Bool) where
   abbrev pub IsHeapFirst : List (Item K) → List (Option K) → Type 0
   IsHeapFirst run heap = (place : ℕ) (x : Item K) → slice_get run place ≡ Some x → HasOneFirst heap x
 
-  -- the same, and it is known whether the least key is in the run or in the heap
+  -- the invariant; the flag says whether the least key is in the run or in the heap
   pub record IsRunHeap (run : List (Item K)) (heap : List (Option K)) (is_first : Bool) : Type 0 where
     pub kept : IsRun run heap
     pub run_first : is_first ≡ true → IsRunFirst run heap

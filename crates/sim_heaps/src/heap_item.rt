@@ -1,4 +1,4 @@
-// Keys with their slots in two words, or in one.
+//! Keys with their slots, in two words or in one.
 ghost use Rattle.std.specs.Prelude.{◌≡◌, ℕ, ◌+◌, ◌<◌, refl};
 ghost use Rattle.goal_limits.specs.declared.limits.TheConstants.{MAX_OPS};
 ghost use Rattle.sim_order.specs.Events.{event_before};
@@ -10,24 +10,25 @@ use std::alloc::AllocError;
 use std::marker::Model;
 use std::sync::ledger::Ledger;
 
-// One more than the greatest slot of an item.
+// The number of slots that an item can name.
 const SLOTS: u64 = MAX_OPS as u64;
 
-/// The time of an item: a number, or nothing where the keys of all items are at time 0.
+/// The time of an item: a number, or nothing if the keys of all items are at time 0.
 pub trait ItemTime: Copy {
+    /// The time, in nanoseconds.
     ghost nanoseconds: { Self → ℕ };
 
-    // the time that says so many nanoseconds, where one does
+    /// The time with this number of nanoseconds, if there is one.
     ghost of_nanoseconds: { ℕ → Self };
 
-    // a time says one number, and no other does
+    /// Times with the same number are the same.
     ghost says_itself: { (time : Self) → of_nanoseconds (nanoseconds time) ≡ time };
 
-    /// The time that says so many nanoseconds, where one does.
+    /// Returns the time with this number of nanoseconds, if there is one.
     fn new(time: u64) -> Self
         ensures { result ≡ of_nanoseconds time };
 
-    /// In nanoseconds.
+    /// Returns the time, in nanoseconds.
     fn get(self) -> u64
         ensures { result ≡ nanoseconds self };
 }
@@ -50,7 +51,7 @@ impl ItemTime for u64 {
     }
 }
 
-/// Time 0.
+/// The time 0.
 #[derive(Clone, Copy, Debug)]
 pub struct AtZero;
 
@@ -72,8 +73,8 @@ impl ItemTime for AtZero {
     }
 }
 
-/// A key and the slot that has it, below 2^20: in 16 bytes, or in 8 where the keys of all items are at time 0. Items are in the
-/// order of their keys.
+/// A key and the slot that has it, below 2^20, in 16 bytes, or in 8 if the keys of all items are at time 0. Items are
+/// in the order of their keys.
 #[derive(Debug)]
 pub struct HeapItem<T: ItemTime> {
     time: T,
@@ -107,7 +108,7 @@ impl<T: ItemTime> Clone for HeapItem<T> {
 }
 
 impl<T: ItemTime> HeapItem<T> {
-    /// The item of a key and a slot. Its key is at the time that `T` has for that of the key: the same as a number, else 0.
+    /// Returns the item of a key and a slot. Its time is that of the key as far as `T` has it: a number, or 0.
     #[inline(always)]
     pub fn new(key: CompactKey, slot: u32) -> HeapItem<T>
         requires { slot < MAX_OPS }
@@ -119,7 +120,7 @@ impl<T: ItemTime> HeapItem<T> {
         }
     }
 
-    /// The key.
+    /// Returns the key.
     #[inline(always)]
     pub fn key(&self) -> CompactKey
         ensures { result ≡ self.now.key }
@@ -127,7 +128,7 @@ impl<T: ItemTime> HeapItem<T> {
         CompactKey::from_tail(self.time.get(), self.tail / SLOTS)
     }
 
-    /// The slot.
+    /// Returns the slot.
     #[inline(always)]
     pub fn slot(&self) -> u32
         ensures { result ≡ self.now.slot }
@@ -135,8 +136,8 @@ impl<T: ItemTime> HeapItem<T> {
         (self.tail % SLOTS) as u32
     }
 
-    /// Whether the key is before that of the other. It ticks once. The time and the tail of a key are compared as one number
-    /// of 128 bits, which takes no branch.
+    /// Returns whether the key is before that of the other, and counts one step. Time and tail are compared as one
+    /// number of 128 bits, without a branch.
     #[inline(always)]
     pub fn before<L: Ledger>(&self, other: &HeapItem<T>, steps: &mut Steps<L>) -> bool
         ensures tells { result ≡ event_before self.now.key other.now.key }

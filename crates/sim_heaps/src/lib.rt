@@ -1,4 +1,4 @@
-//! Heaps of events: each slot has a key or none, and the least key is asked for.
+//! Heaps of events: each slot has a key or none, and the least key can be read.
 #![tactic(auto)]
 
 mod heap_item;

@@ -1,28 +1,28 @@
-// What every event queue does.
+//! The calls that every event queue has.
 ghost use Rattle.std.specs.Prelude.{◌≡◌, ◌<◌, ◌≤◌, ◌↔◌, List, Option, Some, None, IfSome, IsNone, length, slice_set};
 ghost use Rattle.sim_heaps.specs.Map.{IsEmptyMap, IsLeast};
 
 use sim_order::{EventOrder, Steps};
 use std::sync::ledger::Ledger;
 
-/// A finite map from slots to keys, of which the least is asked for. The slots are the numbers below a fixed one. The
-/// comparisons that a call makes are counted in its `steps`, which never fall.
+/// A finite map from slots to keys, whose least key can be read. The slots are the numbers below a fixed one. The
+/// comparisons of a call are counted in its `steps`, which never fall.
 pub trait EventQueue<K: EventOrder> {
-    /// What each slot has, from slot 0 on: a key, or none.
+    /// What each slot has, from slot 0 on: a key or none.
     ghost keys: { Self → List (Option K) };
 
-    /// Gives a slot a key, in place of the one that it had if it had one.
+    /// Gives a slot a key, instead of the one that it had, if any.
     fn put<L: Ledger>(&mut self, slot: u32, key: K, steps: &mut Steps<L>)
         requires { slot < length (keys self.old) }
         ensures put { keys self.new ≡ slice_set (keys self.old) slot (Some key) }
         ensures onward { steps.old ≤ steps.new };
 
-    /// Takes a slot's key out. Where it has none, or there is no such slot, nothing changes.
+    /// Removes the key of a slot. If it has none, or there is no such slot, nothing changes.
     fn drop_slot<L: Ledger>(&mut self, slot: u32, steps: &mut Steps<L>)
         ensures dropped { keys self.new ≡ slice_set (keys self.old) slot None }
         ensures onward { steps.old ≤ steps.new };
 
-    /// A slot with its key, such that no key of the map is before it. None where the map is empty.
+    /// Returns a slot with its key, such that no key of the map is before it, or `None` if the map is empty.
     fn least<L: Ledger>(&self, steps: &mut Steps<L>) -> Option<(u32, K)>
         ensures none { IsNone result ↔ IsEmptyMap (keys self.now) }
         ensures least { IfSome result (λ r. IsLeast K.before (keys self.now) r.0 r.1) }
