@@ -1,4 +1,4 @@
--- Groups in whose heaps each slot has the place of its number.
+-- Groups in whose heaps the place of each slot is its number.
 use Rattle.std.proofs.Common.{◌≡◌, ◌==◌, ◌<◌, ◌≤◌, ◌+◌, ◌^◌, ℕ, zero, suc, All, List, [], ◌∷◌, length, map, set, get_or, slice_get, slice_index, replicate, Option, Some, None, count_by, is_some, refl, sym, ap, ◌∙◌, subst, arith}
 use Rattle.std.specs.Option.{option_map}
 use Rattle.std.specs.List.{enumerate_from}
@@ -55,7 +55,7 @@ module _ (groups : List ℕ) where
   pub grouped_is : {K : Type 0} (maps : List (List (Option K))) → grouped (homes_at_slots groups) maps ≡ grouped_at_slots groups maps
   grouped_is maps i = record { keys = map (key_of_home maps) (homes_at_slots groups); groups = groups_of_homes i }
 
--- there is room for one more
+-- there is room for another
 module _ {K : Type 0} (groups : List ℕ) (maps : List (List (Option K))) (rooms : List ℕ) (are : AreHousedAtSlots groups maps rooms) (slot group : ℕ) (member : slice_get groups slot ≡ Some group) where
   abbrev pub homes : List PlaceInGroup
   homes = homes_at_slots groups

@@ -20,7 +20,7 @@ use Rattle.sim_groups.specs.Stretches.{map_on, part_of_plot, room_of_plot, map_o
 use Rattle.sim_groups.proofs.InParts.{put_mid, length-places, part_written, places_elsewhere}
 use Rattle.sim_groups.proofs.StretchSteps.{empty_stretch}
 
--- where no place has a key
+-- no place has a key
 keyed_none : {X : Type 0} (table : List X) (part : Part) → part.count ≡ 0 → keyed_of table part ≡ []
 keyed_none table part e =
     let none : part.start + part.count - part.start ≡ 0 = omega (arith, e) in
@@ -50,7 +50,7 @@ placed_none slots = refl
 abbrev counted : Part → ℕ → Part
 counted part n = record { start = part.start; room = part.room; count = n }
 
--- a plot more, on the next of some parts, none of which has a key
+-- another plot, on the next part, without a key
 pub plot_more : (parts : List Part) (none : AreWithoutKeys parts) (index : ℕ) (part : Part) (at : slice_get parts index ≡ Some part) → part_of_plot (record { start = part.start; room = part.room; stretch = record { first = 0; end = 0; in_order = true } }) ≡ part
 plot_more parts none index part at =
     ap (counted part) (sym (none index part at))
@@ -65,7 +65,7 @@ fresh_more plots plot fresh empty group q e = go (cases_eq group (length plots))
     go (inr n) = fresh group q (sym (get_before_added plots plot group n) ∙ e)
 
 module _ (parts : List Part) (size : ℕ) (packed : ArePacked parts size) (none : AreWithoutKeys parts) (counts : List ℕ) (rooms : map room_of parts ≡ counts) where
-  -- plots on these parts, none of which has an item
+  -- plots on these parts, without items
   module _ (plots : List Plot) (are : map part_of_plot plots ≡ parts) (fresh : AreFresh plots) (items : List (Item Timed)) (long : length items ≡ size) where
     plot_at : (group : ℕ) (plot : Plot) → slice_get plots group ≡ Some plot → slice_get parts group ≡ Some (part_of_plot plot)
     plot_at group plot at = ap (λ ps. slice_get ps group) (sym are) ∙ slice_get-map part_of_plot plots group ∙ ap (option_map part_of_plot) at
@@ -139,7 +139,7 @@ module _ (parts : List Part) (size : ℕ) (packed : ArePacked parts size) (none 
           (begun (places_of slots part) (places_of places part) part.room (places_long group part at slots slots_each) (places_long group part at places places_each) (omega (arith, packed.within group part at, few)) (one group part at) (other group part at));
     }
 
--- one part more is numbered
+-- another part is numbered
 pub numbered_more : (parts : List Part) (size : ℕ) (packed : ArePacked parts size) (index : ℕ) (part : Part) (at : slice_get parts index ≡ Some part) (table ys : List ℕ) (k : ℕ) (long : length table ≡ size) (whole : k ≡ part.room) (each : length ys ≡ k) → IsInOrder ys → ((group : ℕ) (q : Part) → group < index → slice_get parts group ≡ Some q → IsInOrder (places_of table q)) → (group : ℕ) (q : Part) → group < index + 1 → slice_get parts group ≡ Some q → IsInOrder (places_of (put_mid part.start k table ys) q)
 numbered_more parts size packed index part at table ys k long whole each ordered before group q h e = go (cases_eq group index)
   where

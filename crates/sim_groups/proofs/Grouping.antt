@@ -1,4 +1,4 @@
--- Slots in groups, of which the key of one slot is changed, and the least of a group.
+-- Slots in groups, where the key of one slot is changed, and the least of a group.
 use Rattle.std.proofs.Common.{◌≡◌, ◌≢◌, ◌⊎◌, ◌<◌, ◌≤◌, ℕ, Bool, true, false, List, [], length, map, set, get_or, slice_get, Option, Some, None, sym, ap, ◌∙◌, arith, inl, inr}
 use Rattle.std.proofs.lemmas.Bool.{cases_eq, cases_lt}
 use Rattle.std.proofs.lemmas.List.{get_or-set_same, get_or-set_other, length-set, get_or-map, get_or_read, same_lists}
@@ -20,7 +20,7 @@ module _ {K : Type 0} (homes : List PlaceInGroup) (heaps : List (List (Option K)
   pub heap_read : (group : ℕ) (heap : List (Option K)) → group < length heaps → heap ≡ get_or heaps group heap → heap ≡ heap_at heaps group
   heap_read group heap l e = get_or_read heaps group heap l e []
 
-  -- the key of a slot is what its home has
+  -- the key of a slot is that of its home
   pub key_at_home : (slot : ℕ) (home : PlaceInGroup) → slice_get homes slot ≡ Some home → key_at (grouped homes heaps).keys slot ≡ key_of_home heaps home
   key_at_home slot home at =
       get_or-map (key_of_home heaps) homes slot home None (slice_get_within homes slot home at) ∙ ap (key_of_home heaps) (get_or_from_slice_get homes slot home home at)
@@ -28,7 +28,7 @@ module _ {K : Type 0} (homes : List PlaceInGroup) (heaps : List (List (Option K)
   pub group_at_home : (slot : ℕ) (home : PlaceInGroup) → slice_get homes slot ≡ Some home → slice_get (grouped homes heaps).groups slot ≡ Some home.group
   group_at_home slot home at = slice_get-map group_of_home homes slot ∙ ap (option_map group_of_home) at
 
-  -- a slot of a group has its home there
+  -- a slot of a group has its home in it
   pub home_of_member : (slot group : ℕ) → slice_get (grouped homes heaps).groups slot ≡ Some group → (home : PlaceInGroup) × (slice_get homes slot ≡ Some home) × (home.group ≡ group)
   home_of_member slot group e = go (cases_lt slot (length homes))
     where
@@ -123,7 +123,7 @@ module _ {K : Type 0} (homes : List PlaceInGroup) (heaps : List (List (Option K)
         inside group place key e (inr d) p =
             housed.inhabited group place key (sym (key_there (record { group = group; place = place }) (λ s. d (ap (λ (h : PlaceInGroup). h.group) s))) ∙ e)
 
-  -- where the heap of a group is empty no slot of it has a key
+  -- if the heap of a group is empty, no slot of it has a key
   pub empty_group : (group : ℕ) → IsEmptyMap (heap_at heaps group) → IsEmptyGroup (grouped homes heaps) group
   empty_group group empty slot member =
       let home = home_of_member slot group member in
@@ -134,7 +134,7 @@ module _ {K : Type 0} (homes : List PlaceInGroup) (heaps : List (List (Option K)
       let home = home_of_member slot group member in
       absurd (omega (arith, l, home.2, housed.group_in slot home.0 home.1))
 
-  -- the least of the heap of a group is the least of the group
+  -- the least of the heap is the least of the group
   pub least_of_group : (before : K → K → Bool) (group place : ℕ) (key : K) → IsLeast before (heap_at heaps group) place key → IsLeastOf before (grouped homes heaps) group key
   least_of_group before group place key least =
       let lives = housed.inhabited group place key least.has in
@@ -153,7 +153,7 @@ module _ {K : Type 0} (homes : List PlaceInGroup) (heaps : List (List (Option K)
   least_of_answer before group None least = least
   least_of_answer before group (Some key) least = least_of_group before group least.0 key least.1
 
-  -- a key that is before each other of its group is before each other of the heap of the group
+  -- a key before every other of its group is before every other of the heap
   pub sole_of_heap : (before : K → K → Bool) (slot : ℕ) (home : PlaceInGroup) → slice_get homes slot ≡ Some home → IsSoleLeastOf before (grouped homes heaps) slot → IsSoleLeast before (heap_at heaps home.group) home.place
   sole_of_heap before slot home at sole = record {
     key = sole.key;

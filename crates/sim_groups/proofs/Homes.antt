@@ -1,4 +1,4 @@
--- How homes are given out, and groups in which no slot has a key.
+-- How homes are assigned, and groups in which no slot has a key.
 use Rattle.std.proofs.Common.{◌≡◌, ◌≢◌, ◌⊎◌, ◌+◌, ◌<◌, ◌≤◌, ◌^◌, ℕ, All, List, [], ◌∷◌, ◌++◌, length, map, set, get_or, slice_get, slice_index, replicate, Option, Some, None, refl, sym, ap, ◌∙◌, arith, inl, inr}
 use Rattle.std.proofs.lemmas.Bool.{cases_eq, cases_lt}
 use Rattle.std.proofs.lemmas.List.{get_or-set_same, get_or-set_other, length-set, length-append, length-map, map-append, get_or-map, get_or_past, get_or_append_left, length-replicate}
@@ -10,7 +10,7 @@ use Rattle.sim_heaps.specs.Map.{key_at, no_keys}
 use Rattle.sim_heaps.proofs.ForCallers.{none_of}
 use Rattle.sim_groups.specs.Groups.{IsHoused, AreHomes, heap_at, key_of_home, group_of_home, grouped}
 
--- an element of a list with one more is one of the list, or the last
+-- an element of a list with another appended is in the list, or the last
 at_end : {X : Type 0} (xs : List X) (y z : X) (i : ℕ) → slice_get (xs ++ y ∷ []) i ≡ Some z → (slice_get xs i ≡ Some z) ⊎ ((i ≡ length xs) × (z ≡ y))
 at_end xs y z i e = go (cases_lt i (length xs))
   where
@@ -23,7 +23,7 @@ at_end xs y z i e = go (cases_lt i (length xs))
         let same : i ≡ length xs = omega (arith, l, slice_get_within (xs ++ y ∷ []) i z e, length-append xs (y ∷ [])) in
         inr (same, sym read ∙ ap (λ k. get_or (xs ++ y ∷ []) k z) same ∙ get_or-append_seam xs y [] z)
 
--- one more in a group
+-- another slot in a group
 module _ (counts : List ℕ) (group : ℕ) (exists : group < length counts) where
   abbrev pub counted : List ℕ
   counted = set counts group (slice_index counts group + 1)
@@ -45,7 +45,7 @@ module _ (counts : List ℕ) (group : ℕ) (exists : group < length counts) wher
       go (inl e) = rw e (omega (arith, counted_here, within group))
       go (inr d) = omega (arith, get_or-set_other counts group other (slice_index counts group + 1) 0 d, within other)
 
-  -- the home of a slot among those that are given out, or the new one
+  -- the home of a slot among those assigned, or the new one
   abbrev Stands : List PlaceInGroup → ℕ → PlaceInGroup → Type 0
   Stands homes slot home =
       (slice_get homes slot ≡ Some home) ⊎ ((slot ≡ length homes) × (home ≡ record { group = group; place = slice_index counts group }))
@@ -93,7 +93,7 @@ no_homes counts = record {
 pub homes_length : (numbers : List ℕ) (homes : List PlaceInGroup) (counts : List ℕ) → AreHomes numbers homes counts → length homes ≡ length numbers
 homes_length numbers homes counts given = sym (length-map homes group_of_home) ∙ ap length given.groups
 
--- no key in any group
+-- no group has a key
 module _ {K : Type 0} where
   all_none : (f : PlaceInGroup → Option K) → ((home : PlaceInGroup) → f home ≡ None) → (homes : List PlaceInGroup) → map f homes ≡ replicate (length homes) None
   all_none f e [] = refl

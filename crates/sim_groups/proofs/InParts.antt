@@ -1,4 +1,4 @@
--- Heaps in parts of a table, of which one is written.
+-- Heaps in parts of a table, one of which is written.
 use Rattle.std.proofs.Common.{◌≡◌, ◌≢◌, ◌⊎◌, ◌<◌, ◌≤◌, ◌+◌, ◌-◌, ◌++◌, ◌∷◌, [], ℕ, zero, suc, List, length, map, set, take, drop, get_or, slice_get, Some, refl, sym, ap, ap₂, ◌∙◌, subst, arith, inl, inr}
 use Rattle.std.specs.List.{between}
 use Rattle.std.proofs.lemmas.Bool.{cases_eq, cases_lt}
@@ -10,7 +10,7 @@ use Rattle.sim_heaps.proofs.ForCallers.{get_added, get_before_added, get_set_sam
 use Rattle.sim_groups.specs.declared.parts.Part.{Part}
 use Rattle.sim_groups.specs.Parts.{places_of, keyed_of, ArePacked, AreWithoutKeys}
 
--- a part of a list, before what is written, behind it, and of it
+-- a part of a list before what is written, after it, and inside it
 module _ {X : Type 0} (a k : ℕ) (xs ys : List X) (within : a ≤ length xs) where
   pub part_before : (c d : ℕ) → d ≤ a → between c d (put_mid a k xs ys) ≡ between c d xs
   part_before c d h =
@@ -49,7 +49,7 @@ module _ {X : Type 0} (table : List X) (part : Part) where
       slice_get-get_or (keyed_of table part) 0 x (omega (arith, length-keyed h, some))
       ∙ ap Some (get_or-take (part.start + part.count - part.start) (drop part.start table) 0 x (omega (arith, many, some)) ∙ get_or-drop part.start table 0 x ∙ ap (λ n. get_or table n x) first ∙ get_or_from_slice_get table part.start x x e)
 
--- two functions that agree on all but what is written
+-- two functions that agree except on what is written
 map_agree : {X Y : Type 0} (f g : X → Y) (xs : List X) → ((k : ℕ) (t : X) → slice_get xs k ≡ Some t → g t ≡ f t) → map g xs ≡ map f xs
 map_agree f g [] agree = refl
 map_agree {X} {Y} f g (x ∷ xs) agree =
@@ -109,7 +109,7 @@ module _ (parts : List Part) (size : ℕ) (packed : ArePacked parts size) (group
       few i p e (inl s) = subst (λ (u : Part). u.count ≤ u.room) s.1 fits
       few i p e (inr s) = packed.fits i p s.1
 
-  -- what another part has stays
+  -- another part keeps its entries
   module _ {X : Type 0} (table ys : List X) (k : ℕ) (is_size : length table ≡ size) (in_part : k ≤ part.room) (each : length ys ≡ k) where
     start_in : part.start ≤ length table
     start_in = omega (arith, packed.within group part at, is_size)
@@ -134,7 +134,7 @@ module _ (parts : List Part) (size : ℕ) (packed : ArePacked parts size) (group
     pub places_elsewhere : (other : ℕ) (q : Part) → slice_get parts other ≡ Some q → other ≢ group → places_of (put_mid part.start k table ys) q ≡ places_of table q
     places_elsewhere other q e n = stays q.start (q.start + q.room) other q e n (omega arith) (omega arith)
 
--- A part more, behind the others, of whose places none has a key.
+-- Another part after the others, none of whose places has a key.
 module _ (parts : List Part) (end room : ℕ) (packed : ArePacked parts end) where
   abbrev pub another : Part
   another = record { start = end; room = room; count = 0 }
@@ -164,7 +164,7 @@ module _ (parts : List Part) (end room : ℕ) (packed : ArePacked parts end) whe
   pub none_more : AreWithoutKeys parts → AreWithoutKeys (parts ++ another ∷ [])
   none_more none i p e = elim (at_end i p e) [ inl s ↦ none i p s.1 | inr s ↦ ap (λ (u : Part). u.count) (sym s.1) ]
 
--- no part
+-- no parts
 pub packed_none : (size : ℕ) → ArePacked [] size
 packed_none size = record {
   apart = λ i j p q h e f. absurd (none-some p e);

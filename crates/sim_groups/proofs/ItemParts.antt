@@ -1,4 +1,4 @@
--- A heap of items, with one more at its end and with its top taken out.
+-- A heap of items, after one was appended and after its top was removed.
 use Rattle.std.proofs.Common.{◌≡◌, ◌<◌, ◌≤◌, ◌+◌, ◌-◌, ◌++◌, ◌∷◌, [], ℕ, List, length, set, take, get_or, slice_get, slice_set, Some, None, sym, ap, ◌∙◌, subst, arith}
 use Rattle.std.proofs.lemmas.List.{length-set, length-append, length-take-le, take_all, take_at, take_more, take_more_set}
 use Rattle.std.proofs.lemmas.Option.{slice_get_within}
@@ -18,23 +18,23 @@ module _ {X : Type 0} (xs : List X) (some : 0 < length xs) where
   length-front =
       omega (arith, some, length-take-le (length xs - 1) xs (omega arith))
 
-  -- its last is written
+  -- its last item is written
   pub set_last : (n : ℕ) (y : X) → n + 1 ≡ length xs → set xs n y ≡ all_but_last xs ++ y ∷ []
   set_last n y e =
       let front : n ≡ length xs - 1 = omega (arith, e) in
       sym (take_all (n + 1) (set xs n y) (omega (arith, e, length-set xs n y))) ∙ take_more_set xs n y (omega (arith, e)) ∙ ap (λ m. take m xs ++ y ∷ []) front
 
-  -- what stands before its last, and that
+  -- the items before its last, and that
   pub with_last : (n : ℕ) (d : X) → n + 1 ≡ length xs → xs ≡ all_but_last xs ++ get_or xs n d ∷ []
   with_last n d e =
       let front : n ≡ length xs - 1 = omega (arith, e) in
       sym (take_all (n + 1) xs (omega (arith, e))) ∙ take_more xs n d (omega (arith, e)) ∙ ap (λ m. take m xs ++ get_or xs n d ∷ []) front
 
--- what stands before the only one of a rest
+-- the items before the only one of a rest
 pub front_back : {X : Type 0} (new rest : List X) → length rest ≡ 1 → all_but_last (new ++ rest) ≡ new
 front_back new rest one = take_at new rest (length (new ++ rest) - 1) (omega (arith, length-append new rest, one))
 
--- an item more, which has risen
+-- another item, which has risen
 module _ (front : List (Item Timed)) (x : Item Timed) (slots : ℕ) (heap : IsTopHeap event_before front slots slots) (slot_in : x.slot < slots) (free : key_at (placed slots front) x.slot ≡ None) where
   apart : AreApart slots (front ++ x ∷ [])
   apart = added_apart front x slots heap.apart slot_in free
@@ -55,7 +55,7 @@ module _ (front : List (Item Timed)) (x : Item Timed) (slots : ℕ) (heap : IsTo
     pub entered_placed : placed slots new ≡ slice_set (placed slots front) x.slot (Some x.key)
     entered_placed = moved.same slots apart ∙ added_placed front x slots heap.apart slot_in free
 
--- no item
+-- no items
 pub no_items_heap : (items : List (Item Timed)) (slots : ℕ) → length items ≡ 0 → slots ≤ MAX_OPS → IsTopHeap event_before items slots slots
 no_items_heap items slots none few = record {
   reserved = omega arith;
@@ -70,7 +70,7 @@ no_items_heap items slots none few = record {
     nothing : (place : ℕ) (y : Item Timed) → slice_get items place ≡ Some y → ⊥
     nothing place y e = omega (arith, slice_get_within items place y e, none)
 
--- the top is taken out
+-- the top is removed
 module _ (items front : List (Item Timed)) (last : Item Timed) (are : items ≡ front ++ last ∷ []) (slots slot : ℕ) (heap : IsTopHeap event_before items slots slots) (sole : IsSoleLeast event_before (placed slots items) slot) where
   pub some_there : 0 < length items
   some_there = some_items event_before event_laws slots items heap.apart heap.ordered slot sole

@@ -1,4 +1,4 @@
--- Heaps of items in one table, of which one is written.
+-- Heaps of items in one table, one of which is written.
 use Rattle.std.proofs.Common.{◌≡◌, ◌≢◌, ◌⊎◌, ◌<◌, ◌≤◌, ◌+◌, ◌-◌, [], ℕ, List, length, map, set, take, drop, get_or, slice_get, slice_index, slice_set, Option, Some, count_by, is_some, refl, sym, ap, ◌∙◌, subst, arith, inl, inr}
 use Rattle.std.specs.Option.{option_map}
 use Rattle.std.proofs.Math.Seq.{map-set_same}
@@ -22,7 +22,7 @@ use Rattle.sim_groups.proofs.Stretching.{length-standing}
 use Rattle.sim_groups.proofs.Rooms.{items_counted}
 
 module _ (slots : ℕ) (plots : List Plot) (items : List (Item Timed)) (heaps : AreItemHeaps event_before slots plots items) (group : ℕ) (plot : Plot) (at : slice_get plots group ≡ Some plot) where
-  -- what is known of its plot
+  -- the properties of its plot
   abbrev part : Part
   part = part_of_plot plot
 
@@ -58,7 +58,7 @@ module _ (slots : ℕ) (plots : List Plot) (items : List (Item Timed)) (heaps : 
   room_there =
       get_or-map room_of_plot plots group plot 0 (slice_get_within plots group plot at) ∙ ap room_of_plot (get_or_from_slice_get plots group plot plot at) ∙ sym length_plot
 
-  -- fewer keys than there is room for are fewer items than there are places
+  -- fewer keys than its room are fewer items than its places
   pub fewer_stand : count_by is_some (heap_at (maps_of_items slots plots items) group) < slice_index (map room_of_plot plots) group → length (standing places plot.stretch) < length places
   fewer_stand room =
       omega (arith, room, room_there, items_counted slots (standing places plot.stretch) stands.heap.apart, ap (count_by is_some) map_there)

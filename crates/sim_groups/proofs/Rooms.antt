@@ -1,4 +1,5 @@
--- How many keys a map has: no fewer than the items that make it, and no more than the slots of the group, where no other has one.
+-- The number of keys of a map: at least the number of its items, and at most that of the group's slots, if no other has
+-- one.
 use Rattle.std.proofs.Common.{◌≡◌, ◌≢◌, ◌⊎◌, ◌==◌, ◌<◌, ◌≤◌, ◌+◌, ℕ, suc, Bool, true, false, List, [], ◌∷◌, length, set, take, get_or, slice_get, slice_index, Option, Some, None, cond, count_by, is_some, refl, sym, ap, ◌∙◌, arith, inl, inr}
 use Rattle.std.proofs.lemmas.Bool.{cases_eq, eq-eqb, ne_eqb}
 use Rattle.std.proofs.lemmas.List.{get_or-set_same, get_or-set_other, length-set}
@@ -12,12 +13,12 @@ use Rattle.sim_heaps.proofs.ForCallers.{length-placed}
 use Rattle.sim_groups.specs.Groups.{members, AreCounts}
 use Rattle.sim_groups.proofs.Stretching.{absent}
 
--- how much one more that passes a test, or does not, adds to a count
+-- what another number that passes a test, or does not, adds to a count
 abbrev one_if : Bool → ℕ
 one_if passes = cond passes 1 0
 
 module _ {K : Type 0} where
-  -- a slot that has none is given a key
+  -- a slot without a key gets one
   pub key_more : (keys : List (Option K)) (slot : ℕ) (k : K) → slot < length keys → key_at keys slot ≡ None → count_by is_some (set keys slot (Some k)) ≡ count_by is_some keys + 1
   key_more keys slot k within free =
       let changed = sum_by-set (λ o. one_if (is_some o)) keys slot (Some k) None within in
@@ -49,7 +50,7 @@ module _ {K : Type 0} where
       let first = counts_one group number o (λ k e. only 0 k e) in
       omega (arith, rest, first, sum_by-cons (λ x. one_if (is_some x)) o keys, sum_by-cons (λ n. one_if (n == group)) number groups)
 
-  -- a slot of the group that has none
+  -- a slot of the group without a key
   pub keys_below : (group : ℕ) (keys : List (Option K)) (groups : List ℕ) → AreOnlyOf groups group keys → (slot : ℕ) → slot < length keys → slice_get groups slot ≡ Some group → key_at keys slot ≡ None → (k : K) → count_by is_some keys < members group groups
   keys_below group keys groups only slot within member free k =
       omega (arith, key_more keys slot k within free, keys_within group (set keys slot (Some k)) groups (λ other l e. all other l e (cases_eq other slot)))
@@ -58,7 +59,7 @@ module _ {K : Type 0} where
       all other l e (inl s) = ap (slice_get groups) s ∙ member
       all other l e (inr n) = only other l (sym (get_or-set_other keys slot other (Some k) None n) ∙ e)
 
--- there are no more items than keys
+-- there are at most as many items as keys
 pub items_counted : (slots : ℕ) (items : List (Item Timed)) → AreApart slots items → length items ≤ count_by is_some (placed slots items)
 unfolding placed
 items_counted slots [] are = omega arith
@@ -71,7 +72,7 @@ items_counted slots (x ∷ items) are =
     let more = key_more (placed slots items) x.slot x.key (omega (arith, are.within 0 x refl, length-placed slots items)) free in
     omega (arith, more, items_counted slots items rest)
 
--- one number more is counted
+-- another number is counted
 module _ (numbers counts : List ℕ) (index : ℕ) (within : index < length numbers) (counted : AreCounts (take index numbers) counts) where
   abbrev pub number : ℕ
   number = get_or numbers index 0

@@ -1,4 +1,4 @@
--- A heap whose slots know their places, in which the key of one slot is changed.
+-- A heap whose slots know their places, after the key of one slot was changed.
 use Rattle.std.proofs.Common.{◌≡◌, ◌<◌, ◌≤◌, ◌+◌, ◌++◌, ◌∷◌, [], ℕ, List, length, set, take, slice_get, slice_index, slice_set, Some, None, sym, ap, ◌∙◌, subst, arith}
 use Rattle.std.proofs.lemmas.List.{length-map, length-set, length-append, length-take-le, take_all, take-take, take_more_set}
 use Rattle.goal_graph.specs.declared.action.Timed.{Timed}
@@ -15,7 +15,7 @@ entered_at xs n y h =
     ∙ take_more_set (take (n + 1) xs) n y (omega (arith, long))
     ∙ ap (λ ys. ys ++ y ∷ []) (take-take n (n + 1) xs (omega arith))
 
--- where the order was settled
+-- after the order was settled
 module _ (old : List Timed) (old_places : List ℕ) (slots places : List ℕ) (n : ℕ) (heap : IsHeap event_before (keys_of old old_places) slots places n) where
   pub settled_slots : length slots ≡ length old_places
   settled_slots = heap.same_length ∙ length-map old_places (slice_get old)
@@ -43,7 +43,7 @@ module _ (keys : List Timed) (slots places : List ℕ) (capacity : ℕ) (heap : 
   pub places_room : length places ≤ capacity
   places_room = omega (arith, heap.reserved, heap.heap.inverse.same_length)
 
-  -- a key in place of another
+  -- a key instead of another
   module _ (key : Timed) (there : place < length keys) where
     pub keys_replaced : keys_of (set keys place key) places ≡ slice_set (keys_of keys places) slot (Some key)
     keys_replaced = written keys slots places heap.heap.inverse slot key there within
@@ -54,7 +54,7 @@ module _ (keys : List Timed) (slots places : List ℕ) (capacity : ℕ) (heap : 
         (subst (λ ks. IsHeapBut event_before ks slots places (length keys) place) (sym keys_replaced)
         (replaced event_before event_laws (keys_of keys places) slots places (length keys) slot heap.heap within key there))
 
-  -- a key more
+  -- another key
   module _ (key : Timed) (n : ℕ) (same : n ≡ length keys) (absent : n ≤ place) (new_slots new_places : List ℕ) (slots_are : new_slots ≡ swapped slots place n) (places_are : new_places ≡ slice_set (slice_set places (slice_index slots place) n) (slice_index slots n) place) where
     pub keys_entered : keys_of (keys ++ key ∷ []) new_places ≡ slice_set (keys_of keys places) slot (Some key)
     keys_entered = entered_keys keys slots places heap.heap.inverse slot key n new_places within same absent places_are
@@ -74,7 +74,7 @@ module _ (keys : List Timed) (slots places : List ℕ) (capacity : ℕ) (heap : 
     pub entered_long : length new_places ≡ length places
     entered_long = ap length places_are ∙ length-set (slice_set places (slice_index slots place) n) (slice_index slots n) place ∙ length-set places (slice_index slots place) n
 
-  -- a key is gone, and the last one comes to its place
+  -- a key was removed, and the last one is now at its place
   module _ (rest : List Timed) (last : Timed) (are : keys ≡ rest ++ last ∷ []) (left : ℕ) (same : left ≡ length rest) (new_slots new_places : List ℕ) (slots_are : new_slots ≡ swapped slots place left) (places_are : new_places ≡ slice_set (slice_set places (slice_index slots place) left) (slice_index slots left) place) where
     one_less : left + 1 ≡ length keys
     one_less = omega (arith, same, ap length are, length-append rest (last ∷ []))

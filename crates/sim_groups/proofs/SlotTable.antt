@@ -1,4 +1,4 @@
--- Heaps whose slots know their places in one table, of which one is written.
+-- Heaps whose slots know their places in one table, one of which is written.
 use Rattle.std.proofs.Common.{◌≡◌, ◌≢◌, ◌⊎◌, ◌<◌, ◌≤◌, ◌+◌, ℕ, List, [], length, set, take, slice_get, slice_index, slice_set, Option, Some, refl, sym, ap, ◌∙◌, subst, arith, inl, inr}
 use Rattle.std.proofs.lemmas.List.{length-map, take_all, get_or-map}
 use Rattle.std.proofs.lemmas.Option.{slice_get_within, get_or_from_slice_get}
@@ -13,7 +13,7 @@ use Rattle.sim_groups.specs.Groups.{heap_at, with_key}
 use Rattle.sim_groups.specs.Parts.{places_of, keyed_of, map_of_slots, maps_of_slots, ArePacked, AreSlotHeaps}
 use Rattle.sim_groups.proofs.InParts.{put_mid, part_written, length-keyed, first_keyed, length-places, keyed_in_places, map_written, counting, part_after, packed_after, length-written, keyed_elsewhere, places_elsewhere}
 
--- the same heaps, where their lists are written otherwise
+-- the same heaps, from other forms of their lists
 pub as_heaps : (parts : List Part) {a b : List Timed} {c d e f : List ℕ} → a ≡ b → c ≡ d → e ≡ f → AreSlotHeaps event_before parts b d f → AreSlotHeaps event_before parts a c e
 as_heaps parts {a} {b} {c} {d} {e} {f} p q r heaps =
     subst (λ (xs : List Timed). AreSlotHeaps event_before parts xs c e) (sym p)
@@ -21,7 +21,7 @@ as_heaps parts {a} {b} {c} {d} {e} {f} p q r heaps =
     (subst (AreSlotHeaps event_before parts b d) (sym r) heaps))
 
 module _ (parts : List Part) (sorted : List Timed) (slots places : List ℕ) (heaps : AreSlotHeaps event_before parts sorted slots places) (group : ℕ) (part : Part) (at : slice_get parts group ≡ Some part) where
-  -- what is known of its part
+  -- the properties of its part
   pub part_in : part.start + part.room ≤ length sorted
   part_in = heaps.packed.within group part at
 
@@ -66,7 +66,7 @@ module _ (parts : List Part) (sorted : List Timed) (slots places : List ℕ) (he
       subst (λ h. IsLeast event_before h (slice_index (places_of slots part) 0) key) (sym map_there)
       (top_of_heap event_before event_laws (map_of_slots sorted places part) (places_of slots part) (places_of places part) (length (keyed_of sorted part)) heap key has)
 
-  -- it is written, and so many of its places have a key
+  -- it is written, and this number of its places have a key
   module _ (k : ℕ) (whole : k ≡ part.room) (keys : List Timed) (ss ps : List ℕ) (keys_each : length keys ≡ k) (slots_each : length ss ≡ k) (places_each : length ps ≡ k) (count : ℕ) (few : count ≤ length keys) where
     abbrev pub new_sorted : List Timed
     new_sorted = put_mid part.start k sorted keys

@@ -1,4 +1,4 @@
--- A stretch of places: one more stands behind it, its first goes, and its items are written as a heap.
+-- A stretch of places: an item is appended, its first is removed, and its items are written as a heap.
 use Rattle.std.proofs.Common.{◌≡◌, ◌<◌, ◌≤◌, ◌+◌, ◌-◌, ◌^◌, ◌++◌, ◌∷◌, [], ℕ, Bool, true, false, List, length, set, take, drop, get_or, slice_get, slice_set, Some, None, refl, sym, ap, ◌∙◌, subst, arith}
 use Rattle.std.specs.Prelude.{not}
 use Rattle.std.proofs.lemmas.List.{length-drop, length-set, length-append, length-take-le, take_all, take-take, take-append-le, get_or-take, get_or-drop}
@@ -63,12 +63,12 @@ module _ (slots : ℕ) (places : List (Item Timed)) (s : Stretch) (is : IsStretc
   pub many_on : length (standing places s) ≡ s.end - s.first
   many_on = length-standing places s.first s.end is.begins is.ends
 
-  -- the map where nothing stands
+  -- the map of an empty stretch
   pub empty_map : s.end ≤ s.first → map_on slots places (record { first = 0; end = 0; in_order = true }) ≡ map_on slots places s
   empty_map none =
       ap (placed slots) (sym (nothing (standing places s) (omega (arith, many_on, none))))
 
-  -- one more stands behind
+  -- an item is appended
   module _ (x : Item Timed) (are : s.in_order ≡ true) (room : s.end < length places) (behind : IsBehind event_before (standing places s) x) (slot_in : x.slot < slots) (free : key_at (map_on slots places s) x.slot ≡ None) where
     abbrev now : Stretch
     now = record { first = s.first; end = s.end + 1; in_order = s.in_order }
@@ -98,7 +98,7 @@ module _ (slots : ℕ) (places : List (Item Timed)) (s : Stretch) (is : IsStretc
     pub appended_map : map_on slots new now ≡ slice_set (map_on slots places s) x.slot (Some x.key)
     appended_map = ap (placed slots) grown ∙ added_placed (standing places s) x slots is.heap.apart slot_in free
 
-  -- the least goes
+  -- the least is removed
   module _ (slot : ℕ) (sole : IsSoleLeast event_before (map_on slots places s) slot) where
     pub some_on : s.first < s.end
     some_on = omega (arith, many_on, some_stand slots (standing places s) is.heap slot sole)
@@ -164,7 +164,7 @@ module _ (slots : ℕ) (places : List (Item Timed)) (s : Stretch) (is : IsStretc
         left_map is_left =
             ap (placed slots) stay ∙ is_left ∙ ap (λ xs. slice_set (placed slots xs) slot None) (sym whole)
 
-  -- one more stands among the others, which were moved to the front
+  -- an item is inserted among the others, which were moved to the front
   module _ (room : length (standing places s) < length places) where
     pub fit : s.end - s.first + 1 ≤ length places
     fit = omega (arith, many_on, room)

@@ -1,4 +1,5 @@
--- Items in their order on a stretch of places: they are a heap, of which the first goes and behind which one more stands.
+-- Items in order on a stretch of places: they are a heap, of which the first is removed and to which items are
+-- appended.
 use Rattle.std.proofs.Common.{◌≡◌, ◌≢◌, ◌⊎◌, ◌<◌, ◌≤◌, ◌+◌, ◌-◌, ◌++◌, ◌∷◌, [], ℕ, zero, suc, false, List, length, set, take, drop, slice_get, slice_set, Option, Some, None, refl, sym, ap, ap₂, ◌∙◌, subst, arith, inl, inr}
 use Rattle.std.specs.List.{copy_within}
 use Rattle.std.proofs.lemmas.Bool.{cases_eq}
@@ -22,7 +23,7 @@ there [] place h = absurd (omega (arith, h))
 there (x ∷ xs) zero h = (x, refl)
 there (x ∷ xs) (suc place) h = there xs place (omega (arith, h))
 
--- items in their order are a heap
+-- items in order are a heap
 module _ (xs : List (Item Timed)) (in_order : AreInOrder event_before xs) where
   compared : (one other : ℕ) (x y : Item Timed) → slice_get xs one ≡ Some x → slice_get xs other ≡ Some y → stands_before event_before (key_there xs) one other ≡ event_before x.key y.key
   compared one other x y e f =
@@ -42,7 +43,7 @@ module _ (xs : List (Item Timed)) (in_order : AreInOrder event_before xs) where
   pub sorted_heap : (slots : ℕ) → AreApart slots xs → slots ≤ MAX_OPS → IsTopHeap event_before xs slots slots
   sorted_heap slots apart few = record { reserved = omega arith; few = few; apart = apart; ordered = ordered }
 
--- a slot that no item has
+-- a slot without an item
 pub absent : (slots slot : ℕ) (xs : List (Item Timed)) → ((place : ℕ) (y : Item Timed) → slice_get xs place ≡ Some y → y.slot ≢ slot) → key_at (placed slots xs) slot ≡ None
 unfolding placed
 absent slots slot [] other = none_of slots slot
@@ -50,7 +51,7 @@ absent slots slot (x ∷ xs) other =
     get_or-set_other (placed slots xs) x.slot slot (Some x.key) None (λ e. other 0 x refl (sym e))
     ∙ absent slots slot xs (λ place y e. other (suc place) y e)
 
--- the first item goes
+-- the first item is removed
 module _ (slots : ℕ) (x : Item Timed) (rest : List (Item Timed)) (heap : IsTopHeap event_before (x ∷ rest) slots slots) (in_order : AreInOrder event_before (x ∷ rest)) where
   tail_apart : AreApart slots rest
   tail_apart = record {
@@ -77,7 +78,7 @@ module _ (slots : ℕ) (x : Item Timed) (rest : List (Item Timed)) (heap : IsTop
       let least = top_is_least event_before event_laws slots (x ∷ rest) heap.apart heap.ordered x refl in
       elim (sole.first x.slot x.key least.has) [ inl e ↦ e | inr b ↦ (let no = least.least slot sole.key sole.has in absurd (cc)) ]
 
--- the same of a list that has some
+-- the same for a list that is not empty
 module _ (slots : ℕ) (xs : List (Item Timed)) (heap : IsTopHeap event_before xs slots slots) (slot : ℕ) (sole : IsSoleLeast event_before (placed slots xs) slot) where
   pub some_stand : 0 < length xs
   some_stand = some_items event_before event_laws slots xs heap.apart heap.ordered slot sole
@@ -96,7 +97,7 @@ fronted_placed slots [] heap in_order slot sole =
 fronted_placed slots (x ∷ rest) heap in_order slot sole =
     tail_placed slots x rest heap in_order ∙ ap (λ s. slice_set (placed slots (x ∷ rest)) s None) (first_is slots x rest heap in_order slot sole)
 
--- one more stands behind
+-- an item is appended
 pub behind_in_order : (xs : List (Item Timed)) (x : Item Timed) → AreInOrder event_before xs → IsBehind event_before xs x → AreInOrder event_before (xs ++ x ∷ [])
 behind_in_order xs x in_order behind one other y z h e f = go (cases_eq other (length xs)) (cases_eq one (length xs))
   where
@@ -113,7 +114,7 @@ behind_in_order xs x in_order behind one other y z h e f = go (cases_eq other (l
         subst (λ (w : Item Timed). event_before w.key y.key ≡ false) same (behind one y (before_end one y m e))
     go (inr n) (inr m) = in_order one other y z h (before_end one y m e) (before_end other z n f)
 
--- what is not before the last is before none
+-- an item that is not before the last is before none
 pub behind_last : (xs : List (Item Timed)) (x last : Item Timed) → AreInOrder event_before xs → (at : ℕ) → at + 1 ≡ length xs → slice_get xs at ≡ Some last → event_before x.key last.key ≡ false → IsBehind event_before xs x
 behind_last xs x last in_order at is_last e late place y f = go (cases_eq place at)
   where
@@ -124,7 +125,7 @@ behind_last xs x last in_order at is_last e late place y f = go (cases_eq place 
     go (inr n) =
         through event_before event_laws x.key last.key y.key late (in_order place at y last (omega (arith, n, is_last, slice_get_within xs place y f)) f e)
 
--- what stands
+-- the entries of a stretch
 module _ {X : Type 0} (xs : List X) (first end : ℕ) (begins : first ≤ end) (ends : end ≤ length xs) where
   pub length-standing : length (drop first (take end xs)) ≡ end - first
   length-standing = omega (arith, length-drop first (take end xs), length-take-le end xs ends)

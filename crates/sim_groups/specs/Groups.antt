@@ -4,7 +4,7 @@ use Rattle.std.specs.List.{enumerate_from}
 use Rattle.sim_groups.specs.declared.slot_groups.PlaceInGroup.{PlaceInGroup}
 use Rattle.sim_heaps.specs.Map.{key_at}
 
--- what each slot has, a key or none, and the group that it is in
+-- what each slot has, a key or None, and the group of each slot
 pub record Grouped (K : Type 0) : Type 0 where
   pub keys : List (Option K)
   pub groups : List ℕ
@@ -15,19 +15,19 @@ group_of_home home = home.group
 abbrev pub at_home : ℕ → ℕ → PlaceInGroup
 at_home group place = record { group = group; place = place }
 
--- The homes of slots of these groups, where the heap of each group has a place for each slot of all: that of its number.
+-- The homes of slots of these groups, if the heap of each group has a place for every slot, numbered as the slots.
 abbrev pub homes_at_slots : List ℕ → List PlaceInGroup
 homes_at_slots groups = map (λ p. at_home p.1 p.0) (enumerate_from 0 groups)
 
--- how many of these numbers are that of a group
+-- how often a group occurs among these numbers
 abbrev pub members : ℕ → List ℕ → ℕ
 members group numbers = count_by (λ number. number == group) numbers
 
--- so many of these numbers are that of each group
+-- the counts say how often each group occurs among these numbers
 abbrev pub AreCounts : List ℕ → List ℕ → Type 0
 AreCounts numbers counts = (group : ℕ) → group < length counts → slice_index counts group ≡ members group numbers
 
--- homes for slots of these groups, of which so many are in each group: none is given twice
+-- homes for slots of these groups, with these numbers of slots per group: no home is given twice
 pub record AreHomes (numbers : List ℕ) (homes : List PlaceInGroup) (counts : List ℕ) : Type 0 where
   pub groups : map group_of_home homes ≡ numbers
   pub group_in : (slot : ℕ) (home : PlaceInGroup) → slice_get homes slot ≡ Some home → home.group < length counts
@@ -48,7 +48,7 @@ module _ {K : Type 0} where
         (other : ℕ) (k : K)
         → slice_get q.groups other ≡ Some group → key_at q.keys other ≡ Some k → before k key ≡ false
 
-  -- the slot has a key that is before that of each other slot of its group
+  -- the slot has a key that is before the key of every other slot of its group
   pub record IsSoleLeastOf (before : K → K → Bool) (q : Grouped K) (slot : ℕ) : Type 0 where
     pub key : K
     pub has : key_at q.keys slot ≡ Some key
@@ -64,7 +64,7 @@ module _ {K : Type 0} where
   abbrev pub key_of_home : List (List (Option K)) → PlaceInGroup → Option K
   key_of_home heaps home = key_at (heap_at heaps home.group) home.place
 
-  -- the maps, where a home has this key or none
+  -- the maps after a home got this key or None
   abbrev pub with_key : List (List (Option K)) → PlaceInGroup → Option K → List (List (Option K))
   with_key heaps home key = slice_set heaps home.group (slice_set (heap_at heaps home.group) home.place key)
 
@@ -74,7 +74,7 @@ module _ {K : Type 0} where
   abbrev pub grouped_at_slots : List ℕ → List (List (Option K)) → Grouped K
   grouped_at_slots groups heaps = record { keys = map (key_of_home heaps) (homes_at_slots groups); groups = groups }
 
-  -- Each slot has a home of its own in the heap of its group, and each key is at the home of a slot. No heap has more slots
+  -- Each slot has its own home in the heap of its group, and each key is at the home of a slot. No heap has more slots
   -- than there are.
   pub record IsHoused (homes : List PlaceInGroup) (heaps : List (List (Option K))) : Type 0 where
     pub few : length homes < 2 ^ 32
@@ -87,7 +87,7 @@ module _ {K : Type 0} where
         → key_at (heap_at heaps group) place ≡ Some key
         → (slot : ℕ) × (slice_get homes slot ≡ Some (record { group = group; place = place }))
 
-  -- the same where each slot has the place of its number, and there is room for the keys of all slots of a group
+  -- the same if the place of each slot is its number, and there is room for the keys of all slots of a group
   pub record AreHousedAtSlots (groups : List ℕ) (heaps : List (List (Option K))) (rooms : List ℕ) : Type 0 where
     pub housed : IsHoused (homes_at_slots groups) heaps
     pub each : length rooms ≡ length heaps

@@ -1,4 +1,4 @@
--- Heaps of groups, each in a part of a table that all of them share.
+-- Heaps of groups, each in its part of a shared table.
 use Rattle.std.specs.Prelude.{◌≡◌, ◌<◌, ◌≤◌, ◌+◌, ◌-◌, ℕ, Bool, List, Option, Some, length, map, take, slice_get, slice_index, slice_range}
 use Rattle.sim_groups.specs.declared.parts.Part.{Part}
 use Rattle.sim_heaps.specs.Heap.{keys_of, IsSlotHeap}
@@ -6,7 +6,7 @@ use Rattle.sim_heaps.specs.Heap.{keys_of, IsSlotHeap}
 abbrev pub room_of : Part → ℕ
 room_of part = part.room
 
--- The parts stand one behind another, in a table of that length. No part has more keys than places.
+-- The parts follow one another in a table of that length. No part has more keys than places.
 pub record ArePacked (parts : List Part) (size : ℕ) : Type 0 where
   pub apart : (i j : ℕ) (p q : Part) → i < j → slice_get parts i ≡ Some p → slice_get parts j ≡ Some q → p.start + p.room ≤ q.start
   pub within : (i : ℕ) (p : Part) → slice_get parts i ≡ Some p → p.start + p.room ≤ size
@@ -20,20 +20,20 @@ AreWithoutKeys parts = (group : ℕ) (part : Part) → slice_get parts group ≡
 abbrev pub IsInOrder : List ℕ → Type 0
 IsInOrder numbers = (place : ℕ) → place < length numbers → slice_index numbers place ≡ place
 
--- a list without its last
+-- a list without its last item
 abbrev pub all_but_last : {X : Type 0} → List X → List X
 all_but_last xs = take (length xs - 1) xs
 
--- what stands at the places of a part
+-- the entries at the places of a part
 abbrev pub places_of : {X : Type 0} → List X → Part → List X
 places_of table part = slice_range table part.start (part.start + part.room)
 
--- what stands at those that have a key
+-- the entries at its places that have a key
 abbrev pub keyed_of : {X : Type 0} → List X → Part → List X
 keyed_of table part = slice_range table part.start (part.start + part.count)
 
 module _ {K : Type 0} where
-  -- the map of each part whose slots know their places
+  -- the map of a part whose slots know their places
   abbrev pub map_of_slots : List K → List ℕ → Part → List (Option K)
   map_of_slots sorted places part = keys_of (keyed_of sorted part) (places_of places part)
 

@@ -1,4 +1,4 @@
--- Heaps of items, each on a stretch of the places of its group, in a table that all groups share.
+-- Heaps of items, each on a stretch of the places of its group, in a shared table.
 use Rattle.std.specs.Prelude.{◌≡◌, ◌<◌, ◌≤◌, ◌^◌, ℕ, Bool, true, false, List, Option, Some, length, map, take, drop, slice_get}
 use Rattle.sim_groups.specs.declared.item_heaps.Plot.{Plot}
 use Rattle.sim_groups.specs.declared.parts.Part.{Part}
@@ -8,33 +8,33 @@ use Rattle.sim_heaps.specs.Item.{Item}
 use Rattle.sim_heaps.specs.RunHeap.{AreInOrder}
 use Rattle.sim_heaps.specs.TopHeap.{placed, IsTopHeap}
 
--- what stands on a stretch of the places
+-- the entries on a stretch of the places
 abbrev pub standing : {X : Type 0} → List X → Stretch → List X
 standing places stretch = drop stretch.first (take stretch.end places)
 
--- the first places, so many, are these
+-- the first `count` places have these entries
 abbrev pub IsFront : {X : Type 0} → ℕ → List X → List X → Type 0
 IsFront count places front = take count places ≡ front
 
--- a plot as a part, of which it is not said how many of its places have a key
+-- a plot as a part, without the number of places that have a key
 abbrev pub part_of_plot : Plot → Part
 part_of_plot plot = record { start = plot.start; room = plot.room; count = 0 }
 
--- no item stands on any plot
+-- no plot has an item
 abbrev pub AreFresh : List Plot → Type 0
 AreFresh plots =
     (group : ℕ) (plot : Plot) → slice_get plots group ≡ Some plot → plot.stretch ≡ (record { first = 0; end = 0; in_order = true })
 
--- how many items a plot has room for
+-- the number of items for which a plot has room
 abbrev pub room_of_plot : Plot → ℕ
 room_of_plot plot = plot.room
 
--- the maps of the groups, and how many keys each has room for
+-- the maps of the groups, and the room of each for keys
 pub record Roomed (K : Type 0) : Type 0 where
   pub maps : List (List (Option K))
   pub rooms : List ℕ
 
--- Of so many slots, any of which may have its key in the heap of any group:
+-- There are `slots` slots, any of which may have its key in the heap of any group.
 module _ {K : Type 0} (slots : ℕ) where
   -- the map of a stretch
   abbrev pub map_on : List (Item K) → Stretch → List (Option K)
@@ -51,7 +51,7 @@ module _ {K : Type 0} (slots : ℕ) where
   roomed plots items = record { maps = maps_of_items plots items; rooms = map room_of_plot plots }
 
 module _ {K : Type 0} (before : K → K → Bool) (slots : ℕ) where
-  -- the items of the stretch are a heap, and are in their order where it says so; where it does not, they stand at the front
+  -- the items of the stretch are a heap; they are in order if it says so, and otherwise begin at the front
   pub record IsStretch (places : List (Item K)) (stretch : Stretch) : Type 0 where
     pub few : length places < 2 ^ 32
     pub begins : stretch.first ≤ stretch.end

@@ -1,4 +1,4 @@
-// Slots in groups.
+//! Slots in groups.
 ghost use Rattle.std.specs.Prelude.{◌≡◌, ◌+◌, ◌*◌, ◌^◌, ◌<◌, ◌≤◌, ℕ, All, IfOk, IfSome, IsNone, Some, None, length, replicate, slice_get, slice_set, sum};
 ghost use Rattle.goal_limits.specs.declared.limits.TheConstants.{MAX_OPS};
 ghost use Rattle.sim_order.specs.Events.{event_before};
@@ -13,8 +13,8 @@ use std::alloc::Global;
 use std::marker::Model;
 use std::sync::ledger::Ledger;
 
-/// A finite map from slots to keys, whose slots are in groups. The least key of a group is asked for. With at most 2^k
-/// slots a put or a take compares 2k + 1 times at most, and asking for the least compares nothing.
+/// A finite map from slots to keys, whose slots are in groups, with the least key of each group. With at most 2^k
+/// slots, a put or a take needs at most 2k + 1 comparisons, and reading a least key needs none.
 #[derive(Drop)]
 pub struct Groups {
     // the group of each slot
@@ -33,7 +33,7 @@ impl Model for Groups {
     ghost invariant = { λ q. AreHousedAtSlots q.groups.items q.heaps.maps q.heaps.rooms };
 }
 
-// Counts the slots of each group, whose groups have these numbers.
+// Counts the slots of each group, given the groups of all slots.
 fn count(numbers: &[u32], counts: &mut [u32])
     requires within { All (λ group. group < length counts.old) numbers.now }
     requires zero { All (λ count. count ≡ 0) counts.old }
@@ -47,8 +47,8 @@ fn count(numbers: &[u32], counts: &mut [u32])
 }
 
 impl Groups {
-    /// The slots whose groups have these numbers, the numbers below `groups`. None of them has a key. It takes all its
-    /// memory here.
+    /// Creates the map of slots with these groups, which are below `groups`. No slot has a key. It allocates all its
+    /// memory here. `Err` means out of memory.
     pub fn new(alloc: Global, numbers: &[u32], groups: u32) -> Result<Groups, NoMemory>
         requires within { All (λ group. group < groups) numbers.now }
         requires few { length numbers.now ≤ MAX_OPS }
@@ -61,7 +61,7 @@ impl Groups {
         Ok(Groups { groups, heaps })
     }
 
-    /// The group of a slot.
+    /// Returns the group of a slot.
     pub fn group(&self, slot: u32) -> u32
         requires { slot < length self.now.groups }
         ensures { slice_get self.now.groups slot ≡ Some result }
@@ -69,7 +69,7 @@ impl Groups {
         self.groups[slot as usize]
     }
 
-    /// Gives a slot that has no key a key, which is kept at time 0.
+    /// Gives a slot that has no key a key, which is kept with time 0.
     pub fn put<L: Ledger>(&mut self, slot: u32, key: CompactKey, steps: &mut Steps<L>)
         requires slot_in { slot < length self.old.keys }
         requires free { key_at self.old.keys slot ≡ None }
@@ -81,7 +81,7 @@ impl Groups {
         self.heaps.put(group, slot, key, steps);
     }
 
-    /// Takes out the key of a slot that is before that of each other slot of its group.
+    /// Removes the key of a slot, which is before the key of every other slot of its group.
     pub fn take<L: Ledger>(&mut self, slot: u32, steps: &mut Steps<L>)
         requires { IsSoleLeastOf event_before self.old slot }
         ensures taken { self.new ≡ record self.old { keys = slice_set self.old.keys slot None } }
@@ -92,7 +92,7 @@ impl Groups {
         self.heaps.take(group, slot, steps);
     }
 
-    /// The least key of a group. None where no slot of the group has a key, or there is no such group.
+    /// Returns the least key of a group, or `None` if no slot of it has a key or there is no such group.
     pub fn least_of(&self, group: u32) -> Option<CompactKey>
         ensures none { IsNone result → IsEmptyGroup self.now group }
         ensures least { IfSome result (IsLeastOf event_before self.now group) }

@@ -1,4 +1,4 @@
-// Heaps whose keys go from the top, in one table.
+//! Heaps whose keys are removed only from the top, in one table.
 ghost use Rattle.std.specs.Prelude.{◌≡◌, ◌+◌, ◌*◌, ◌^◌, ◌<◌, ◌≤◌, ℕ, IfOk, IfSome, IsNone, Some, None, count_by, is_some, length, map, replicate, slice_index, sum};
 ghost use Rattle.goal_limits.specs.declared.limits.TheConstants.{MAX_OPS};
 ghost use Rattle.sim_order.specs.Events.{event_before};
@@ -17,19 +17,22 @@ use std::alloc::Global;
 use std::marker::Model;
 use std::sync::ledger::Ledger;
 
-/// Where a heap has its places in the table, from `start` on, so many, and where its items stand among them.
+/// The places of a heap in the table, and those of its items among them.
 #[derive(Clone, Copy)]
 pub struct Plot {
+    /// The first place.
     pub start: u32,
+    /// The number of places.
     pub room: u32,
+    /// The places that have items, counted from `start`.
     pub stretch: Stretch,
 }
 
-/// A heap for each group, whose keys are at time 0, come at any slot that has none there, and go only from the top. A group has
-/// room for as many keys as it has slots. Contracts see the maps of the groups, each of all slots.
+/// A heap for each group. Its keys are at time 0; any slot without a key in it may get one, and only the least is
+/// removed. A group has room for as many keys as it has slots. Contracts see the maps of the groups, each of all slots.
 #[derive(Drop)]
 pub struct ItemHeaps {
-    // how many slots there are; any of them may have its key in the heap of any group
+    // the number of slots; any of them may have its key in the heap of any group
     slots: u32,
     plots: Vec<Plot>,
     items: Vec<HeapItem<AtZero>>,
@@ -47,7 +50,7 @@ impl Model for ItemHeaps {
     ghost invariant = { λ h. AreItemHeaps event_before h.slots h.plots.items h.items.items };
 }
 
-// So many items, which no group counts yet.
+// Creates `count` items that do not belong to any group.
 fn no_items(alloc: Global, count: usize) -> Result<Vec<HeapItem<AtZero>>, NoMemory>
     ensures { IfOk result (λ items. length items.items ≡ count) }
 {
@@ -56,7 +59,7 @@ fn no_items(alloc: Global, count: usize) -> Result<Vec<HeapItem<AtZero>>, NoMemo
     Ok(items)
 }
 
-// These parts, no place of which has an item.
+// Creates plots on these parts, without items.
 fn plots(alloc: Global, parts: &[Part]) -> Result<Vec<Plot>, NoMemory>
     requires { AreWithoutKeys parts.now }
     ensures parts { IfOk result (λ plots. map part_of_plot plots.items ≡ parts.now) }
@@ -74,7 +77,8 @@ fn plots(alloc: Global, parts: &[Part]) -> Result<Vec<Plot>, NoMemory>
 }
 
 impl ItemHeaps {
-    /// Heaps of so many slots, with room for so many keys each. No slot has a key. They take all their memory here.
+    /// Creates heaps of `slots` slots, with room for as many keys each as `counts` says. No slot has a key. It
+    /// allocates all its memory here. `Err` means out of memory.
     pub fn new(alloc: Global, slots: u32, counts: &[u32]) -> Result<ItemHeaps, NoMemory>
         requires few { slots ≤ MAX_OPS }
         requires few_in_all { sum counts.now < 2 ^ 32 }
@@ -90,14 +94,14 @@ impl ItemHeaps {
         })
     }
 
-    /// How many there are.
+    /// Returns the number of heaps.
     pub fn len(&self) -> usize
         ensures { result ≡ length self.now.maps }
     {
         self.plots.len()
     }
 
-    /// Gives a slot that has no key in a group one there, at time 0. The group has room for one more.
+    /// Gives a slot that has no key in a group one there, with time 0. The group has room for it.
     pub fn put<L: Ledger>(&mut self, group: u32, slot: u32, key: CompactKey, steps: &mut Steps<L>)
         requires group_in { group < length self.old.maps }
         requires slot_in { slot < length (heap_at self.old.maps group) }
@@ -121,7 +125,7 @@ impl ItemHeaps {
         self.plots[group as usize] = Plot { stretch, ..plot };
     }
 
-    /// Takes out the least key of a group, that of this slot: it is before each other.
+    /// Removes the least key of a group, which this slot has; it is before every other.
     pub fn take<L: Ledger>(&mut self, group: u32, slot: u32, steps: &mut Steps<L>)
         requires group_in { group < length self.old.maps }
         requires least { IsSoleLeast event_before (heap_at self.old.maps group) slot }
@@ -142,7 +146,7 @@ impl ItemHeaps {
         self.plots[group as usize] = Plot { stretch, ..plot };
     }
 
-    /// The least key of a group. None where it has none.
+    /// Returns the least key of a group, or `None` if it has none.
     pub fn least_of(&self, group: u32) -> Option<CompactKey>
         requires { group < length self.now.maps }
         ensures none { IsNone result → IsEmptyMap (heap_at self.now.maps group) }

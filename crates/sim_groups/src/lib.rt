@@ -1,4 +1,4 @@
-//! Slots in groups: each slot has a key or none, and the least key of a group is asked for.
+//! Slots in groups: each slot has a key or none, and the least key of a group can be read.
 #![tactic(auto)]
 
 mod groups;

@@ -1,19 +1,23 @@
-// The parts that groups have of a table.
+//! The parts of a table that belong to groups.
 ghost use Rattle.std.specs.Prelude.{◌≡◌, ◌+◌, ◌<◌, ◌^◌, IfOk, length, map, sum};
 ghost use Rattle.sim_groups.specs.Parts.{room_of, ArePacked, AreWithoutKeys};
 
 use goal_limits::NoMemory;
 use std::alloc::Global;
 
-/// Where a group has its places in the table: from `start` on, so many. The first of them, as many as are counted, have a key.
+/// The part of a table that belongs to a group. Its first `count` places have a key.
 #[derive(Clone, Copy)]
 pub struct Part {
+    /// The first place.
     pub start: u32,
+    /// The number of places.
     pub room: u32,
+    /// The number of places that have a key, the first ones.
     pub count: u32,
 }
 
-/// Parts of so many places each, one behind another, and how many places they have in all. No place has a key.
+/// Returns parts with these numbers of places, one after another, and the number of all places. No place has a key.
+/// `Err` means out of memory.
 pub fn parts(alloc: Global, counts: &[u32]) -> Result<(Vec<Part>, u32), NoMemory>
     requires { sum counts.now < 2 ^ 32 }
     ensures all { IfOk result (λ r. r.1 ≡ sum counts.now) }

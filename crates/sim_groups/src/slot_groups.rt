@@ -1,4 +1,4 @@
-// Slots in groups, whose keys are changed in place.
+//! Slots in groups, whose keys can be changed anywhere.
 ghost use Rattle.std.specs.Prelude.{◌≡◌, ◌+◌, ◌*◌, ◌^◌, ◌<◌, ◌≤◌, ℕ, All, IfOk, IfSome, IsNone, OnOk, Some, None, length, replicate, slice_set, sum};
 ghost use Rattle.sim_order.specs.Events.{event_before};
 ghost use Rattle.sim_heaps.specs.Item.{at_time};
@@ -11,16 +11,18 @@ use std::alloc::Global;
 use std::marker::Model;
 use std::sync::ledger::Ledger;
 
-/// Where a slot has its key: in the heap of its group, at a place there.
+/// The home of a slot's key.
 #[derive(Clone, Copy, Debug, PartialEq, Eq)]
 pub struct PlaceInGroup {
+    /// The group, whose heap has the key.
     pub group: u32,
+    /// The place in that heap.
     pub place: u32,
 }
 
-/// A finite map from slots to keys at time 0, whose slots are in groups. A key may be changed while it is there, and may go
-/// from anywhere. The least key of a group is asked for. With at most 2^k slots a put or a drop compares 2k + 1 times at
-/// most, and asking for the least compares nothing.
+/// A finite map from slots to keys at time 0, whose slots are in groups, with the least key of each group. A key may be
+/// changed, and removed from anywhere. With at most 2^k slots, a put or a drop needs at most 2k + 1 comparisons, and
+/// reading a least key needs none.
 #[derive(Drop)]
 pub struct SlotGroups {
     homes: Vec<PlaceInGroup>,
@@ -38,8 +40,8 @@ impl Model for SlotGroups {
     ghost invariant = { λ q. IsHoused q.homes.items q.heaps };
 }
 
-// Homes for slots whose groups have these numbers: the slots of a group get its places in their order. Counts the slots
-// of each group.
+// Returns homes for slots with these groups: the slots of a group get its places in their order. Counts the slots of
+// each group.
 fn homes(alloc: Global, numbers: &[u32], counts: &mut [u32]) -> Result<Vec<PlaceInGroup>, NoMemory>
     requires within { All (λ group. group < length counts.old) numbers.now }
     requires zero { All (λ count. count ≡ 0) counts.old }
@@ -59,8 +61,8 @@ fn homes(alloc: Global, numbers: &[u32], counts: &mut [u32]) -> Result<Vec<Place
 }
 
 impl SlotGroups {
-    /// The slots whose groups have these numbers, the numbers below `groups`. None of them has a key. It takes all its
-    /// memory here.
+    /// Creates the map of slots with these groups, which are below `groups`. No slot has a key. It allocates all its
+    /// memory here. `Err` means out of memory.
     pub fn new(alloc: Global, numbers: &[u32], groups: u32) -> Result<SlotGroups, NoMemory>
         requires within { All (λ group. group < groups) numbers.now }
         requires few { length numbers.now < 2 ^ 32 }
@@ -72,7 +74,7 @@ impl SlotGroups {
         Ok(SlotGroups { homes, heaps })
     }
 
-    /// Gives a slot a key, which is kept at time 0, in place of the one that it had if it had one.
+    /// Gives a slot a key, which is kept with time 0, instead of the one that it had, if any.
     pub fn put<L: Ledger>(&mut self, slot: u32, key: CompactKey, steps: &mut Steps<L>)
         requires { slot < length self.old.keys }
         ensures put { self.new ≡ record self.old { keys = slice_set self.old.keys slot (Some (at_time 0 key)) } }
@@ -83,7 +85,7 @@ impl SlotGroups {
         self.heaps.put(home, key, steps);
     }
 
-    /// Takes the key of a slot out. Where it has none, nothing changes.
+    /// Removes the key of a slot. If it has none, nothing changes.
     pub fn drop_slot<L: Ledger>(&mut self, slot: u32, steps: &mut Steps<L>)
         requires { slot < length self.old.keys }
         ensures dropped { self.new ≡ record self.old { keys = slice_set self.old.keys slot None } }
@@ -94,7 +96,7 @@ impl SlotGroups {
         self.heaps.drop_slot(home, steps);
     }
 
-    /// The least key of a group. None where no slot of the group has a key, or there is no such group.
+    /// Returns the least key of a group, or `None` if no slot of it has a key or there is no such group.
     pub fn least_of<L: Ledger>(&self, group: u32, steps: &mut Steps<L>) -> Option<CompactKey>
         ensures none { IsNone result → IsEmptyGroup self.now group }
         ensures least { IfSome result (IsLeastOf event_before self.now group) }

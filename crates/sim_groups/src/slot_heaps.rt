@@ -1,4 +1,4 @@
-// Heaps whose slots know their places, in one table.
+//! Heaps whose slots know their places, in one table.
 ghost use Rattle.std.specs.Prelude.{◌≡◌, ◌+◌, ◌*◌, ◌^◌, ◌<◌, ◌≤◌, ℕ, IfOk, IfSome, IsNone, Some, None, length, map, slice_get, slice_set, sum, take};
 ghost use Rattle.sim_order.specs.Events.{event_before};
 ghost use Rattle.sim_heaps.specs.Heap.{keys_of, IsHeap, IsHeapBut, IsSlotHeap};
@@ -18,14 +18,14 @@ use std::alloc::Global;
 use std::marker::Model;
 use std::sync::ledger::Ledger;
 
-/// A heap for each group, whose keys are at time 0. It knows the place of each slot, so that a key is changed in place. Contracts
-/// see the maps of the groups.
+/// A heap for each group, whose keys are at time 0. It knows the place of each slot, so that a key can be changed
+/// anywhere. Contracts see the maps of the groups.
 #[derive(Drop)]
 pub struct SlotHeaps {
     parts: Vec<Part>,
     // the key at each place
     sorted: Vec<WaitingKey>,
-    // the slot at each place of a part, and the place of each slot; slots without a key stand after the heap
+    // the slot at each place of a part, and the place of each slot; slots without a key follow the heap
     slots: Vec<u32>,
     places: Vec<u32>,
 }
@@ -43,7 +43,7 @@ impl Model for SlotHeaps {
     ghost invariant = { λ h. AreSlotHeaps event_before h.parts.items h.sorted.items h.slots.items h.places.items };
 }
 
-// Numbers places from 0 on.
+// Numbers the places from 0 on.
 fn number(places: &mut [u32])
     requires { length places.old ≤ 2 ^ 32 }
     ensures each { length places.new ≡ length places.old }
@@ -54,7 +54,7 @@ fn number(places: &mut [u32])
     }
 }
 
-// So many numbers, those of each part from 0 on.
+// Returns `size` numbers, which count from 0 in each part.
 fn in_order(alloc: Global, parts: &[Part], size: u32) -> Result<Vec<u32>, NoMemory>
     requires { ArePacked parts.now size }
     ensures each { IfOk result (λ v. length v.items ≡ size) }
@@ -69,7 +69,7 @@ fn in_order(alloc: Global, parts: &[Part], size: u32) -> Result<Vec<u32>, NoMemo
     Ok(places)
 }
 
-// Moves the slot at a place up or down until the order holds. A key alone stands as it is.
+// Moves the slot at a place up or down until the order holds. A single key stays.
 #[inline(always)]
 fn settle_among<L: Ledger>(
     sorted: &mut [WaitingKey],
@@ -91,7 +91,7 @@ fn settle_among<L: Ledger>(
     settle(sorted, slots, places, place, steps);
 }
 
-// Gives a slot a key, where the first so many places have one. Answers how many have one then.
+// Gives a slot a key, if the first `count` places have one. Returns how many have one now.
 #[inline(always)]
 fn write<L: Ledger>(
     sorted: &mut [WaitingKey],
@@ -129,7 +129,7 @@ fn write<L: Ledger>(
     count + 1
 }
 
-// Takes the key of a slot out, where the first so many places have one. Answers how many have one then.
+// Removes the key of a slot, if the first `count` places have one. Returns how many have one now.
 #[inline(always)]
 fn erase<L: Ledger>(
     sorted: &mut [WaitingKey],
@@ -168,7 +168,8 @@ fn erase<L: Ledger>(
 }
 
 impl SlotHeaps {
-    /// Heaps with so many slots each, none of which has a key. They take all their memory here.
+    /// Creates heaps with as many slots each as `counts` says, without keys. It allocates all its memory here. `Err`
+    /// means out of memory.
     pub fn new(alloc: Global, counts: &[u32]) -> Result<SlotHeaps, NoMemory>
         requires { sum counts.now < 2 ^ 32 }
         ensures { IfOk result (λ heaps. heaps ≡ map no_keys counts.now) }
@@ -186,14 +187,14 @@ impl SlotHeaps {
         })
     }
 
-    /// How many there are.
+    /// Returns the number of heaps.
     pub fn len(&self) -> usize
         ensures { result ≡ length self.now }
     {
         self.parts.len()
     }
 
-    /// Gives a home a key, at time 0, in place of the one that it had if it had one.
+    /// Gives a home a key, with time 0, instead of the one that it had, if any.
     pub fn put<L: Ledger>(&mut self, home: PlaceInGroup, key: CompactKey, steps: &mut Steps<L>)
         requires group_in { home.group < length self.old }
         requires place_in { home.place < length (heap_at self.old home.group) }
@@ -217,7 +218,7 @@ impl SlotHeaps {
         self.parts[home.group as usize] = Part { count, ..part };
     }
 
-    /// Takes the key of a home out. Where it has none, nothing changes.
+    /// Removes the key of a home. If it has none, nothing changes.
     pub fn drop_slot<L: Ledger>(&mut self, home: PlaceInGroup, steps: &mut Steps<L>)
         requires group_in { home.group < length self.old }
         requires place_in { home.place < length (heap_at self.old home.group) }
@@ -239,7 +240,7 @@ impl SlotHeaps {
         self.parts[home.group as usize] = Part { count, ..part };
     }
 
-    /// The least key of a group. None where it has none.
+    /// Returns the least key of a group, or `None` if it has none.
     pub fn least_of(&self, group: u32) -> Option<CompactKey>
         requires { group < length self.now }
         ensures none { IsNone result → IsEmptyMap (heap_at self.now group) }

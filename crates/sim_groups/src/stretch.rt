@@ -1,4 +1,4 @@
-// Heaps of items, each on a stretch of the places of its group.
+//! Heaps of items, each on a stretch of the places of its group.
 ghost use Rattle.std.specs.Prelude.{◌≡◌, ◌+◌, ◌*◌, ◌^◌, ◌<◌, ◌≤◌, ℕ, Some, None, true, length, slice_set};
 ghost use Rattle.sim_order.specs.Events.{event_before};
 ghost use Rattle.sim_heaps.specs.Item.{at_time};
@@ -12,16 +12,19 @@ use sim_heaps::{Arrivals, AtZero, HeapItem, rise, sink};
 use sim_order::{CompactKey, Steps};
 use std::sync::ledger::Ledger;
 
-/// Where items stand among the places of their group: from `first` to before `end`. They are a heap. Where they are in their
-/// order besides, the least goes from the front, and nothing else moves; where they may not be, `first` is 0.
+/// The places that have items among those of a group: from `first` to before `end`. The items are a heap. If they are
+/// also in order, the least is removed from the front without moving another; if they may not be, `first` is 0.
 #[derive(Clone, Copy)]
 pub struct Stretch {
+    /// The first of these places.
     pub first: u32,
+    /// The place after the last of them.
     pub end: u32,
+    /// Whether the items are in order.
     pub in_order: bool,
 }
 
-// An item more, of a slot of so many, where the last place is free for it.
+// Inserts an item of one of `slots` slots; the last place is free for it.
 #[inline(always)]
 fn enter<L: Ledger>(
     items: &mut [HeapItem<AtZero>],
@@ -44,7 +47,7 @@ fn enter<L: Ledger>(
     rise(items, last, steps);
 }
 
-// Takes the least key out, that of this slot of so many. Then the last place is free.
+// Removes the least key, that of this slot of `slots` slots. The last place is free then.
 #[inline(always)]
 fn leave<L: Ledger>(items: &mut [HeapItem<AtZero>], slots: u32, slot: u32, steps: &mut Steps<L>)
     requires heap { IsTopHeap event_before items.old slots slots }
@@ -65,7 +68,7 @@ fn leave<L: Ledger>(items: &mut [HeapItem<AtZero>], slots: u32, slot: u32, steps
     sink(front, Arrivals::InOrder, steps);
 }
 
-/// A stretch on which nothing stands.
+/// Returns an empty stretch.
 #[inline(always)]
 pub fn empty() -> Stretch
     ensures { result ≡ record { first = 0; end = 0; in_order = true } }
@@ -77,7 +80,7 @@ pub fn empty() -> Stretch
     }
 }
 
-// Whether an item is to stand behind the others: they are in order, there is a place, and it is not before the last.
+// Returns whether an item goes after the others: they are in order, there is a place, and it is not before the last.
 #[inline(always)]
 fn follows<L: Ledger>(
     places: &[HeapItem<AtZero>],
@@ -98,7 +101,7 @@ fn follows<L: Ledger>(
     stretch.in_order && end < places.len() && !item.before(&places[end - 1], steps)
 }
 
-// An item more, of a slot of so many, behind the others.
+// Appends an item of one of `slots` slots after the others.
 #[inline(always)]
 fn append(
     places: &mut [HeapItem<AtZero>],
@@ -123,7 +126,7 @@ fn append(
     }
 }
 
-// Moves the items to the first places, and tells how many they are.
+// Moves the items to the first places, and returns their number.
 fn to_front(places: &mut [HeapItem<AtZero>], stretch: Stretch) -> u32
     requires first { stretch.first ≤ stretch.end }
     requires end { stretch.end ≤ length places.old }
@@ -138,7 +141,7 @@ fn to_front(places: &mut [HeapItem<AtZero>], stretch: Stretch) -> u32
     count
 }
 
-// An item more, of a slot of so many, among the others: from now on they may be out of order.
+// Inserts an item of one of `slots` slots among the others, after which they may be out of order.
 fn put_among<L: Ledger>(
     places: &mut [HeapItem<AtZero>],
     stretch: Stretch,
@@ -165,7 +168,7 @@ fn put_among<L: Ledger>(
     }
 }
 
-/// Gives a slot, of so many, a key, at time 0. It has none, and there is a place for one more.
+/// Gives one of `slots` slots a key, with time 0. It has none, and there is a place for another.
 #[inline(always)]
 pub fn put<L: Ledger>(
     places: &mut [HeapItem<AtZero>],
@@ -195,7 +198,7 @@ pub fn put<L: Ledger>(
     put_among(places, stretch, slots, item, steps)
 }
 
-/// Takes out the least key, that of this slot of so many: it is before each other.
+/// Removes the least key, that of this slot of `slots` slots; it is before every other.
 #[inline(always)]
 pub fn take<L: Ledger>(
     places: &mut [HeapItem<AtZero>],

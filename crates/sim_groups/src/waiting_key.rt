@@ -1,4 +1,4 @@
-// Keys at time 0.
+//! Keys at time 0.
 ghost use Rattle.std.specs.Prelude.{◌≡◌};
 ghost use Rattle.sim_heaps.specs.Item.{at_time};
 
@@ -9,7 +9,7 @@ use std::sync::ledger::Ledger;
 /// A key at time 0, in 8 bytes.
 #[derive(Clone, Copy)]
 pub struct WaitingKey {
-    // the class and the operation in one number
+    // the class and the operation, as one number
     tail: u64,
 }
 
@@ -29,7 +29,7 @@ impl Model for WaitingKey {
 }
 
 impl WaitingKey {
-    /// A key, at time 0.
+    /// Returns the key of the same action at time 0.
     #[inline(always)]
     pub fn new(key: CompactKey) -> WaitingKey
         ensures { result ≡ at_time 0 key }
@@ -37,7 +37,7 @@ impl WaitingKey {
         WaitingKey { tail: key.tail() }
     }
 
-    /// The same with its time.
+    /// Returns the key with its time, 0.
     #[inline(always)]
     pub fn key(&self) -> CompactKey
         ensures { result ≡ self.now }
