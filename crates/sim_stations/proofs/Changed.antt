@@ -1,4 +1,4 @@
--- What one slot has is changed, in the queue as it is seen.
+-- The queue, as contracts see it, after one slot changed.
 use Rattle.std.proofs.Common.{◌≡◌, ◌≢◌, ◌⊎◌, ◌<◌, ◌≤◌, ◌+◌, ◌*◌, ℕ, true, false, List, length, set, slice_get, slice_index, slice_index_or, Option, Some, None, is_some, IfSome, refl, sym, ap, ◌∙◌, subst, arith, inl, inr}
 use Rattle.std.specs.Option.{option_map}
 use Rattle.std.proofs.Math.Nat.{mul-le-mul_right}
@@ -27,7 +27,7 @@ use Rattle.sim_stations.proofs.Joined.{kept_now, stands_ahead}
 pub cost_falls : (k : ℕ) (new old : List KeyPlace) → count_ahead new ≤ count_ahead old → cost_of_waiting k new ≤ cost_of_waiting k old
 cost_falls k new old l = mul-le-mul_right (8 * k + 12) l
 
--- what is held is not free before it was
+-- a held resource is not free earlier than before
 pub later_each : (free : List ℕ) (p : Pair) (cpu side : ℕ) → IsLater free p cpu side → (r : ℕ) → slice_index free r ≤ slice_index (held free p cpu side) r
 later_each free p cpu side later r = go (cases_lt r (length free))
   where
@@ -39,7 +39,7 @@ pub both_later : (free : List ℕ) (p : Pair) (cpu side : ℕ) → IsLater free 
 both_later free p cpu side later q =
     omega (arith, later_each free p cpu side later q.cpu, later_each free p cpu side later q.side)
 
--- the queue as it is seen
+-- the queue as contracts see it
 abbrev pub view : List (Option Timed) → Grouped Timed → Rowed → List KeyPlace → Option ℕ → Stationed
 view ahead waiting rows stands found = record { keys = seen_of ahead waiting rows; stations = waiting.groups; stands = stands; pairs = rows.pairs; turned = rows.turned; free = rows.free; found = found }
 
@@ -50,7 +50,7 @@ module _ (ahead : List (Option Timed)) (waiting : Grouped Timed) (rows : Rowed) 
   pub seen_size : length seen ≡ length waiting.keys
   seen_size = seen_long ahead waiting rows.pairs kept.mapped rows.free
 
-  -- a slot that is seen to have no key has none
+  -- a slot without a visible key has none
   pub idle_ahead : (slot : ℕ) → key_at seen slot ≡ None → key_at ahead slot ≡ None
   idle_ahead slot e = go (key_at ahead slot) refl
     where
@@ -71,7 +71,7 @@ module _ (ahead : List (Option Timed)) (waiting : Grouped Timed) (rows : Rowed) 
   idle_stand slot e =
       kept.stood.tells slot ∙ ap (λ o. stand_of o (key_at waiting.keys slot)) (idle_ahead slot e) ∙ ap (stand_of None) (idle_waiting slot e)
 
-  -- where a slot stands tells whether it has a key
+  -- the place of a slot says whether it has a key
   pub stand_key : (slot : ℕ) → has_key (slice_index_or stands slot Nowhere) ≡ is_some (key_at seen slot)
   stand_key slot = go (key_at ahead slot) (key_at waiting.keys slot) refl refl
     where
@@ -86,7 +86,7 @@ module _ (ahead : List (Option Timed)) (waiting : Grouped Timed) (rows : Rowed) 
       go None None e f =
           ap has_key (kept.stood.tells slot ∙ ap (λ o. stand_of o (key_at waiting.keys slot)) e ∙ ap (stand_of None) f) ∙ sym (ap is_some (there ∙ ap (option_map (when_free rows.free (pair_here rows.pairs waiting slot))) (merged_waiting ahead waiting slot e ∙ f)))
 
-  -- a slot that stands among those that wait, and one that does not
+  -- a slot that waits, and one that does not
   pub waits_there : (slot : ℕ) → is_waiting (slice_index_or stands slot Nowhere) ≡ true → (k : Timed) × (key_at waiting.keys slot ≡ Some k)
   waits_there slot e = go (key_at ahead slot) (key_at waiting.keys slot) refl refl
     where
@@ -106,7 +106,7 @@ module _ (ahead : List (Option Timed)) (waiting : Grouped Timed) (rows : Rowed) 
   pub ahead_stand : (slot : ℕ) (k : Timed) → key_at ahead slot ≡ Some k → slice_index_or stands slot Nowhere ≡ Ahead
   ahead_stand slot k e = kept.stood.tells slot ∙ ap (λ o. stand_of o (key_at waiting.keys slot)) e
 
-  -- the slot that was found, where it does not wait
+  -- the slot that was found, if it does not wait
   pub found_ahead : (slot : ℕ) → IsFound ahead waiting (Some slot) → is_waiting (slice_index_or stands slot Nowhere) ≡ false → IsSoleLeast event_before ahead slot
   found_ahead slot (inl sole) e = sole
   found_ahead slot (inr sole) e =
@@ -134,7 +134,7 @@ module _ (ahead : List (Option Timed)) (waiting : Grouped Timed) (rows : Rowed) 
           none None e =
               ap is_waiting (kept.stood.tells slot ∙ ap (λ o. stand_of o (key_at waiting.keys slot)) e ∙ ap (stand_of None) f)
 
-  -- what one slot has is changed, and maybe the rows with it
+  -- one slot is changed, and maybe the rows with it
   module _ (slot : ℕ) (within : slot < length waiting.keys) (new_ahead : List (Option Timed)) (new_waiting : Grouped Timed) (step : IsStep slot ahead new_ahead waiting new_waiting) (new_rows : Rowed) (shown : AreShown new_waiting new_rows.keys (length new_rows.pairs)) (keyed : length new_rows.keys ≡ length new_rows.pairs) (pairs : new_rows.pairs ≡ rows.pairs) (turned : new_rows.turned ≡ rows.turned) (stand : KeyPlace) (is : stand ≡ stand_of (key_at new_ahead slot) (key_at new_waiting.keys slot)) where
     pub changed_kept : length new_rows.free ≡ length rows.free → IsKept new_ahead new_waiting new_rows (set stands slot stand)
     changed_kept free = kept_now ahead waiting rows stands new_ahead new_waiting new_rows (set stands slot stand) kept step.each_waiting (still_mapped ahead waiting rows.pairs kept.mapped slot new_ahead new_waiting step) shown keyed (stood_now ahead waiting rows.pairs kept.mapped slot new_ahead new_waiting step stands kept.stood within stand is) pairs (ap length turned) free
@@ -200,7 +200,7 @@ module _ (ahead : List (Option Timed)) (waiting : Grouped Timed) (rows : Rowed) 
       pair_is : pair_at rows.pairs station ≡ pair_here rows.pairs waiting slot
       pair_is = ap (pair_at rows.pairs) (same_Some station (slice_index waiting.groups slot) (sym member ∙ station_of ahead waiting rows.pairs kept.mapped slot within))
 
-  -- the least key of a station after one of its slots has left
+  -- the least key of a station after one of its slots left
   module _ (slot station : ℕ) (member : slice_get waiting.groups slot ≡ Some station) (within : slot < length waiting.keys) (new_waiting : Grouped Timed) (taken : new_waiting ≡ record { keys = set waiting.keys slot None; groups = waiting.groups }) (least : Option Timed) (none : is_some least ≡ false → IsEmptyGroup new_waiting station) (some : IfSome least (IsLeastOf event_before new_waiting station)) where
     zero_left : (one : ℕ) (k : Timed) → key_at new_waiting.keys one ≡ Some k → k.time ≡ 0
     zero_left one k e = go (cases_eq one slot)
@@ -230,7 +230,7 @@ module _ (ahead : List (Option Timed)) (waiting : Grouped Timed) (rows : Rowed) 
     pub left_shown : AreShown new_waiting (set rows.keys station least) (length rows.pairs)
     left_shown = told_station waiting slot station member within None new_waiting taken rows.keys (length rows.pairs) (omega (arith, kept.mapped.within slot station member, kept.keyed)) kept.shown least left_head
 
-    -- the resources of its station are held as it leaves
+    -- the resources of its station are held when it leaves
     module _ (new_rows : Rowed) (cpu side : ℕ) (later : IsLater rows.free (pair_here rows.pairs waiting slot) cpu side) where
       pair_is : pair_at rows.pairs station ≡ pair_here rows.pairs waiting slot
       pair_is = ap (pair_at rows.pairs) (same_Some station (slice_index waiting.groups slot) (sym member ∙ station_of ahead waiting rows.pairs kept.mapped slot within))
@@ -282,7 +282,7 @@ module _ (ahead : List (Option Timed)) (waiting : Grouped Timed) (rows : Rowed) 
     pub taken_seen : seen_of new_ahead waiting rows ≡ set seen slot None
     taken_seen = changed_seen slot taken_within new_ahead waiting taken_step rows kept.shown kept.keyed refl refl Nowhere taken_stand refl None (ap (option_map (when_free rows.free (pair_here rows.pairs waiting slot))) (merged_waiting new_ahead waiting slot taken_gone ∙ taken_idle))
 
-  -- a slot gets a key for itself
+  -- a slot gets a key at its own time
   module _ (slot : ℕ) (within : slot < length waiting.keys) (idle : key_at seen slot ≡ None) (key : Timed) where
     pair_of_slot : Pair
     pair_of_slot = pair_here rows.pairs waiting slot

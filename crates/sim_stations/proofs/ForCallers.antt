@@ -1,2 +1,2 @@
--- The lemmas of this crate that upper crates cite: they import this file alone.
+-- The lemmas that upper crates may use: they import this file alone.
 pub use Rattle.sim_stations.proofs.Moves.{few_changes}

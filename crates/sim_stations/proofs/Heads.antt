@@ -1,4 +1,4 @@
--- The least of a group, where slots of other groups are changed.
+-- The least of a group, after slots of other groups were changed.
 use Rattle.std.proofs.Common.{◌≡◌, ℕ, false, Option, Some, None, slice_get, nat_lt, refl, sym, ap, ◌∙◌, arith, le-ltb}
 use Rattle.goal_graph.specs.declared.action.Timed.{Timed}
 use Rattle.sim_order.specs.Events.{event_before}
@@ -10,7 +10,7 @@ use Rattle.sim_stations.specs.Rows.{IsHead}
 pub no_key : (k : Timed) → None ≡ Some k → ⊥
 no_key k e = absurd (cc)
 
--- at one time events stand as at another
+-- events of one time compare as at any other time
 pub at_one_time : (time : ℕ) (x y : Timed) → event_before (at_time time x) (at_time time y) ≡ event_before (at_time 0 x) (at_time 0 y)
 at_one_time time x y = let same : nat_lt time time ≡ false = le-ltb time time (omega arith) in rw same refl
 

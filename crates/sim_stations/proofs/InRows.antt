@@ -1,4 +1,4 @@
--- Rows of stations, of which the key of one is changed, or which goes over, or whose resources are held.
+-- Rows of stations, after the key of one changed, after one switched, or after resources were held.
 use Rattle.std.proofs.Common.{◌≡◌, ◌≢◌, ◌⊎◌, ◌*◌, ◌^◌, ◌<◌, ℕ, Bool, true, false, not, List, Option, Some, None, length, set, slice_get, slice_index, slice_index_or, IfSome, sym, ap, ◌∙◌, subst, arith, inl, inr}
 use Rattle.std.proofs.lemmas.Bool.{cases_eq}
 use Rattle.std.proofs.lemmas.List.{get_or-set_same, get_or-set_other, get_or_read, length-set}
@@ -24,11 +24,11 @@ pair_read pairs s p l e = slice_get-get_or pairs s p l ∙ ap Some (sym e)
 pub turned_read : (turned : List Bool) (s : ℕ) (b : Bool) → s < length turned → b ≡ slice_index_or turned s b → b ≡ turned_at turned s
 turned_read turned s b l e = get_or_read turned s b l e false
 
--- rows whose key is changed at a place
+-- the rows after the key at a place changed
 abbrev pub with_key : Grouped Timed → ℕ → Option Timed → Grouped Timed
 with_key rows place value = record { keys = set rows.keys place value; groups = rows.groups }
 
--- a key that is there is at a time where all are
+-- an existing key is at the time of all
 pub if_some : (o : Option Timed) → IfSome o (λ k. k.time ≡ 0) → (k : Timed) → o ≡ Some k → k.time ≡ 0
 if_some o h k e = subst (λ x. IfSome x (λ k. k.time ≡ 0)) e h
 
@@ -36,7 +36,7 @@ if_some o h k e = subst (λ x. IfSome x (λ k. k.time ≡ 0)) e h
 pub held_long : (free : List ℕ) (p : Pair) (cpu side : ℕ) → length (held free p cpu side) ≡ length free
 held_long free p cpu side = length-set (set free p.cpu cpu) p.side side ∙ length-set free p.cpu cpu
 
--- the heads are told anew where both resources of a pair are held, and those of the others stay
+-- the heads after both resources of a pair were held; the others stay
 pub both_told : (rows : Grouped Timed) (heads : List (Option Timed)) (free : List ℕ) (p : Pair) → length heads ≡ length free → length free < 2 ^ 32 → (cpu side : ℕ) (now : List (Option Timed)) → AreBothTold rows (held free p cpu side) heads now p → ((r : ℕ) → r < length free → r ≢ p.cpu → r ≢ p.side → IsHead rows r (slice_index free r) (key_at heads r)) → AreHeads rows now (held free p cpu side)
 both_told rows heads free p each few cpu side now told others = record {
   each = told.each ∙ each ∙ sym (held_long free p cpu side);
@@ -89,7 +89,7 @@ module _ (rows : Grouped Timed) (heads : List (Option Timed)) (pairs : List Pair
     apart b slot r n e same =
         n (same_Some r (side_of p b) (sym e ∙ ap (slice_get rows.groups) same ∙ member s p b at))
 
-    -- One key is changed where the station stands.
+    -- One key is changed at the place of the station.
     module _ (value : Option Timed) (zero : (k : Timed) → value ≡ Some k → k.time ≡ 0) (new : Grouped Timed) (is_new : new ≡ with_key rows (place_in s (turned_at turned s)) value) where
       abbrev here : ℕ
       here = place_in s (turned_at turned s)
@@ -150,7 +150,7 @@ module _ (rows : Grouped Timed) (heads : List (Option Timed)) (pairs : List Pair
       pub written_seen : seen turned new.keys ≡ set (seen turned rows.keys) s value
       written_seen = ap (seen turned) keys_are ∙ seen_written turned rows.keys long s station_in value
 
-      -- so it is where its resources are held besides
+      -- so are they after its resources were also held
       pub left_heads : (cpu side : ℕ) (now : List (Option Timed)) → AreBothTold new (held free p cpu side) heads now p → AreHeads new now (held free p cpu side)
       left_heads cpu side now told = both_told new heads free p are.each are.few cpu side now told (λ r l n m. head_there r (slice_index free r) (key_at heads r) (not_here r (turned_at turned s) n m) (are.headed r l))
         where
@@ -162,7 +162,7 @@ module _ (rows : Grouped Timed) (heads : List (Option Timed)) (pairs : List Pair
     pub key_zero : (key : Timed) → key_at (seen turned rows.keys) s ≡ Some key → key.time ≡ 0
     key_zero key has = inside.at_zero (place_in s (turned_at turned s)) key (sym (seen_at turned rows.keys long s) ∙ has)
 
-    -- The station goes over with its key.
+    -- The station switches with its key.
     module _ (key : Timed) (has : key_at (seen turned rows.keys) s ≡ Some key) (mid new : Grouped Timed) (is_mid : mid ≡ with_key rows (place_in s (turned_at turned s)) None) (is_new : new ≡ with_key mid (place_in s (not (turned_at turned s))) (Some key)) where
       abbrev from : ℕ
       from = place_in s (turned_at turned s)

@@ -42,7 +42,7 @@ kept_now ahead waiting rows stands new_ahead new_waiting new_rows new_stands kep
   few_resources = omega (arith, kept.few_resources, long, free);
 }
 
--- one slot stands elsewhere
+-- the place of one slot changes
 pub stands_ahead : (stands : List KeyPlace) (slot : ℕ) (was now : KeyPlace) → slot < length stands → slice_index_or stands slot Nowhere ≡ was → count_ahead (set stands slot now) + one_ahead was ≡ count_ahead stands + one_ahead now
 stands_ahead stands slot was now l e =
     ap (λ s. count_ahead (set stands slot now) + one_ahead s) (sym e) ∙ sum_by-set one_ahead stands slot now Nowhere l

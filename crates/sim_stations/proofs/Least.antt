@@ -1,4 +1,4 @@
--- The key that is looked at first, where it is at the earliest time at which its action can happen, is the least.
+-- The key that is tried first, if it is at the earliest time of its action, is the least.
 use Rattle.std.proofs.Common.{◌≡◌, ◌≢◌, ◌⊎◌, ◌<◌, ◌≤◌, ℕ, max, Bool, true, false, not, List, length, slice_get, slice_index, Option, Some, None, refl, sym, ap, ◌∙◌, subst, arith, inl, inr}
 use Rattle.std.specs.Option.{option_map}
 use Rattle.std.proofs.lemmas.Bool.{cases_eq}
@@ -26,7 +26,7 @@ pub one_of_both : (free : List ℕ) (p : Pair) (b : Bool) → slice_index free (
 one_of_both free p false = omega arith
 one_of_both free p true = omega arith
 
--- where one is free before both are, the other is free later
+-- if one is free before both are, the other is free later
 pub other_later : (free : List ℕ) (p : Pair) (b : Bool) → slice_index free (side_of p b) < both_free free p → slice_index free (side_of p b) < slice_index free (side_of p (not b))
 other_later free p false l = omega (arith, l)
 other_later free p true l = omega (arith, l)
@@ -53,7 +53,7 @@ module _ (ahead : List (Option Timed)) (waiting : Grouped Timed) (rows : Rowed) 
   shown_at station w e =
       ap (option_map (at_time (slice_index rows.free (side_of (pair_at rows.pairs station) (turned_at rows.turned station))))) e
 
-  -- what a slot has that waits is not before what its station shows
+  -- the key of a waiting slot is not before what its station shows
   record IsAfterShown (slot : ℕ) (k : Timed) : Type 0 where
     station : ℕ
     head : Timed
@@ -107,7 +107,7 @@ module _ (ahead : List (Option Timed)) (waiting : Grouped Timed) (rows : Rowed) 
     pub in_ahead : is_ahead ≡ true → (slot : ℕ) × (key_at ahead slot ≡ Some key)
     in_ahead e = subst (IsSeenFirst ahead rows key) e first.seen
 
-    -- a key that a station shows is that of a slot that waits with it
+    -- a key that a station shows belongs to a slot that waits with it
     pub record IsShownOf : Type 0 where
       pub slot : ℕ
       pub station : ℕ
@@ -174,7 +174,7 @@ module _ (ahead : List (Option Timed)) (waiting : Grouped Timed) (rows : Rowed) 
               let same : was.slot ≡ slot = same_slot was.slot (when_free rows.free (pair_for was.slot) was.own) (seen_waiting was.slot was.own was.has) (sym (ap (λ (x : Timed). x.op) was.is)) in
               omega (arith, same, key_within waiting.keys was.slot was.own was.has)
 
-      -- a key as great as this one is that of the slot
+      -- a key equal to this one belongs to the slot
       no_other : (one : ℕ) (k : Timed) → key_at seen one ≡ Some k → (m : Timed) → m.op ≡ k.op → m ≡ key → one ≡ slot
       no_other one k e m f g = same_slot one k e (sym f ∙ ap (λ (x : Timed). x.op) g)
 
@@ -189,7 +189,7 @@ module _ (ahead : List (Option Timed)) (waiting : Grouped Timed) (rows : Rowed) 
           let was = shown_of e in
           same_slot was.slot (when_free rows.free (pair_for was.slot) was.own) (seen_waiting was.slot was.own was.has) (sym (ap (λ (x : Timed). x.op) was.is))
 
-      -- the slot is the first of those that are ahead
+      -- the slot is the first of those ahead
       pub sole_ahead : is_ahead ≡ true → IsSoleLeast event_before ahead slot
       sole_ahead e = record { key = key; has = ahead_slot e; first = λ one k f. go one k f (event_before key k) refl }
         where
@@ -236,7 +236,7 @@ module _ (ahead : List (Option Timed)) (waiting : Grouped Timed) (rows : Rowed) 
         station_is e =
             same_Some (shown_of e).station station (sym (shown_of e).member ∙ ap (slice_get waiting.groups) (shown_slot e) ∙ member)
 
-        -- where it is at the earliest time, it is the slot's key, and the least
+        -- if it is at the earliest time, it is the slot's key, and the least
         pub least_found : when_free rows.free (pair_at rows.pairs station) key ≡ key → IsLeast event_before seen slot key
         least_found due = record { has = go is_ahead refl; least = none_before }
           where
@@ -282,7 +282,7 @@ module _ (ahead : List (Option Timed)) (waiting : Grouped Timed) (rows : Rowed) 
             let was = shown_of e in
             no_key (when_free rows.free (pair_for was.slot) was.own) (sym (empty was.slot) ∙ seen_waiting was.slot was.own was.has)
 
-    -- the operation of the key is that of some slot
+    -- the operation of the key belongs to some slot
     pub listed : (ops : List OpId) → AreOfSlots ops seen → (slot : ℕ) × (slice_get ops slot ≡ Some key.op)
     listed ops of_slots = go is_ahead refl
       where
@@ -292,7 +292,7 @@ module _ (ahead : List (Option Timed)) (waiting : Grouped Timed) (rows : Rowed) 
             let was = shown_of e in
             (was.slot, of_slots was.slot (when_free rows.free (pair_for was.slot) was.own) (seen_waiting was.slot was.own was.has) ∙ ap Some (sym (ap (λ (x : Timed). x.op) was.is)))
 
-  -- where neither has a key, no slot has one
+  -- if neither has a key, no slot has one
   pub empty_both : IsEmptyMap ahead → IsEmptyMap rows.keys → IsEmptyMap seen
   empty_both none no_row slot = go (key_at waiting.keys slot) refl
     where

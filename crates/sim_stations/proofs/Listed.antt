@@ -1,4 +1,4 @@
--- Operations that are listed exist.
+-- Listed operations exist.
 use Rattle.std.proofs.Common.{◌≡◌, ℕ, true, List, is_some, slice_get, Some, refl, sym, subst}
 use Rattle.std.proofs.lemmas.Option.{slice_get_within, get_or_from_slice_get}
 use Rattle.goal_graph.specs.declared.action.OpId.{OpId}

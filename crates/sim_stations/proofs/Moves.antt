@@ -1,4 +1,4 @@
--- How often stations change their places.
+-- How often stations switch resources.
 use Rattle.std.proofs.Common.{◌≡◌, ◌≢◌, ◌⊎◌, ◌+◌, ◌*◌, ◌<◌, ◌≤◌, ℕ, zero, suc, min, Bool, true, false, not, List, [], ◌∷◌, length, set, slice_get, slice_index, slice_index_or, Some, refl, sym, ap, ◌∙◌, subst, arith, inl, inr}
 use Rattle.std.proofs.lemmas.Bool.{cases_eq}
 use Rattle.std.proofs.lemmas.List.{get_or-set_same, get_or-set_other, length-set}
@@ -9,7 +9,7 @@ use Rattle.sim_stations.specs.Stations.{held, IsLater}
 use Rattle.sim_stations.specs.Moves.{one_if, HasReturned, HaveReturned, HaveMoved, changes, held_once_more, most_changes, ChangesAreFew}
 use Rattle.sim_stations.specs.Rows.{side_of, turned_at}
 
--- how often a station has changed its place is bounded by what each of its resources did
+-- the switches of a station are bounded by the holds of its resources
 one_bound : (free holds : List ℕ) (p : Pair) (b : Bool) (n : ℕ) → HasReturned free holds p b n → 2 * n + one_if b ≤ 1 + 2 * min (slice_index holds p.cpu) (slice_index holds p.side)
 one_bound free holds p false n r = omega (arith, r.to_cpu, r.to_side)
 one_bound free holds p true n r = omega (arith, r.to_cpu, r.to_side)
@@ -29,7 +29,7 @@ all_bound free holds (p ∷ pairs) (b ∷ turned) [] l m each = absurd (omega (a
 pub few_changes : ChangesAreFew
 few_changes pairs turned free holds returns have = all_bound free holds pairs turned returns have.both have.each have.station
 
--- one station changes its place
+-- one station switches
 pub changes_set : (turned : List Bool) (returns : List ℕ) (s : ℕ) (b : Bool) (n : ℕ) → length turned ≡ length returns → s < length turned → changes (set turned s b) (set returns s n) + (2 * slice_index returns s + one_if (turned_at turned s)) ≡ changes turned returns + (2 * n + one_if b)
 changes_set [] returns s b n l h = absurd (omega (arith, h))
 changes_set (c ∷ turned) [] s b n l h = absurd (omega (arith, l))
@@ -46,7 +46,7 @@ next_change false n = omega arith
 next_change true n = omega arith
 
 module _ (free holds : List ℕ) (p : Pair) where
-  -- a station goes over only to a resource that is free later
+  -- a station switches only to a resource that is free later
   one_turn : (b : Bool) (n : ℕ) → HasReturned free holds p b n → slice_index free (side_of p b) < slice_index free (side_of p (not b)) → HasReturned free holds p (not b) (next b n)
   one_turn false n r late = record {
     to_cpu = r.to_cpu;
@@ -99,7 +99,7 @@ module _ (pairs : List Pair) (free holds : List ℕ) where
           let now_is : slice_index now t ≡ slice_index returns t = get_or-set_other returns s t (next b n) 0 d in
           subst (λ x. HasReturned free holds q x (slice_index now t)) (sym turned_now) (subst (HasReturned free holds q (slice_index_or turned t false)) (sym now_is) (have.station t q e))
 
-  -- before anything has moved, and one change after others
+  -- before any switch, and another switch after others
   pub unmoved : (turned : List Bool) (returns : List ℕ) → HaveReturned pairs turned free holds returns → (moves : ℕ) → HaveMoved pairs free holds turned turned returns moves moves
   unmoved turned returns have moves = record { now = returns; have = have; counted = refl }
 
@@ -166,7 +166,7 @@ module _ (free holds : List ℕ) (p : Pair) (cpu side : ℕ) (later : IsLater fr
           omega (arith, was, (touched q.cpu l).not_fewer)
       back e h (inr f) = omega (arith, f, r.to_cpu)
 
--- a hold of the resources of a pair leaves places as they are
+-- holding the resources of a pair leaves the places unchanged
 pub held_returned : (pairs : List Pair) (turned : List Bool) (free holds returns : List ℕ) → HaveReturned pairs turned free holds returns → (p : Pair) (cpu side : ℕ) → IsLater free p cpu side → HaveReturned pairs turned (held free p cpu side) (held_once_more holds p) returns
 held_returned pairs turned free holds returns have p cpu side later = record {
   each = have.each;

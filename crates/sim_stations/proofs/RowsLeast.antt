@@ -29,7 +29,7 @@ module _ (rows : Grouped Timed) (heads : List (Option Timed)) (pairs : List Pair
   abbrev all : Rowed
   all = record { keys = keys; pairs = pairs; turned = turned; free = free }
 
-  -- a station that has a key stands in the row of a resource
+  -- a station with a key is in the row of a resource
   record IsStanding (s : ℕ) (k : Timed) : Type 0 where
     pair : Pair
     at : slice_get pairs s ≡ Some pair
@@ -60,7 +60,7 @@ module _ (rows : Grouped Timed) (heads : List (Option Timed)) (pairs : List Pair
           let empty = subst (IsHead rows (side_of t.pair (turned_at turned s)) (slice_index free (side_of t.pair (turned_at turned s)))) (none (side_of t.pair (turned_at turned s))) (are.headed (side_of t.pair (turned_at turned s)) t.exists) in
           absurd (no_key k (sym (empty (place_in s (turned_at turned s)) t.there) ∙ t.has))
 
-  -- the head of a resource is the key of a station that stands there
+  -- the head of a resource is the key of a station in its row
   record IsOfHead (r : ℕ) (h : Timed) : Type 0 where
     station : ℕ
     pair : Pair

@@ -1,4 +1,4 @@
--- The keys of stations, of what stands at their places in the rows.
+-- The keys of stations, from the entries at their places in the rows.
 use Rattle.std.proofs.Common.{◌≡◌, ◌≢◌, ◌⊎◌, ◌*◌, ◌<◌, ℕ, zero, suc, Bool, true, false, not, List, [], ◌∷◌, length, set, Option, None, refl, sym, ap, ◌∙◌, arith, inl, inr}
 use Rattle.std.proofs.lemmas.Bool.{cases_eq}
 use Rattle.std.proofs.lemmas.List.{get_or-set_same, get_or-set_other, length-set}
@@ -40,7 +40,7 @@ module _ (turned : List Bool) (keys : List (Option Timed)) (long : length keys �
   pub here_in : here < length keys
   here_in = omega (arith, long, place_within s (length turned) (turned_at turned s) within)
 
-  -- the key of a station is changed where it stands
+  -- the key of a station is changed at its place
   pub seen_written : (value : Option Timed) → seen turned (set keys here value) ≡ set (seen turned keys) s value
   seen_written value = same_maps (seen turned (set keys here value)) (set (seen turned keys) s value) (seen_length turned (set keys here value) (length-set keys here value ∙ long) ∙ sym (seen_length turned keys long) ∙ sym (length-set (seen turned keys) s value)) (λ i l. each i (cases_eq i s))
     where
@@ -67,7 +67,7 @@ module _ (turned : List Bool) (keys : List (Option Timed)) (long : length keys �
   abbrev value : Option Timed
   value = key_at (seen turned keys) s
 
-  -- a station goes over, and its key with it
+  -- a station switches, with its key
   pub seen_turned : seen over (moved (key_at (seen turned keys) s)) ≡ seen turned keys
   seen_turned = same_maps (seen over (moved value)) (seen turned keys) (seen_length over (moved value) long_now ∙ length-set turned s (not (turned_at turned s)) ∙ sym (seen_length turned keys long)) (λ i l. each i (cases_eq i s))
     where

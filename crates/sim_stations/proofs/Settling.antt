@@ -1,4 +1,4 @@
--- Slots begin to wait and stations go over, until the least key is looked at first.
+-- Slots begin to wait and stations switch, until the least key is tried first.
 use Rattle.std.proofs.Common.{◌≡◌, ◌<◌, ◌≤◌, ◌+◌, ◌*◌, ◌^◌, ℕ, zero, suc, Bool, true, false, not, nat_lt, List, [], ◌∷◌, length, set, slice_get, slice_index, Option, Some, refl, sym, ap, ◌∙◌, subst, arith, add-one, le-ltb}
 use Rattle.std.proofs.Math.Nat.{suc-mul, pow-succ'}
 use Rattle.std.proofs.lemmas.Bool.{lt-ltb}
@@ -21,7 +21,7 @@ one_more n m = ap (λ x. x * m) (add-one n) ∙ suc-mul n m
 pub twice : (k : ℕ) → 2 ^ (k + 1) ≡ 2 * 2 ^ k
 twice k = ap (λ n. 2 ^ n) (add-one k) ∙ pow-succ' 2 k
 
--- what has changed since it was begun
+-- what has changed since the beginning
 pub record IsSettling (ahead : List (Option Timed)) (waiting : Grouped Timed) (rows : Rowed) (stands : List KeyPlace) (steps moves : ℕ) (new_ahead : List (Option Timed)) (new_waiting : Grouped Timed) (new_rows : Rowed) (new_stands : List KeyPlace) (now moves_now : ℕ) : Type 0 where
   pub kept : IsKept new_ahead new_waiting new_rows new_stands
   pub seen : seen_of new_ahead new_waiting new_rows ≡ seen_of ahead waiting rows
@@ -48,7 +48,7 @@ settling ahead waiting rows stands steps moves kept = record {
   moved = λ holds returns have. unmoved rows.pairs rows.free holds rows.turned returns have moves;
 }
 
--- the station that goes over is late no more, and no other changes
+-- the station that switches is no longer late, and no other changes
 lt_false : (m n : ℕ) → m < n → nat_lt n m ≡ false
 lt_false m n l = le-ltb n m (omega (arith, l))
 
@@ -95,7 +95,7 @@ module _ (ahead : List (Option Timed)) (waiting : Grouped Timed) (rows : Rowed) 
         let late : count_late new_rows.free new_rows.pairs new_rows.turned ≡ count_late mid_rows.free mid_rows.pairs mid_rows.turned = ap (λ f. count_late f new_rows.pairs new_rows.turned) free ∙ ap (λ p. count_late mid_rows.free p new_rows.turned) pairs ∙ ap (count_late mid_rows.free mid_rows.pairs) turned in
         omega (arith, fewer, late)
 
-  -- a station has gone over
+  -- a station has switched
   module _ (station : ℕ) (exists : station < length mid_rows.pairs) (late : slice_index mid_rows.free (side_of (pair_at mid_rows.pairs station) (turned_at mid_rows.turned station)) < slice_index mid_rows.free (side_of (pair_at mid_rows.pairs station) (not (turned_at mid_rows.turned station)))) (new_rows : Rowed) (is_new : new_rows ≡ record { keys = mid_rows.keys; pairs = mid_rows.pairs; turned = set mid_rows.turned station (not (turned_at mid_rows.turned station)); free = mid_rows.free }) (looked now moves_now : ℕ) (look : looked ≤ then + 3) (counted : (k : ℕ) → 2 * length mid_rows.pairs ≤ 2 ^ k → length mid_rows.free ≤ 2 ^ k → now ≤ looked + (8 * k + 4)) (ticked : moves_now ≡ moves_then + 1) where
     abbrev over : List Bool
     over = set mid_rows.turned station (not (turned_at mid_rows.turned station))

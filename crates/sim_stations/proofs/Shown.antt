@@ -1,4 +1,4 @@
--- The least keys of stations, where one more key waits with one of them or one is taken out.
+-- The least keys of stations, after another key waits with one of them or one was removed.
 use Rattle.std.proofs.Common.{◌≡◌, ◌≢◌, ◌⊎◌, ◌<◌, ℕ, false, List, length, set, slice_get, Option, Some, None, sym, ap, ◌∙◌, subst, inl, inr}
 use Rattle.std.proofs.lemmas.Bool.{cases_eq}
 use Rattle.std.proofs.lemmas.List.{get_or-set_same, get_or-set_other}
@@ -33,7 +33,7 @@ module _ (waiting : Grouped Timed) (slot station : ℕ) (member : slice_get wait
   other_station one time head n =
       head_stays waiting new groups_are one (λ s e. key_there s (λ same. n (same_Some one station (sym e ∙ ap (slice_get waiting.groups) same ∙ member)))) time head
 
-  -- the station is told its least key
+  -- the station gets its least key
   pub told_station : (keys : List (Option Timed)) (stations : ℕ) → station < length keys → AreShown waiting keys stations → (head : Option Timed) → IsHead new station 0 head → AreShown new (set keys station head) stations
   told_station keys stations exists shown head is one l = go (cases_eq one station)
     where
@@ -74,7 +74,7 @@ module _ (waiting : Grouped Timed) (slot station : ℕ) (member : slice_get wait
         go one k e has (inr n) =
             before one k (ap (λ gs. slice_get gs one) (sym groups_are) ∙ e) (sym (key_there one n) ∙ has)
 
-    -- a key that is not before another of the station is not the least
+    -- a key after another of the station is not the least
     pub later_joined : HasOneBefore waiting station key → (head : Option Timed) → IsHead waiting station 0 head → IsHead new station 0 head
     later_joined other None empty =
         absurd (no_key other.first (sym (empty other.least.slot other.least.member) ∙ other.least.has))

@@ -35,7 +35,7 @@ at_place (q ∷ pairs) (suc s) b p e (suc (suc i)) h = at_place pairs s b p e i 
 pub side_at : (pairs : List Pair) (s : ℕ) (b : Bool) (p : Pair) → slice_get pairs s ≡ Some p → slice_get (sides pairs) (place_in s b) ≡ Some (side_of p b)
 side_at pairs s b p e = at_place pairs s b p e (place_in s b) refl
 
--- a place is that of a station, on one of its sides
+-- a place belongs to a station, on one of its sides
 pub record IsPlace (pairs : List Pair) (i r : ℕ) : Type 0 where
   pub station : ℕ
   pub turned : Bool
@@ -56,7 +56,7 @@ pub one_if_le : (b : Bool) → one_if b ≤ 1
 one_if_le false = omega arith
 one_if_le true = omega arith
 
--- places are apart
+-- places differ
 pub place_station : (s t : ℕ) (b c : Bool) → place_in s b ≡ place_in t c → s ≡ t
 place_station s t b c e = omega (arith, e, one_if_le b, one_if_le c)
 

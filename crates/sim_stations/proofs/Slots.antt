@@ -1,4 +1,4 @@
--- The keys of the slots, of which one is changed.
+-- The keys of the slots, after one changed.
 use Rattle.std.proofs.Common.{◌≡◌, ◌≢◌, ◌⊎◌, ◌<◌, ℕ, zero, suc, true, List, [], ◌∷◌, length, set, slice_get, slice_index, slice_index_or, Option, Some, None, refl, sym, ap, ◌∙◌, arith, inl, inr}
 use Rattle.std.specs.Option.{option_map}
 use Rattle.std.proofs.lemmas.Bool.{cases_eq}
@@ -48,7 +48,7 @@ merged_ahead ahead waiting i k e = ap (λ o. either o (key_at waiting.keys i)) e
 pub merged_waiting : (ahead : List (Option Timed)) (waiting : Grouped Timed) (i : ℕ) → key_at ahead i ≡ None → merged ahead waiting i ≡ key_at waiting.keys i
 merged_waiting ahead waiting i e = ap (λ o. either o (key_at waiting.keys i)) e
 
--- what one slot has is changed
+-- one slot is changed
 pub record IsStep (slot : ℕ) (ahead new_ahead : List (Option Timed)) (waiting new_waiting : Grouped Timed) : Type 0 where
   pub each_ahead : length new_ahead ≡ length ahead
   pub each_waiting : length new_waiting.keys ≡ length waiting.keys
@@ -131,7 +131,7 @@ module _ (ahead : List (Option Timed)) (waiting : Grouped Timed) (pairs : List P
             ap (key_at new) s ∙ seen_slot free ∙ is ∙ sym here ∙ ap (key_at (set old slot value)) (sym s)
         each i (inr n) = seen_there free i n ∙ sym (seen_here free i) ∙ sym (get_or-set_other old slot i value None n)
 
-    -- it is known where each slot has its key
+    -- the place of each slot's key is known
     pub stood_now : (stands : List KeyPlace) → AreStands stands ahead waiting → slot < length waiting.keys → (stand : KeyPlace) → stand ≡ stand_of (key_at new_ahead slot) (key_at new_waiting.keys slot) → AreStands (set stands slot stand) new_ahead new_waiting
     stood_now stands stood within stand is = record {
       each = length-set stands slot stand ∙ stood.each ∙ sym step.each_waiting;
@@ -159,7 +159,7 @@ module _ (ahead : List (Option Timed)) (waiting : Grouped Timed) (pairs : List P
   pub here_ahead : (slot : ℕ) (value : Option Timed) → slot < length waiting.keys → key_at (set ahead slot value) slot ≡ value
   here_ahead slot value l = get_or-set_same ahead slot value None (omega (arith, l, mapped.each))
 
-  -- a slot waits with another key, or none, where it has nothing ahead any more
+  -- a waiting slot gets another key, or none, and has nothing ahead
   pub step_waiting : (slot : ℕ) (now : List (Option Timed)) (value : Option Timed) (new : Grouped Timed) → slot < length waiting.keys → length now ≡ length ahead → ((one : ℕ) → one ≢ slot → key_at now one ≡ key_at ahead one) → key_at now slot ≡ None → ((k : Timed) → value ≡ Some k → (k.time ≡ 0) × (waits_for_room k.class ≡ true)) → new ≡ record { keys = set waiting.keys slot value; groups = waiting.groups } → IsStep slot ahead now waiting new
   step_waiting slot now value new l each stays idle waits is = record {
     each_ahead = each;

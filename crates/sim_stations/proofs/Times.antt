@@ -23,7 +23,7 @@ later_not_before t k l =
     go true = refl
     go false = refl
 
--- what is not before an event is not before it at a later time of its own either
+-- an event not before another is not before it at a later time either
 pub later_than : (t : ℕ) (k x : Timed) → k.time ≤ t → event_before k x ≡ false → event_before (at_time t k) x ≡ false
 later_than t k x l e = through event_before event_laws (at_time t k) k x (later_not_before t k l) e
 
@@ -41,7 +41,7 @@ module _ (free : List ℕ) (p : Pair) where
       go true e = rw (earliest_waits k e) (omega arith)
       go false e = rw (earliest_at_once k e) (omega arith)
 
-  -- the own moment of an event that waits is forgotten where its resources are free later
+  -- a waiting event's own time does not matter if its resources are free later
   pub forgotten : (k : Timed) → waits_for_room k.class ≡ true → k.time ≤ both_free free p → when_free free p (at_time 0 k) ≡ when_free free p k
   forgotten k w l =
       let left : earliest free p (at_time 0 k) ≡ max 0 (both_free free p) = earliest_waits (at_time 0 k) w in

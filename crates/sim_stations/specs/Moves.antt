@@ -1,5 +1,5 @@
--- How often stations change their places. A station goes over only to a resource that is free later, and comes back only
--- when the other has been held since.
+-- How often stations switch resources. A station switches only to a resource that is free later, and returns only if
+-- the other has been held since.
 use Rattle.std.specs.Prelude.{◌≡◌, ◌<◌, ◌≤◌, ◌+◌, ◌*◌, ℕ, Bool, true, false, List, ◌∷◌, Some, length, min, slice_get, slice_index, slice_index_or, slice_set}
 use Rattle.std.specs.List.{sum_by}
 use Rattle.sim_stations.specs.declared.pair.Pair.{Pair}
@@ -9,15 +9,15 @@ abbrev pub one_if : Bool → ℕ
 one_if false = 0
 one_if true = 1
 
--- A station that has come back to its cpu so often, where its cpu and its side were held so often. It has gone over only to
--- what was held after it had left, and may go over only to what was held again.
+-- A station has returned to its cpu this often, while its cpu and its side were held this often. It switched only to a
+-- resource that was held after it had left, and may switch only to one that was held again.
 pub record HasReturned (free holds : List ℕ) (p : Pair) (turned : Bool) (returns : ℕ) : Type 0 where
   pub to_cpu : returns ≤ slice_index holds p.cpu
   pub to_side : returns + one_if turned ≤ slice_index holds p.side
   pub may_go : turned ≡ false → slice_index free p.cpu < slice_index free p.side → returns + 1 ≤ slice_index holds p.side
   pub may_return : turned ≡ true → slice_index free p.side < slice_index free p.cpu → returns + 1 ≤ slice_index holds p.cpu
 
--- so it is with each station
+-- this holds for each station
 pub record HaveReturned (pairs : List Pair) (turned : List Bool) (free holds returns : List ℕ) : Type 0 where
   pub each : length returns ≡ length pairs
   pub both : length turned ≡ length pairs
@@ -27,26 +27,26 @@ pub record HaveReturned (pairs : List Pair) (turned : List Bool) (free holds ret
       (s : ℕ) (p : Pair)
       → slice_get pairs s ≡ Some p → HasReturned free holds p (slice_index_or turned s false) (slice_index returns s)
 
--- how often these stations have changed their places in all: there and back for each return, and once more where it is there
+-- how often these stations have switched in all: twice for each return, and once more if they are now at their side
 abbrev pub changes : List Bool → List ℕ → ℕ
 changes (b ∷ turned) (n ∷ returns) = 2 * n + one_if b + changes turned returns
 changes _ _ = 0
 
--- stations have changed their places, which is counted
+-- stations have switched, which is counted
 pub record HaveMoved (pairs : List Pair) (free holds : List ℕ) (old new : List Bool) (returns : List ℕ) (before after : ℕ) : Type 0 where
   pub now : List ℕ
   pub have : HaveReturned pairs new free holds now
   pub counted : after + changes old returns ≡ before + changes new now
 
--- one hold more of each resource of a pair
+-- each resource of a pair was held once more
 abbrev pub held_once_more : List ℕ → Pair → List ℕ
 held_once_more holds p =
     slice_set (slice_set holds p.cpu (slice_index holds p.cpu + 1)) p.side (slice_index holds p.side + 1)
 
--- once a station, and twice the lesser of what its two resources did
+-- once per station, plus twice the lesser number of holds of its two resources
 abbrev pub most_changes : List ℕ → List Pair → ℕ
 most_changes holds pairs = sum_by (λ (p : Pair). 1 + 2 * min (slice_index holds p.cpu) (slice_index holds p.side)) pairs
 
--- stations never change their places more often
+-- stations never switch more often
 abbrev pub ChangesAreFew : Type 0
 ChangesAreFew = (pairs : List Pair) (turned : List Bool) (free holds returns : List ℕ) → HaveReturned pairs turned free holds returns → changes turned returns ≤ most_changes holds pairs

@@ -9,7 +9,7 @@ use Rattle.sim_stations.specs.declared.pair.Pair.{Pair}
 use Rattle.sim_stations.specs.Stations.{at_time, pair_at, DoExist}
 use Rattle.sim_stations.specs.Moves.{one_if}
 
--- What each station has, a key or none, its two resources and whether it waits at the second; and when each resource is free.
+-- For each station its key or None, its two resources, and if it waits at the second; and when each resource is free.
 pub record Rowed : Type 0 where
   pub keys : List (Option Timed)
   pub pairs : List Pair
@@ -21,7 +21,7 @@ abbrev pub sides : List Pair → List ℕ
 sides [] = []
 sides (p ∷ pairs) = p.cpu ∷ p.side ∷ sides pairs
 
--- where a station stands among them
+-- the place of a station among them
 abbrev pub place_in : ℕ → Bool → ℕ
 place_in station turned = 2 * station + one_if turned
 
@@ -29,7 +29,7 @@ abbrev pub side_of : Pair → Bool → ℕ
 side_of p false = p.cpu
 side_of p true = p.side
 
--- the keys of the stations, of what stands at their places
+-- the keys of the stations, from the entries at their places
 unfoldable pub seen : List Bool → List (Option Timed) → List (Option Timed)
 seen (false ∷ turned) (a ∷ b ∷ keys) = a ∷ seen turned keys
 seen (true ∷ turned) (a ∷ b ∷ keys) = b ∷ seen turned keys
@@ -39,7 +39,7 @@ seen _ _ = []
 abbrev pub turned_at : List Bool → ℕ → Bool
 turned_at turned station = slice_index_or turned station false
 
--- the key of a station, at the time at which the resource is free where it waits
+-- the key of a station, at the time at which the resource is free at which it waits
 abbrev pub shown : Rowed → ℕ → Option Timed
 shown q station =
     option_map (at_time (slice_index q.free (side_of (pair_at q.pairs station) (turned_at q.turned station)))) (key_at q.keys station)
@@ -55,20 +55,20 @@ abbrev pub IsHead : Grouped Timed → ℕ → ℕ → Option Timed → Type 0
 IsHead waiting group time None = IsEmptyGroup waiting group
 IsHead waiting group time (Some k) = IsLeastOf event_before waiting group (at_time 0 k) × (k.time ≡ time)
 
--- the head of a resource is told anew, at the time at which it is free; each other stays
+-- the head of a resource is updated, at the time at which it is free; the others stay
 pub record IsTold (rows : Grouped Timed) (free : List ℕ) (old new : List (Option Timed)) (resource : ℕ) : Type 0 where
   pub each : length new ≡ length old
   pub here : IsHead rows resource (slice_index free resource) (key_at new resource)
   pub others : (one : ℕ) → one ≢ resource → key_at new one ≡ key_at old one
 
--- so it is with both of a pair
+-- the heads of both resources of a pair are updated
 pub record AreBothTold (rows : Grouped Timed) (free : List ℕ) (old new : List (Option Timed)) (p : Pair) : Type 0 where
   pub each : length new ≡ length old
   pub cpu : IsHead rows p.cpu (slice_index free p.cpu) (key_at new p.cpu)
   pub side : IsHead rows p.side (slice_index free p.side) (key_at new p.side)
   pub others : (one : ℕ) → one ≢ p.cpu → one ≢ p.side → key_at new one ≡ key_at old one
 
--- keys of these resources stand in the rows
+-- the keys of stations are in the rows of their resources
 pub record IsInRows (rows : Grouped Timed) (pairs : List Pair) (turned : List Bool) (free : List ℕ) : Type 0 where
   pub groups : rows.groups ≡ sides pairs
   pub each : length rows.keys ≡ 2 * length pairs

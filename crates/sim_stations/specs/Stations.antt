@@ -1,5 +1,5 @@
--- A queue whose slots wait with their stations. The slots of a station need the same two resources, and no event of theirs is
--- before the moments at which these are free.
+-- A queue whose slots wait with their stations. The slots of a station need the same two resources, and their events
+-- are not before the times at which these are free.
 use Rattle.std.specs.Prelude.{◌≡◌, ◌<◌, ◌≤◌, ◌+◌, ◌*◌, ℕ, Bool, true, false, List, Option, Some, max, slice_get, slice_index, slice_index_or, slice_set, if◌then◌else◌}
 use Rattle.std.specs.List.{sum_by}
 use Rattle.goal_graph.specs.declared.action.OpId.{OpId}
@@ -12,8 +12,8 @@ use Rattle.sim_stations.specs.declared.pair.Pair.{Pair}
 use Rattle.sim_stations.specs.declared.key_place.KeyPlace.{KeyPlace}
 use Rattle.sim_stations.specs.declared.key_place.KeyPlace.TheVariants.{Nowhere, Ahead, Waiting}
 
--- What each slot has, a key or none, its station, and where its key stands; the two resources of each station, and whether
--- what waits there waits at the second; when each resource is free; and the slot that was found to have the least key.
+-- For each slot its key or None, its station, and the place of its key; for each station its two resources, and whether
+-- its waiting slots wait at the second; when each resource is free; and the slot that was found to have the least key.
 pub record Stationed : Type 0 where
   pub keys : List (Option Timed)
   pub stations : List ℕ
@@ -23,7 +23,7 @@ pub record Stationed : Type 0 where
   pub free : List ℕ
   pub found : Option ℕ
 
--- actions of this class wait for a cpu or an interface
+-- actions of this class wait for a cpu or a NIC
 abbrev pub waits_for_room : Class → Bool
 waits_for_room Arrive = false
 waits_for_room Serve = true
@@ -35,14 +35,14 @@ waits_for_room Begin = true
 abbrev pub both_free : List ℕ → Pair → ℕ
 both_free free p = max (slice_index free p.cpu) (slice_index free p.side)
 
--- when the event can happen at the earliest, which needs these resources where it waits for room
+-- the earliest time of an event that needs these resources, if it waits for them
 abbrev pub earliest : List ℕ → Pair → Timed → ℕ
 earliest free p k = if waits_for_room k.class then max k.time (both_free free p) else k.time
 
 abbrev pub when_free : List ℕ → Pair → Timed → Timed
 when_free free p k = at_time (earliest free p k) k
 
--- the resources of the pairs are some of so many
+-- the resources of the pairs are below `resources`
 abbrev pub DoExist : List Pair → ℕ → Type 0
 DoExist pairs resources = (station : ℕ) (p : Pair) → slice_get pairs station ≡ Some p → (p.cpu < resources) × (p.side < resources)
 
@@ -57,7 +57,7 @@ pair_of q slot = pair_at q.pairs (slice_index q.stations slot)
 abbrev pub held : List ℕ → Pair → ℕ → ℕ → List ℕ
 held free p cpu side = slice_set (slice_set free p.cpu cpu) p.side side
 
--- that is not earlier than they were
+-- these times are not earlier than before
 pub record IsLater (free : List ℕ) (p : Pair) (cpu side : ℕ) : Type 0 where
   pub cpu_later : slice_index free p.cpu ≤ cpu
   pub side_later : slice_index (slice_set free p.cpu cpu) p.side ≤ side
@@ -66,7 +66,7 @@ pub record IsLater (free : List ℕ) (p : Pair) (cpu side : ℕ) : Type 0 where
 abbrev pub AreOfSlots : List OpId → List (Option Timed) → Type 0
 AreOfSlots operations keys = (slot : ℕ) (k : Timed) → key_at keys slot ≡ Some k → slice_get operations slot ≡ Some k.op
 
--- how many keys stand for themselves
+-- the number of keys at their own times
 abbrev pub one_ahead : KeyPlace → ℕ
 one_ahead Nowhere = 0
 one_ahead Ahead = 1
@@ -75,7 +75,7 @@ one_ahead Waiting = 0
 abbrev pub count_ahead : List KeyPlace → ℕ
 count_ahead stands = sum_by one_ahead stands
 
--- what it costs at most, among 2^k slots, that these keys begin to wait, and that stations change their places so often
+-- the most comparisons, with 2^k slots, if these keys begin to wait, and stations switch this often
 abbrev pub cost_of_waiting : ℕ → List KeyPlace → ℕ
 cost_of_waiting k stands = count_ahead stands * (8 * k + 12)
 

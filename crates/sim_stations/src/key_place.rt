@@ -1,11 +1,11 @@
-// Where keys stand.
+//! Where keys are kept.
 
 /// Where a slot has its key.
 #[derive(Clone, Copy, Debug)]
 pub enum KeyPlace {
-    /// It has none.
+    /// It has no key.
     Nowhere,
-    /// It has one for itself.
+    /// Its key is at its own time.
     Ahead,
     /// It waits with its station.
     Waiting,

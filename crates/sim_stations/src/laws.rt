@@ -1,7 +1,7 @@
-// The laws of changes of place.
+//! The laws of stations that switch resources.
 ghost use Rattle.sim_stations.specs.Moves.{ChangesAreFew};
 
-/// Stations never change their places more often than once each, and twice the lesser of what their two resources did.
+/// A station switches at most once, plus twice the lesser number of holds of its two resources.
 pub fn laws_of_changes()
     ensures few { ChangesAreFew }
 {}

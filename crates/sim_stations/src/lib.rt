@@ -1,4 +1,5 @@
-//! A queue of events whose slots wait with their stations: a station waits at that of its two resources which is free later.
+//! A queue of events whose slots wait with their stations: a station waits at that of its two resources which is free
+//! later.
 #![tactic(auto)]
 
 mod key_place;

@@ -1,4 +1,4 @@
-// Which stations wait at which resource.
+//! Which stations wait at which resource.
 ghost use Rattle.std.specs.Prelude.{◌≡◌, ◌+◌, ◌*◌, ◌^◌, ◌<◌, ◌≤◌, ◌↔◌, ℕ, All, IfOk, IfSome, IsNone, Some, None, false, not, length, max, replicate, slice_get, slice_index, slice_set};
 ghost use Rattle.goal_graph.specs.declared.action.Timed.{Timed};
 ghost use Rattle.sim_groups.specs.Groups.{IsEmptyGroup};
@@ -15,13 +15,13 @@ use std::alloc::Global;
 use std::marker::Model;
 use std::sync::ledger::Ledger;
 
-/// Stations with the least of their keys, at time 0, where they have any. Each waits at one of its two resources, and its key
-/// is not before the moment at which this is free: so the keys of all stations of a resource are raised together.
+/// Stations with the least of their keys, at time 0, if they have any. Each waits at one of its two resources, and its
+/// key is not before the time at which that is free. So the keys of all stations of a resource are raised together.
 #[derive(Drop)]
 pub struct Rows {
-    // what waits at each resource: the station s has the slots 2s and 2s+1, for its cpu and for its side
+    // the stations that wait at each resource: station s has the slots 2s, for its cpu, and 2s+1, for its side
     rows: SlotGroups,
-    // the least of each row, at the time at which the resource is free
+    // the least key of each row, at the time at which the resource is free
     heads: SlotHeap<CompactKey>,
     pairs: Vec<Pair>,
     // whether each station waits at its side
@@ -39,7 +39,7 @@ impl Model for Rows {
     ghost invariant = { λ q. IsInRows q.rows q.pairs.items q.turned.items q.free.items × AreHeads q.rows q.heads q.free.items };
 }
 
-// The resources of the slots of the rows.
+// Returns the resources of the slots of the rows.
 fn sides(alloc: Global, pairs: &[Pair]) -> Result<Vec<u32>, NoMemory>
     requires { 2 * length pairs.now < 2 ^ 32 }
     ensures { IfOk result (λ v. v.items ≡ sides pairs.now) }
@@ -52,7 +52,7 @@ fn sides(alloc: Global, pairs: &[Pair]) -> Result<Vec<u32>, NoMemory>
     Ok(numbers)
 }
 
-// Where a station stands in the rows.
+// Returns the place of a station in the rows.
 fn place_in(station: u32, turned: bool) -> u32
     requires { 2 * station + 1 < 2 ^ 32 }
     ensures { result ≡ place_in station turned }
@@ -60,14 +60,14 @@ fn place_in(station: u32, turned: bool) -> u32
     2 * station + u32::from(turned)
 }
 
-// The resource at which a station of this pair waits.
+// Returns the resource at which a station of this pair waits.
 fn side_of(pair: Pair, turned: bool) -> u32
     ensures { result ≡ side_of pair turned }
 {
     if turned { pair.side } else { pair.cpu }
 }
 
-// Tells the head of a resource anew.
+// Updates the head of a resource.
 fn tell<L: Ledger>(
     rows: &SlotGroups,
     heads: &mut SlotHeap<CompactKey>,
@@ -88,7 +88,7 @@ fn tell<L: Ledger>(
     }
 }
 
-// Tells the heads of the resources of a pair anew.
+// Updates the heads of the resources of a pair.
 fn tell_both<L: Ledger>(
     rows: &SlotGroups,
     heads: &mut SlotHeap<CompactKey>,
@@ -110,7 +110,7 @@ fn tell_both<L: Ledger>(
     }
 }
 
-// Tells the head of a resource anew whose row is as it was: where nothing waits there, it has none to drop.
+// Updates the head of a resource whose row is unchanged: if nothing waits there, it has none to drop.
 #[inline(always)]
 fn raise<L: Ledger>(
     rows: &SlotGroups,
@@ -132,7 +132,7 @@ fn raise<L: Ledger>(
     }
 }
 
-// Tells the heads of the resources of a pair anew whose rows are as they were.
+// Updates the heads of the resources of a pair whose rows are unchanged.
 #[inline(always)]
 fn raise_both<L: Ledger>(
     rows: &SlotGroups,
@@ -157,7 +157,7 @@ fn raise_both<L: Ledger>(
     }
 }
 
-// Gives a slot of the rows a key, at time 0, or none.
+// Gives a slot of the rows a key, with time 0, or none.
 fn write<L: Ledger>(rows: &mut SlotGroups, slot: u32, key: Option<CompactKey>, steps: &mut Steps<L>)
     requires slot_in { slot < length rows.old.keys }
     requires at_zero { IfSome key (λ k. k.time ≡ 0) }
@@ -172,8 +172,8 @@ fn write<L: Ledger>(rows: &mut SlotGroups, slot: u32, key: Option<CompactKey>, s
 }
 
 impl Rows {
-    /// Stations of these pairs of the resources below a number, which are free at 0. None of them has a key. It takes all its
-    /// memory here.
+    /// Creates the stations of these pairs of resources, which are below `resources` and free at 0. None of them has a
+    /// key. It allocates all its memory here. `Err` means out of memory.
     pub fn new(alloc: Global, pairs: &[Pair], resources: u32) -> Result<Rows, NoMemory>
         requires exist { DoExist pairs.now resources }
         requires few { 2 * length pairs.now < 2 ^ 32 }
@@ -189,7 +189,7 @@ impl Rows {
         })
     }
 
-    /// When both resources of a station are free.
+    /// Returns when both resources of a station are free.
     pub fn free<L: Ledger>(&self, station: u32, steps: &mut Steps<L>) -> u64
         requires { station < length self.now.pairs }
         ensures free { result ≡ both_free self.now.free (pair_at self.now.pairs station) }
@@ -200,7 +200,7 @@ impl Rows {
         self.free[pair.cpu as usize].max(self.free[pair.side as usize])
     }
 
-    /// The least key of the stations, each at the time at which the resource is free where it waits.
+    /// Returns the least key of the stations, each at the time at which the resource is free at which it waits.
     pub fn least<L: Ledger>(&self, steps: &mut Steps<L>) -> Option<CompactKey>
         ensures none { IsNone result ↔ IsEmptyMap self.now.keys }
         ensures least { IfSome result (IsFirst self.now) }
@@ -210,7 +210,7 @@ impl Rows {
         Some(key)
     }
 
-    /// Gives a station another key, at time 0, or none.
+    /// Gives a station another key, with time 0, or none.
     pub fn tell<L: Ledger>(&mut self, station: u32, key: Option<CompactKey>, steps: &mut Steps<L>)
         requires exists { station < length self.old.pairs }
         requires at_zero { IfSome key (λ k. k.time ≡ 0) }
@@ -225,7 +225,7 @@ impl Rows {
         tell(&self.rows, &mut self.heads, &self.free, resource, steps);
     }
 
-    /// Lets a station that has a key go over to its other resource.
+    /// Switches a station that has a key to its other resource.
     #[inline(never)]
     pub fn turn<L: Ledger>(&mut self, station: u32, key: CompactKey, steps: &mut Steps<L>)
         requires exists { station < length self.old.pairs }
@@ -242,7 +242,7 @@ impl Rows {
         tell_both(&self.rows, &mut self.heads, &self.free, pair, steps);
     }
 
-    /// The resources of a station are free at these times from now on.
+    /// Sets the times from which the resources of a station are free.
     pub fn hold<L: Ledger>(&mut self, station: u32, cpu: u64, side: u64, steps: &mut Steps<L>)
         requires { station < length self.old.pairs }
         ensures held { self.new ≡ record self.old { free = held self.old.free (pair_at self.old.pairs station) cpu side } }
@@ -255,7 +255,7 @@ impl Rows {
         raise_both(&self.rows, &mut self.heads, &self.free, pair, steps);
     }
 
-    /// The same, where it has another key from now on, at time 0, or none.
+    /// Does the same, and gives the station another key, with time 0, or none.
     pub fn leave<L: Ledger>(
         &mut self,
         station: u32,

@@ -1,4 +1,4 @@
-// A queue whose slots wait with their stations.
+//! A queue whose slots wait with their stations.
 ghost use Rattle.std.specs.Prelude.{◌≡◌, ◌≢◌, ◌⊎◌, ◌+◌, ◌*◌, ◌^◌, ◌<◌, ◌≤◌, ◌↔◌, ℕ, All, IfOk, IfSome, IsNone, IsTrue, List, Some, None, count_by, false, true, is_some, length, max, replicate, slice_get, slice_index, slice_set};
 ghost use Rattle.std.specs.Option.{option_map};
 ghost use Rattle.goal_limits.specs.declared.limits.TheConstants.{MAX_OPS};
@@ -23,7 +23,7 @@ use std::alloc::Global;
 use std::marker::Model;
 use std::sync::ledger::Ledger;
 
-/// Whether actions of a class wait for a cpu or an interface.
+/// Returns whether actions of a class wait for a cpu or a NIC.
 pub fn waits_for_room(class: Class) -> bool
     ensures { result ≡ waits_for_room class }
 {
@@ -33,7 +33,7 @@ pub fn waits_for_room(class: Class) -> bool
     }
 }
 
-// Whether a slot that stands there has a key.
+// Returns whether a slot with this place has a key.
 fn has_key(stand: KeyPlace) -> bool
     ensures { result ≡ has_key stand }
 {
@@ -43,7 +43,7 @@ fn has_key(stand: KeyPlace) -> bool
     }
 }
 
-// Whether a slot that stands there waits.
+// Returns whether a slot with this place waits.
 fn is_waiting(stand: KeyPlace) -> bool
     ensures { result ≡ is_waiting stand }
 {
@@ -53,7 +53,7 @@ fn is_waiting(stand: KeyPlace) -> bool
     }
 }
 
-// The slot of an answer.
+// Returns the slot of a result.
 fn slot_of(least: &Option<(u32, CompactKey)>) -> Option<u32>
     ensures { result ≡ option_map (λ (r : ℕ × Timed). r.0) least.now }
 {
@@ -63,7 +63,7 @@ fn slot_of(least: &Option<(u32, CompactKey)>) -> Option<u32>
     }
 }
 
-// The least key of those that are ahead.
+// Returns the least key of those ahead.
 fn first_ahead(ahead: &RunHeap) -> Option<CompactKey>
     ensures none { IsNone result ↔ IsEmptyMap ahead.now }
     ensures least { IfSome result (λ key. (slot : ℕ) × IsLeast event_before ahead.now slot key) }
@@ -72,7 +72,7 @@ fn first_ahead(ahead: &RunHeap) -> Option<CompactKey>
     Some(key)
 }
 
-// The key that is looked at first.
+// The key that is tried first.
 #[derive(Clone, Copy)]
 struct Look {
     key: CompactKey,
@@ -80,7 +80,7 @@ struct Look {
     is_ahead: bool,
 }
 
-// The key that is looked at first: that of a slot that is ahead, or one that a station shows.
+// Returns the key that is tried first: that of a slot that is ahead, or one that a station shows.
 fn first<L: Ledger>(ahead: &RunHeap, rows: &Rows, steps: &mut Steps<L>) -> Option<Look>
     ensures none { IsNone result ↔ (IsEmptyMap ahead.now × IsEmptyMap rows.now.keys) }
     ensures first { IfSome result (λ r. IsFirstOfAll ahead.now rows.now r.key r.is_ahead) }
@@ -113,7 +113,7 @@ fn first<L: Ledger>(ahead: &RunHeap, rows: &Rows, steps: &mut Steps<L>) -> Optio
     }
 }
 
-// Whether the action of a slot's key can happen later only, since it waits for the resources of its station.
+// Returns whether the action of a slot's key can happen only later, since it waits for the resources of its station.
 fn is_held_up<L: Ledger>(
     waiting: &Groups,
     rows: &Rows,
@@ -136,8 +136,8 @@ fn is_held_up<L: Ledger>(
     key.time() < free
 }
 
-// Whether a slot's new key is to wait with its station: where it could happen later only, or others of the station wait already
-// at its time, or the time is 0.
+// Returns whether a slot's new key is to wait with its station: if it could happen only later, if others of the station
+// already wait at its time, or if the time is 0.
 fn may_wait<L: Ledger>(
     waiting: &Groups,
     rows: &Rows,
@@ -165,7 +165,7 @@ fn may_wait<L: Ledger>(
     key.time() == free && (free == 0 || waiting.least_of(station).is_some())
 }
 
-// Whether a key is before each that waits with a station.
+// Returns whether a key is before every key that waits with a station.
 fn is_first<L: Ledger>(
     waiting: &Groups,
     station: u32,
@@ -217,8 +217,9 @@ fn join<L: Ledger>(
     }
 }
 
-// Lets a slot whose key is before each other that is ahead wait with its station, where its action could happen later only. It is
-// no part of the loop that calls it, which mostly ends at its first look, and takes less to enter without it.
+// Lets a slot whose key is before every other that is ahead wait with its station, if its action could happen only
+// later. It is not inlined into the loop that calls it, which usually ends at the first key tried, and is cheaper to
+// enter without it.
 #[inline(never)]
 fn begin_to_wait<L: Ledger>(
     ahead: &mut RunHeap,
@@ -249,8 +250,8 @@ fn begin_to_wait<L: Ledger>(
     stands[slot as usize] = KeyPlace::Waiting;
 }
 
-// Lets slots wait and stations go over until the key that is looked at first is at the earliest time at which its action can
-// happen. That is the least key, and is answered with its slot.
+// Lets slots wait and stations switch until the key that is tried first is at the earliest time of its action. That is
+// the least key, and is returned with its slot.
 fn settle<L: Ledger, R: Ledger>(
     ahead: &mut RunHeap,
     waiting: &mut Groups,
@@ -292,7 +293,7 @@ fn settle<L: Ledger, R: Ledger>(
     None
 }
 
-// Takes out the key of the slot that was found; the resources of its station are free at these times from now on.
+// Removes the key of the slot that was found, and sets the times from which the resources of its station are free.
 fn depart<L: Ledger>(
     ahead: &mut RunHeap,
     waiting: &mut Groups,
@@ -322,25 +323,25 @@ fn depart<L: Ledger>(
     }
 }
 
-/// A map from slots to the keys of events, whose slots are in stations. Each station needs two resources, whose free times the
-/// map knows: the key of an action that waits for room is at the earliest time at which it can happen, not before the moments
-/// at which both are free. Where these are free later, the keys of all that wait for them are raised together: a change of
-/// free times compares a few keys of heaps, however many slots wait.
+/// A map from slots to the keys of events, whose slots are in stations. Each station needs two resources, whose free
+/// times the map knows. The key of an action that waits for them is at the earliest time at which it can happen, so not
+/// before both are free. If these become free later, the keys of all that wait for them are raised together: a change
+/// of free times compares a few keys of heaps, however many slots wait.
 ///
-/// A slot that waits does so with its station, and a station at that of its two resources which is free later, as far as it
-/// is known. `turned` says where; a station goes over only when its key comes to the head. So nothing that waits is moved
-/// when its other resource is held.
+/// A waiting slot waits with its station, and a station waits at that of its two resources which is free later, as far
+/// as is known (`turned`). It switches only when its key becomes the head. So nothing moves when the other resource of
+/// a waiting station is held.
 #[derive(Drop)]
 pub struct StationQueue {
-    // keys that stand for themselves, at their own moments
+    // keys at their own times
     ahead: RunHeap,
-    // keys that wait, at time 0
+    // keys that wait, with time 0
     waiting: Groups,
     // the least key of each station, where it waits
     rows: Rows,
-    // where each slot has its key
+    // the place of each slot's key
     stands: Vec<KeyPlace>,
-    // the slot of the least key, where it is known
+    // the slot of the least key, if known
     found: Option<u32>,
 }
 
@@ -356,8 +357,9 @@ impl Model for StationQueue {
 }
 
 impl StationQueue {
-    /// The slots of the stations with these numbers. A station has the resources of its pair, by their numbers, which are below
-    /// `resources`. No slot has a key, and all resources are free at 0. It takes all its memory here.
+    /// Creates the queue of slots of the stations with these numbers. A station has the resources of its pair, which
+    /// are below `resources`. No slot has a key, and all resources are free at 0. It allocates all its memory here.
+    /// `Err` means out of memory.
     pub fn new(
         alloc: Global,
         numbers: &[u32],
@@ -381,14 +383,14 @@ impl StationQueue {
         })
     }
 
-    /// What holds of every queue: no more keys stand for themselves than there are.
+    /// A property of every queue, for proofs: at most as many keys are ahead as there are slots. It does nothing.
     pub fn known(&self)
         ensures { count_ahead self.now.stands ≤ count_by is_some self.now.keys }
     {
         let _found = &self.found;
     }
 
-    /// Whether a slot has a key.
+    /// Returns whether a slot has a key.
     pub fn has(&self, slot: u32) -> bool
         requires { slot < length self.now.keys }
         ensures { result ≡ is_some (key_at self.now.keys slot) }
@@ -396,7 +398,7 @@ impl StationQueue {
         has_key(self.stands[slot as usize])
     }
 
-    /// Whether no slot has a key.
+    /// Returns whether no slot has a key.
     pub fn is_empty<L: Ledger>(&self, steps: &mut Steps<L>) -> bool
         ensures empty { IsTrue result ↔ IsEmptyMap self.now.keys }
         ensures counted { steps.new ≤ steps.old + 1 }
@@ -425,11 +427,13 @@ impl StationQueue {
         }
     }
 
-    /// The least key with its slot: no key of the map is before it. None where no slot has a key. No key is changed; on the way
-    /// slots may begin to wait, and stations may go over to their other resource, which `moves` counts.
+    /// Returns the least key with its slot, or `None` if no slot has a key. No key of the map is before it, and none is
+    /// changed. On the way slots may begin to wait, and stations may switch to their other resource, which `moves`
+    /// counts.
     ///
-    /// - `counted`: what it compares is the cost of the slots that begin to wait and of the stations that go over.
-    /// - `moved`: how often stations have gone over is bounded by how often their resources were held.
+    /// - `counted`: its comparisons are at most the cost of the slots that begin to wait and of the stations that
+    ///   switch.
+    /// - `moved`: the number of switches is bounded by how often the resources were held.
     pub fn least<L: Ledger, R: Ledger>(
         &mut self,
         sched: &Sched,
@@ -461,7 +465,7 @@ impl StationQueue {
         least
     }
 
-    /// Takes out the key that was found to be the least, whose action waits for nothing.
+    /// Removes the key that was found to be the least, whose action waits for nothing.
     pub fn take<L: Ledger>(&mut self, slot: u32, steps: &mut Steps<L>)
         requires found { self.old.found ≡ Some slot }
         requires at_once { IfSome (key_at self.old.keys slot) (λ k. waits_for_room k.class ≡ false) }
@@ -477,8 +481,8 @@ impl StationQueue {
         self.stands[slot as usize] = KeyPlace::Nowhere;
     }
 
-    /// Takes out the key that was found to be the least, whose action holds the resources of its slot: they are free at these
-    /// times from now on, which are not earlier than they were. Keys that wait for them are raised.
+    /// Removes the key that was found to be the least, whose action holds the resources of its slot. These are free at
+    /// the given times from now on, which are not earlier than before. Keys that wait for them are raised.
     pub fn act<L: Ledger>(&mut self, slot: u32, cpu: u64, side: u64, steps: &mut Steps<L>)
         requires found { self.old.found ≡ Some slot }
         requires later { IsLater self.old.free (pair_of self.old slot) cpu side }

@@ -11,7 +11,7 @@ use Rattle.sim_stations.proofs.rows.Rows.turn.Given.{Over}
 use Rattle.sim_stations.proofs.rows.Rows.turn.Goals.{After-tell_both-arg-3-1, After-tell_both}
 use Rattle.sim_stations.proofs.rows.Rows.turn.Goals as goal
 
--- before the heads are told
+-- before the heads are updated
 module _ (g : Over) (c : After-tell_both-arg-3-1 g) where
   within_before : c.args.station < length c.self.inside.pairs.items
   within_before = omega (arith, c.requires.exists, ap (λ (q : Rowed). length q.pairs) c.self.view_is)

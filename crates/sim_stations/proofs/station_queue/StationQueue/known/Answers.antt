@@ -11,7 +11,7 @@ use Rattle.sim_stations.specs.Stations.{Stationed, when_free, pair_at, one_ahead
 use Rattle.sim_stations.specs.Kept.{seen_keys, stand_of}
 use Rattle.sim_stations.proofs.station_queue.StationQueue.known.Goals as goal
 
--- a slot that stands for itself has a key
+-- a slot that is ahead has a key
 one_has : (f : Timed → Timed) (s : KeyPlace) (a w : Option Timed) → s ≡ stand_of a w → one_ahead s ≤ cond (is_some (option_map f (either a w))) 1 0
 one_has f s (Some k) w e = omega (arith, ap one_ahead e)
 one_has f s None (Some k) e = omega (arith, ap one_ahead e)
