@@ -1,4 +1,4 @@
--- A heap for each rank under a heap of ranks: where the operations stand, a key that is changed, and the least of all.
+-- A heap for each rank and a heap of ranks: the places of operations, a changed key, and the least of all.
 use Rattle.std.proofs.Common.{◌≡◌, ◌≢◌, ◌⊎◌, ◌+◌, ◌-◌, ◌<◌, ◌≤◌, ◌^◌, ℕ, zero, suc, All, Bool, false, List, [], ◌∷◌, ◌++◌, length, map, set, take, sum, get_or, slice_get, slice_index, replicate, Option, Some, None, refl, sym, ap, ◌∙◌, subst, arith, inl, inr, length-append}
 use Rattle.std.proofs.lemmas.Bool.{cases_eq, cases_lt}
 use Rattle.std.proofs.lemmas.List.{get_or-set_same, get_or-set_other, length-set, length-map, get_or-map, get_or_past, get_or_append_left, get_or-append-add, get_or_push, length-replicate, map-append, take_more}
@@ -36,7 +36,7 @@ in_rank rank first (o ∷ os) (suc i) x e =
     let rest = in_rank rank (first + 1) os i x e in
     (rest.0, omega (arith, rest.1), omega (arith, rest.2))
 
--- an operation that stands at a slot, where the ranks are numbered from the first on
+-- the operation of a slot, if the ranks are numbered from the first on
 pub record IsPlaced (plans : List Plan) (first slot : ℕ) (x : OpId) : Type 0 where
   pub rank : ℕ
   pub rank_in : rank < length plans
@@ -94,7 +94,7 @@ length-places first [] = refl
 length-places first (p ∷ plans) =
     omega (arith, length-append (places_of_rank first 0 p.ops) (places_from (first + 1) plans), length-places_of_rank first 0 p.ops, length-places (first + 1) plans, sum_by-cons (λ n. n) (length p.ops) (map size_of plans))
 
--- so many operations fit
+-- this number of operations fits
 pub few_in_all : (plans : List Plan) → AreCountsWithin plans → sum (map size_of plans) < 2 ^ 32
 unfolding op_count
 few_in_all plans counts = omega (arith, sum-map size_of plans, counts.ops)
@@ -102,14 +102,14 @@ few_in_all plans counts = omega (arith, sum-map size_of plans, counts.ops)
 no_plan : Plan
 no_plan = record { ops = []; deps = []; notes = [] }
 
--- the size of one rank more
+-- the size of another rank
 pub sizes_more : (plans : List Plan) (rank count : ℕ) (sizes new : List ℕ) → rank < length plans → sizes ≡ map size_of (take rank plans) → count ≡ length (ops_at plans rank) → new ≡ sizes ++ count ∷ [] → new ≡ map size_of (take (rank + 1) plans)
 sizes_more plans rank count sizes new l so_far is e =
     let p : Plan = get_or plans rank no_plan in
     let size : count ≡ size_of p = is ∙ ap length (ops_at_some plans rank p (slice_get-get_or plans rank no_plan l)) in
     e ∙ ap (λ ns. ns ++ count ∷ []) so_far ∙ ap (λ n. map size_of (take rank plans) ++ n ∷ []) size ∙ sym (map-append size_of (take rank plans) (p ∷ [])) ∙ ap (map size_of) (sym (take_more plans rank no_plan l))
 
--- the start of one rank more
+-- the start of another rank
 pub starts_more : (sizes starts new : List ℕ) (i next : ℕ) → length starts ≡ i → next ≡ sum (take i sizes) → ((rank : ℕ) → rank < i → slice_index starts rank ≡ sum (take rank sizes)) → new ≡ starts ++ next ∷ [] → (rank : ℕ) → rank < i + 1 → slice_index new rank ≡ sum (take rank sizes)
 starts_more sizes starts new i next each is old e rank l =
     ap (λ xs. slice_index xs rank) e ∙ go (cases_lt rank i)
@@ -128,7 +128,7 @@ module _ (plans : List Plan) (homes : List PlaceInGroup) (are : homes ≡ map ho
   pub few_homes : sum (map size_of plans) < 2 ^ 32 → length homes < 2 ^ 32
   few_homes few = omega (arith, few, homes_in_all)
 
-  -- no rank has more operations than there are
+  -- a rank has at most as many operations as there are
   sizes_in_all : All (λ size. size ≤ length homes) (map size_of plans)
   sizes_in_all = All-from_get_or (λ size. size ≤ length homes) (map size_of plans) 0 each
     where
@@ -213,13 +213,13 @@ module _ (plans : List Plan) (homes : List PlaceInGroup) (are : homes ≡ map ho
       none i = record { keys = keys i; sizes = empty_sizes K (map size_of plans) i }
 
 module _ {K : Type 0} where
-  -- a heap is changed for one of its length
+  -- a heap is replaced by one of its length
   same_sizes : (heaps : List (List (Option K))) (rank : ℕ) (new : List (Option K)) → length new ≡ length (heap_at heaps rank) → map (λ (h : List (Option K)). length h) (set heaps rank new) ≡ map (λ (h : List (Option K)). length h) heaps
   same_sizes [] rank new e = refl
   same_sizes (heap ∷ heaps) zero new e = ap (λ n. n ∷ map (λ (h : List (Option K)). length h) heaps) e
   same_sizes (heap ∷ heaps) (suc rank) new e = ap (λ ns. length heap ∷ ns) (same_sizes heaps rank new e)
 
-  -- so many slots a rank has
+  -- the number of slots of a rank
   pub size_within : (heaps : List (List (Option K))) (rank most : ℕ) → rank < length heaps → All (λ size. size ≤ most) (map (λ (h : List (Option K)). length h) heaps) → length (heap_at heaps rank) ≤ most
   size_within heaps rank most l all =
       let at = get_or-map (λ (h : List (Option K)). length h) heaps rank [] 0 l in
@@ -229,7 +229,7 @@ module _ {K : Type 0} where
   no_key k e = absurd (cc)
 
   module _ (before : K → K → Bool) (homes : List PlaceInGroup) (starts : List ℕ) (heaps : List (List (Option K))) (heads : List (Option K)) (is : IsRanked before homes starts heaps heads) where
-    -- the key of one slot is changed, and the head of its rank told anew
+    -- the key of one slot is changed, and the head of its rank updated
     module _ (slot : ℕ) (home : PlaceInGroup) (at : slice_get homes slot ≡ Some home) (value : Option K) (heap new : List (Option K)) (is_heap : heap ≡ heap_at heaps home.group) (is_new : new ≡ set heap home.place value) where
       abbrev after : List (List (Option K))
       after = set heaps home.group new
@@ -269,7 +269,7 @@ module _ {K : Type 0} where
           sizes =
               same_sizes heaps home.group new (ap length is_new ∙ length-set heap home.place value ∙ ap length is_heap)
 
-    -- a slot that has a key has a home, and its rank a head
+    -- a slot with a key has a home, and its rank has a head
     record HasHead (k : K) : Type 0 where
       rank : ℕ
       place : ℕ

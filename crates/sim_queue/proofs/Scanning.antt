@@ -1,4 +1,4 @@
--- The best of the slots so far, one slot more, and all.
+-- The best of the slots so far, with another slot, and of all.
 use Rattle.std.proofs.Common.{◌≡◌, ℕ, ◌+◌, ◌<◌, ◌≤◌, ◌↔◌, ◌⊎◌, Bool, List, length, Option, Some, None, IsNone, IfSome, refl, subst, arith, inl, inr}
 use Rattle.std.proofs.lemmas.List.{get_or_past}
 use Rattle.std.proofs.lemmas.Bool.{cases_order}
@@ -26,7 +26,7 @@ module _ {K : Type 0} (before : K → K → Bool) (laws : IsOrder before) (keys 
     least = λ other k p f. elim (last_or_below n other p) [ inl q ↦ h.least other k q f | inr q ↦ let g : key_at keys n ≡ Some k = subst (λ i. key_at keys i ≡ Some k) q f in absurd (cc) ];
   }
 
-  -- past the end no slot has a key
+  -- after the end no slot has a key
   pub past_end : (slot : ℕ) → length keys ≤ slot → key_at keys slot ≡ None
   past_end slot h = get_or_past keys slot None h
 
@@ -47,7 +47,7 @@ module _ {K : Type 0} (before : K → K → Bool) (laws : IsOrder before) (keys 
   least_where_some None h = tt
   least_where_some (Some r) h = all_some r h
 
--- the scan has come to the end of the same list
+-- the scan has reached the end of the same list
 pub scanned : {K : Type 0} (before : K → K → Bool) (keys scanned_keys : List (Option K)) (n : ℕ) (best : Option (ℕ × K)) → scanned_keys ≡ keys → n ≡ length scanned_keys → IsBestBelow before scanned_keys n best → IsBestBelow before keys (length keys) best
 scanned before keys scanned_keys n best e f h =
     subst (λ xs. IsBestBelow before xs (length xs) best) e (subst (λ i. IsBestBelow before scanned_keys i best) f h)

@@ -2,11 +2,11 @@
 use Rattle.std.specs.Prelude.{ℕ, List, Option, length}
 use Rattle.goal_graph.specs.Schedule.{Plan}
 
--- what each slot has, a key or none, from slot 0 on, and how many slots each rank has
+-- for each slot, from slot 0 on, its key or None; and the number of slots of each rank
 pub record Ranked (K : Type 0) : Type 0 where
   pub keys : List (Option K)
   pub sizes : List ℕ
 
--- how many operations a rank has
+-- the number of operations of a rank
 abbrev pub size_of : Plan → ℕ
 size_of plan = length plan.ops

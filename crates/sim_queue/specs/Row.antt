@@ -1,8 +1,8 @@
--- Twelve slots with a key each.
+-- Twelve slots, each with a key.
 use Rattle.std.specs.Prelude.{ℕ, List, [], ◌∷◌, Option, Some}
 use Rattle.sim_order.specs.declared.order.Counted.{Counted}
 
--- a key that is this number
+-- the key that is this number
 abbrev pub keyed : ℕ → Option (Counted ℕ)
 keyed number = Some (record { 0 = number })
 

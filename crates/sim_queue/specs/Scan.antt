@@ -1,9 +1,9 @@
--- The least key, slot by slot.
+-- The least key, found slot by slot.
 use Rattle.std.specs.Prelude.{◌≡◌, ℕ, ◌<◌, Bool, false, List, Option, Some, None, MatchOption, if◌then◌else◌}
 use Rattle.sim_heaps.specs.Map.{key_at}
 
 module _ {K : Type 0} (before : K → K → Bool) where
-  -- the lesser of the best slot so far and another, the best so far where neither is less
+  -- the lesser of the best slot so far and another; the best so far if neither is less
   abbrev pub lesser : Option (ℕ × K) → ℕ → K → ℕ × K
   lesser (Some best) slot key = if before key best.1 then (slot, key) else best
   lesser None slot key = (slot, key)
@@ -13,7 +13,7 @@ module _ {K : Type 0} (before : K → K → Bool) where
     pub has : key_at keys slot ≡ Some key
     pub least : (other : ℕ) (k : K) → other < n → key_at keys other ≡ Some k → before k key ≡ false
 
-  -- the best of the slots below n, none where none of them has a key
+  -- the best of the slots below n, or None if none of them has a key
   abbrev pub IsBestBelow : List (Option K) → ℕ → Option (ℕ × K) → Type 0
   IsBestBelow keys n best =
       MatchOption best ((slot : ℕ) → slot < n → key_at keys slot ≡ None) (λ r. IsLeastBelow keys n r.0 r.1)

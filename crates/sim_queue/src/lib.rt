@@ -1,4 +1,4 @@
-//! Queues of events: each slot has a key or none, and the least key is asked for.
+//! Queues of events: each slot has a key or none, and the least key can be read.
 #![tactic(auto)]
 
 mod ranked_queue;

@@ -1,4 +1,4 @@
-// A heap of operations a rank, under a heap of ranks.
+//! A heap of operations per rank, and a heap of ranks.
 ghost use Rattle.std.specs.Prelude.{◌≡◌, ◌+◌, ◌*◌, ◌^◌, ◌<◌, ◌≤◌, ◌↔◌, ℕ, All, IfOk, IfSome, IsNone, Some, None, length, map, replicate, slice_index, slice_set, sum, take};
 ghost use Rattle.goal_graph.specs.Schedule.{operations};
 ghost use Rattle.sim_heaps.specs.Map.{IsEmptyMap, IsLeast, no_keys};
@@ -15,12 +15,12 @@ use std::alloc::Global;
 use std::marker::Model;
 use std::sync::ledger::Ledger;
 
-/// A queue whose slots are the operations of a schedule, in their order. The operations of a rank stand in a heap of
-/// their own, and the least of each rank in a heap of ranks. Where a rank has at most 2^k operations and there are at
-/// most 2^j ranks, a put or a drop compares 2k + 2j + 4 times at most, and asking for the least compares nothing.
+/// A queue whose slots are the operations of a schedule, in their order. The operations of a rank are in their own
+/// heap, and the least of each rank is in a heap of ranks. With at most 2^k operations per rank and at most 2^j ranks,
+/// a put or a drop needs at most 2k + 2j + 4 comparisons, and reading the least needs none.
 #[derive(Drop)]
 pub struct RankedQueue<K: EventOrder> {
-    // where each operation has its key
+    // the home of each operation's key
     homes: Vec<PlaceInGroup>,
     // the slot of the first operation of each rank
     starts: Vec<u32>,
@@ -39,7 +39,7 @@ impl<K: EventOrder> Model for RankedQueue<K> {
     ghost invariant = { λ q. IsRanked K.before q.homes.items q.starts.items q.heaps.items q.heads };
 }
 
-// The homes of all operations.
+// Returns the homes of all operations.
 fn homes_of(alloc: Global, sched: &Sched) -> Result<Vec<PlaceInGroup>, NoMemory>
     ensures { IfOk result (λ homes. homes.items ≡ map home_of (operations sched.now)) }
 {
@@ -50,7 +50,7 @@ fn homes_of(alloc: Global, sched: &Sched) -> Result<Vec<PlaceInGroup>, NoMemory>
     Ok(homes.collect(alloc)?)
 }
 
-// How many operations each rank has.
+// Returns the number of operations of each rank.
 fn sizes_of(alloc: Global, sched: &Sched) -> Result<Vec<u32>, NoMemory>
     ensures sizes { IfOk result (λ sizes. sizes.items ≡ map size_of sched.now) }
     ensures ranks { IfOk result (λ sizes. length sizes.items < 2 ^ 32) }
@@ -64,7 +64,7 @@ fn sizes_of(alloc: Global, sched: &Sched) -> Result<Vec<u32>, NoMemory>
     Ok(sizes)
 }
 
-// The place of the first of each rank, where the ranks have so many places, one rank after another.
+// Returns the place of the first operation of each rank, from the numbers of operations of the ranks.
 fn starts_of(alloc: Global, sizes: &[u32]) -> Result<Vec<u32>, NoMemory>
     requires { sum sizes.now < 2 ^ 32 }
     ensures each { IfOk result (λ starts. length starts.items ≡ length sizes.now) }
@@ -79,7 +79,7 @@ fn starts_of(alloc: Global, sizes: &[u32]) -> Result<Vec<u32>, NoMemory>
     Ok(starts)
 }
 
-// Heaps with so many slots each, none of which has a key.
+// Creates heaps with these numbers of slots, without keys.
 fn heaps<K: EventOrder + Copy>(alloc: Global, sizes: &[u32]) -> Result<Vec<SlotHeap<K>>, NoMemory>
     ensures { IfOk result (λ heaps. heaps.items ≡ map no_keys sizes.now) }
 {
@@ -90,7 +90,7 @@ fn heaps<K: EventOrder + Copy>(alloc: Global, sizes: &[u32]) -> Result<Vec<SlotH
     Ok(heaps)
 }
 
-// Tells the head of a rank anew.
+// Updates the head of a rank.
 fn tell<K: EventOrder + Copy, L: Ledger>(
     heaps: &[SlotHeap<K>],
     heads: &mut SlotHeap<K>,
@@ -110,7 +110,8 @@ fn tell<K: EventOrder + Copy, L: Ledger>(
 }
 
 impl<K: EventOrder + Copy> RankedQueue<K> {
-    /// A queue with a slot for each operation of a schedule, none of which has a key. It takes all its memory here.
+    /// Creates a queue with a slot for each operation of a schedule, without keys. It allocates all its memory here.
+    /// `Err` means out of memory.
     pub fn new(alloc: Global, sched: &Sched) -> Result<RankedQueue<K>, NoMemory>
         ensures { IfOk result (λ q. q ≡ record { keys = replicate (length (operations sched.now)) None; sizes = map size_of sched.now }) }
     {

@@ -1,4 +1,4 @@
-// Twelve keys in a heap.
+//! Twelve keys in a heap.
 ghost use Rattle.std.specs.Prelude.{◌≡◌, ◌+◌, ◌<◌, ◌≤◌, IfOk, length, slice_set};
 ghost use Rattle.sim_queue.specs.Row.{keyed, twelve_keys};
 
@@ -8,7 +8,7 @@ use sim_order::{Counted, Steps};
 use std::alloc::Global;
 use std::sync::ledger::Ledger;
 
-// Gives a slot of a heap of twelve a key. It compares at most 10 times, since twelve has four binary digits.
+// Gives a slot of a heap of twelve a key. It needs at most 10 comparisons, since twelve has four binary digits.
 fn put_number<L: Ledger>(
     queue: &mut SlotHeap<Counted<u64>>,
     slot: u32,
@@ -24,8 +24,8 @@ fn put_number<L: Ledger>(
     queue.put(slot, Counted(number), steps);
 }
 
-/// A heap of twelve slots, which are given the keys 1, 10, 2, 11, 12, 3, 21, 13, 14, 15, 16 and 5 in order. It compares
-/// at most 120 times.
+/// Fills a heap of twelve slots with the keys 1, 10, 2, 11, 12, 3, 21, 13, 14, 15, 16 and 5, in order. It needs at most
+/// 120 comparisons.
 pub fn heap_of_twelve<L: Ledger>(
     alloc: Global,
     steps: &mut Steps<L>,
@@ -49,7 +49,7 @@ pub fn heap_of_twelve<L: Ledger>(
     Ok(queue)
 }
 
-/// The same, by the number of its row in a table of tests.
+/// Does the same, under the number of its row in a table of tests.
 pub fn row_28<L: Ledger>(
     alloc: Global,
     steps: &mut Steps<L>,

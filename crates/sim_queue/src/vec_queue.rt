@@ -1,4 +1,4 @@
-// The plain queue.
+//! The plain queue.
 ghost use Rattle.std.specs.Prelude.{◌≡◌, ◌<◌, ◌≤◌, ◌^◌, Some, None, IfOk, length, replicate, slice_set, vec_len};
 ghost use Rattle.sim_queue.specs.Scan.{lesser};
 
@@ -9,7 +9,7 @@ use std::alloc::Global;
 use std::marker::Model;
 use std::sync::ledger::Ledger;
 
-/// A queue that looks at every slot for the least key.
+/// A queue that reads every slot to find the least key.
 #[derive(Drop)]
 pub struct VecQueue<K> {
     keys: Vec<Option<K>>,
@@ -26,7 +26,7 @@ impl<K> Model for VecQueue<K> {
 }
 
 impl<K: EventOrder + Copy> VecQueue<K> {
-    /// A queue of so many slots, none of which has a key.
+    /// Creates a queue of `slots` slots without keys. `Err` means out of memory.
     pub fn new(alloc: Global, slots: u32) -> Result<VecQueue<K>, NoMemory>
         ensures { IfOk result (λ q. q ≡ replicate slots None) }
     {
@@ -36,7 +36,7 @@ impl<K: EventOrder + Copy> VecQueue<K> {
     }
 }
 
-// The lesser of the best slot so far and another; the best so far where neither is less.
+// Returns the lesser of the best slot so far and another; the best so far if neither is less.
 fn lesser<K: EventOrder + Copy, L: Ledger>(
     best: Option<(u32, K)>,
     slot: u32,
