@@ -47,7 +47,7 @@ entries_ops class (a ∷ h) =
     go true = refl
     go false = refl
 
--- they stand in order, each before all that comes later
+-- they are in order, each before all that come later
 pub entries_before : (class : Class) (h : List Act) → All (λ (e : MatchEntry). e.at < length h) (entries_of class h)
 entries_before class [] = subst (All (λ (e : MatchEntry). e.at < 0)) (sym (entries_none class)) (All-nil (λ (e : MatchEntry). e.at < 0))
 entries_before class (a ∷ h) = more (entries_before class h) (cases_Bool (place a.class == place class))

@@ -24,7 +24,7 @@ use Rattle.sim_match.proofs.PatternLemmas.{same_pattern_true, same_pattern_itsel
 use Rattle.sim_match.proofs.Numbering.{codable, own_of_receive, own_within}
 use Rattle.sim_match.proofs.Written.{slice_get_there, slice_get_elsewhere}
 
--- a pattern that has no number is none of the keys
+-- a pattern without a number is not one of the keys
 unlike : (keys : List Pattern) (p : Pattern) → number keys p ≡ None → (k : ℕ) → k < length keys → same_pattern p (get_or keys k p) ≡ false
 unlike keys p none k below =
     let far = position_none (same_pattern p) keys none in
@@ -71,7 +71,7 @@ module _ (patterns : List Pattern) (old : ListOrder) (given : AreGiven patterns 
   kept_at : (p : Pattern) (place kept : ℕ) → number patterns p ≡ Some place → slice_get old.numbers.items place ≡ Some kept → kept ≡ coded (number old.keys.items p)
   kept_at p place kept its at = same_Some _ _ (sym at ∙ given.numbers p place its)
 
-  -- a pattern that has no number is given the next
+  -- a pattern without a number gets the next one
   module _ (place : ℕ) (q : Pattern) (its : number patterns q ≡ Some place) (few : old.count + 1 < 2 ^ 32 - 1) (none : slice_get old.numbers.items place ≡ Some (2 ^ 32 - 1)) where
     without : (p : Pattern) → number patterns p ≡ Some place → number old.keys.items p ≡ None
     without p at = none_kept (number old.keys.items p) (codable old.keys.items p (omega (arith, few, given.count))) (sym (kept_at p place (2 ^ 32 - 1) at none))
@@ -124,7 +124,7 @@ module _ (patterns : List Pattern) (old : ListOrder) (given : AreGiven patterns 
   has_number place kept at other None e = absurd (none-some place e)
   has_number place kept at other (Some p) e = some_kept (number old.keys.items p) (λ is. other (kept_at p place kept e at ∙ is))
 
-  -- as it is read
+  -- what the code reads
   pub kept_number : (place kept : ℕ) → slice_get old.numbers.items place ≡ Some kept → (p : Option Pattern) → list_number patterns p ≡ Some place → kept ≡ coded (list_number old.keys.items p)
   kept_number place kept at None e = absurd (none-some place e)
   kept_number place kept at (Some p) e = kept_at p place kept e at

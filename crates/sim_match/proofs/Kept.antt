@@ -36,7 +36,7 @@ module _ (plans : List Plan) (events : List OpId) where
   pub length-actions_of : length (actions_of plans events) ≡ length events
   length-actions_of = length-reverse (map (event_of plans) events) ∙ length-map events (event_of plans)
 
-  -- one event more
+  -- another event
   module _ (x : OpId) where
     actions_of-push : actions_of plans (events ++ x ∷ []) ≡ event_of plans x ∷ actions_of plans events
     actions_of-push =
@@ -124,7 +124,7 @@ module _ (plans : List Plan) (keys : List Pattern) (h : List Act) where
   receives_stay : (m : OpId) (l : ℕ) → receives_of plans keys (arrival_of m ∷ h) l ≡ receives_of plans keys h l
   receives_stay m l = ap (filter (λ (e : MatchEntry). in_list plans keys l e.op)) (entries_other Post (arrival_of m) h refl)
 
-  -- a send that has met no receive stands in its lists
+  -- a send that met no receive is in its lists
   sends_then : (m : OpId) (l : ℕ) (met : Option MatchEntry) → new_pair plans (pairs plans h) h Arrive m ≡ option_map (λ (z : OpId). pair_of m z) (option_map (λ (e : MatchEntry). e.op) met) → sends_of plans keys (arrival_of m ∷ h) l ≡ sends_of plans keys h l ++ (if list_any (same_number (Some l)) (stands_in met (lists_for plans keys m)) then entry m ∷ [] else [])
   unfolding for_list
   sends_then m l None makes =

@@ -84,7 +84,7 @@ module _ (plans : List Plan) (next : List ℕ) (queue new : Queue) (place : ℕ)
   left_none same none x [] line = none
   left_none same none x (y ∷ ys) line = absurd (line.3.1.apart (first_place x (y ∷ ys) line ∙ same))
 
-  -- or others stand behind it
+  -- or others follow it
   pub link_there : place ≢ queue.last → (xs : List OpId) → AreInLine (operations plans) next queue xs → (behind : ℕ) × (slice_get next place ≡ Some behind) × (behind < length (operations plans))
   link_there n [] line = absurd line
   link_there n (x ∷ []) line = absurd (n (sym (first_place x [] line) ∙ line.3))

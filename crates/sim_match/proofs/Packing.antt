@@ -206,7 +206,7 @@ built_none side = record {
   empty = λ entries. refl;
 }
 
--- they are apart among so many entries
+-- they are disjoint, among this number of entries
 pub built_packed : (side : Side) (capacities : List Capacity) (spans : List Stretch) (end : ℕ) → AreBuilt side capacities spans end → (entries : List MatchEntry) → length entries ≡ end → end < 2 ^ 32 → ArePacked spans entries
 built_packed side capacities spans end b entries long few = record {
   apart = b.apart;

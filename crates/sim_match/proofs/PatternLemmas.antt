@@ -75,7 +75,7 @@ position_none p xs e =
 pub number_within : (keys : List Pattern) (p : Pattern) (i : ℕ) → number keys p ≡ Some i → i < length keys
 number_within keys p i e = (position-Some (same_pattern p) keys i p e).0
 
--- and the pattern stands there
+-- the pattern is at that place
 pub number_at : (keys : List Pattern) (p : Pattern) (i : ℕ) → number keys p ≡ Some i → p ≡ get_or keys i p
 number_at keys p i e = same_pattern_true p (get_or keys i p) (position-Some (same_pattern p) keys i p e).1
 

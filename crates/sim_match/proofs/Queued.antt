@@ -278,7 +278,7 @@ not_yet plans h Sends x new =
     ap (λ (o : Option OpId). is_some o) (not_arrived plans h x (suited_send plans x new.suited) new.fresh)
 
 module _ (plans : List Plan) (keys : List Pattern) (named : AreNamed keys) (listed : AreListed plans keys) where
-  -- a receive fits the sends of its own list
+  -- a receive fits the sends of its list
   fits_own : (x m : OpId) → IsReceive plans x → IsSend plans m → fits plans x m ≡ same_number (own_list plans keys x) (own_list plans keys m)
   fits_own x m r s =
       sym (fits_any plans keys x m r (listed x r)) ∙ ap (list_any (same_number (list_of plans keys x))) (lists_where_named plans keys m s named) ∙ of_four (list_of plans keys x) (own_list plans keys m) ∙ ap (λ (o : Option ℕ). same_number o (own_list plans keys m)) (sym (own_of_receive plans keys x r))

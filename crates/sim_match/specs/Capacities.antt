@@ -10,16 +10,16 @@ use Rattle.sim_match.specs.declared.capacities.Side.TheVariants.{Receives, Sends
 use Rattle.sim_match.specs.MatchLists.{MatchList}
 use Rattle.sim_match.specs.Patterns.{same_number, in_list, for_list}
 
--- how many of a side there are
+-- the room that a list needs for a side
 abbrev pub room_of : Side → Capacity → ℕ
 room_of Receives c = c.receives
 room_of Sends c = c.sends
 
--- a list with room for them
+-- an empty list with this room
 abbrev pub empty_list : Side → Capacity → MatchList
 empty_list side c = record { entries = []; head = 0; room = room_of side c }
 
--- no number stands twice
+-- no number occurs twice
 abbrev pub AreOnce : List (Option ℕ) → Type 0
 AreOnce numbers = (k i : ℕ) → slice_get numbers k ≡ Some (Some i) → list_any (same_number (Some i)) (take k numbers) ≡ false
 
@@ -27,7 +27,7 @@ AreOnce numbers = (k i : ℕ) → slice_get numbers k ≡ Some (Some i) → list
 abbrev pub AreWithin : List (Option ℕ) → ℕ → Type 0
 AreWithin numbers bound = (k i : ℕ) → slice_get numbers k ≡ Some (Some i) → i < bound
 
--- a send more for each of the lists of these numbers, from the capacity before
+-- another send is counted for each of the lists with these numbers
 pub record IsCounted (numbers : List (Option ℕ)) (capacities : List Capacity) (list : ℕ) (capacity : Capacity) : Type 0 where
   pub before : Capacity
   pub was : slice_get capacities list ≡ Some before
@@ -39,7 +39,7 @@ pub record AreCounted (numbers : List (Option ℕ)) (old new : List Capacity) : 
   pub each : (list : ℕ) (capacity : Capacity) → slice_get new list ≡ Some capacity → IsCounted numbers old list capacity
 
 module _ (plans : List Plan) (keys : List Pattern) where
-  -- of these operations, so many are receives of the list, and so many are sends for it
+  -- the list has this number of receives among these operations, and this number of sends for it
   pub record IsCapacity (ops : List OpId) (list : ℕ) (capacity : Capacity) : Type 0 where
     pub receives : capacity.receives ≡ count_by (in_list plans keys list) ops
     pub sends : capacity.sends ≡ count_by (for_list plans keys list) ops

@@ -12,30 +12,30 @@ use Rattle.sim_match.specs.declared.pattern.Wild.{Wild}
 use Rattle.sim_match.specs.declared.pattern.Wild.TheVariants.{AnyTag, AnySource, Any}
 use Rattle.sim_match.specs.Patterns.{own_list, wild_list, is_wild, names_a_source, names_a_tag, AreListed}
 
--- what is kept of the number of a list, or of none
+-- the code of a list's number, or of none
 abbrev pub coded : Option ℕ → ℕ
 coded None = 2 ^ 32 - 1
 coded (Some list) = list
 
--- a number below that of none, or none
+-- a number that has a code, or none
 abbrev pub IsCodable : Option ℕ → Type 0
 IsCodable number = (list : ℕ) → number ≡ Some list → list < 2 ^ 32 - 1
 
--- each names a source and a tag
+-- each pattern names a source and a tag
 pub record AreNamed (keys : List Pattern) : Type 0 where
   pub sources : list_all names_a_source keys ≡ true
   pub tags : list_all names_a_tag keys ≡ true
 
--- The numbers of the lists of a kind, of all operations, are kept unless no pattern is of the kind: then no send has such
--- a list.
+-- The numbers of the lists of a kind are kept for all operations, unless no pattern is of that kind: then no send has
+-- such a list.
 abbrev pub AreWild : List Plan → List Pattern → Wild → Option (Vec ℕ Global) → Type 0
 AreWild plans keys wild kept = MatchOption kept (list_any (is_wild wild) keys ≡ false) (λ (numbers : Vec ℕ Global). numbers.items ≡ map (λ (x : OpId). coded (wild_list plans keys wild x)) (operations plans))
 
--- the number that is kept of the operation at that place
+-- the number that is kept for the operation at that place
 abbrev pub IsWildAt : Option (Vec ℕ Global) → ℕ → Option ℕ → Type 0
 IsWildAt kept place found = MatchOption kept (found ≡ None) (λ (numbers : Vec ℕ Global). (number : Option ℕ) → slice_get numbers.items place ≡ Some (coded number) → IsCodable number → found ≡ number)
 
--- those of each kind
+-- the numbers of each kind
 pub record AreOthers (plans : List Plan) (keys : List Pattern) (others : Others) : Type 0 where
   pub any_tag : AreWild plans keys AnyTag others.any_tag
   pub any_source : AreWild plans keys AnySource others.any_source
@@ -45,7 +45,7 @@ pub record AreOthers (plans : List Plan) (keys : List Pattern) (others : Others)
 abbrev pub AreSought : List Plan → List Pattern → Option Others → Type 0
 AreSought plans keys kept = MatchOption kept (AreNamed keys) (AreOthers plans keys)
 
--- the patterns of a schedule, fewer than 2^32-1, and the list of each operation's own, which is kept where there is a pattern
+-- the patterns of a schedule, fewer than 2^32-1; the lists of operations' own patterns are kept if there is a pattern
 pub record AreNumbered (plans : List Plan) (numbers : ListNumbers) : Type 0 where
   pub keys : List Pattern
   pub listed : AreListed plans keys

@@ -21,18 +21,18 @@ use Rattle.sim_match.specs.ListNumbers.{AreNumbered}
 use Rattle.sim_match.specs.MatchLists.{MatchList, is_marked, entries_of}
 use Rattle.sim_match.specs.Looks.{unseen}
 
--- a send arrives, a receive is posted
+-- the class of the first action that matching sees: a send arrives, a receive is posted
 abbrev pub class_of_kind : Option Kind → Class
 class_of_kind (Some (Calc nanos)) = Post
 class_of_kind (Some (Send bytes to tag)) = Arrive
 class_of_kind (Some (Recv room from tag)) = Post
 class_of_kind None = Post
 
--- the arrival of a send, the post of a receive
+-- the arrival of a send, or the post of a receive
 abbrev pub event_of : List Plan → OpId → Act
 event_of plans x = record { class = class_of_kind (kind_at plans x); op = x }
 
--- the posts and arrivals, newest first, of these sends and receives, oldest first
+-- the posts and arrivals, newest first, of these sends and receives, which are oldest first
 abbrev pub actions_of : List Plan → List OpId → List Act
 actions_of plans events = reverse (map (event_of plans) events)
 
@@ -47,12 +47,12 @@ abbrev pub ArePostsAndArrivals : List Plan → List Act → Type 0
 ArePostsAndArrivals plans [] = Unit {0}
 ArePostsAndArrivals plans (a ∷ h) = ArePostsAndArrivals plans h × IsNew plans h a
 
--- x and what it has met are marked too, and all else is as it was
+-- x and its partner, if any, are now marked too, and nothing else changed
 abbrev pub ArePaired : List OpId → OpId → Option MatchEntry → List Bool → List Bool → Type 0
 ArePaired ops x met old new =
     (y : OpId) → MatchOption met (is_marked ops new y ≡ is_marked ops old y) (λ (e : MatchEntry). is_marked ops new y ≡ ((is_marked ops old y || same_op x y) || same_op e.op y))
 
--- the lists of one pattern: its receives, and the sends that they fit
+-- the lists of a pattern: its receives, and the sends that they fit
 pub record PatternLists : Type 0 where
   pub receives : MatchList
   pub sends : MatchList
@@ -68,17 +68,17 @@ unmet_of plans [] = []
 unmet_of plans (a ∷ h) =
     unmet_of plans h ++ (if is_of Arrive a && is_none (new_pair plans (pairs plans h) h a.class a.op) then record { op = a.op; at = length h } ∷ [] else [])
 
--- of a send's lists those in which it stands: all where it has met no receive, and else none
+-- the lists that a send joins: all of its lists if it met no receive, and otherwise none
 abbrev pub stands_in : Option MatchEntry → List (Option ℕ) → List (Option ℕ)
 stands_in None numbers = numbers
 stands_in (Some e) numbers = []
 
--- how many sends join lists there
+-- the number of sends that join lists
 abbrev pub stood : Option MatchEntry → ℕ
 stood None = 1
 stood (Some e) = 0
 
--- a match list has these entries, skips none that waits, and has room for so many
+-- a match list has these entries, skips only paired ones, and has room for `count` entries
 pub record IsMatchList (es : List MatchEntry) (paired : OpId → Bool) (count : ℕ) (match_list : MatchList) : Type 0 where
   pub entries : match_list.entries ≡ es
   pub within : match_list.head ≤ length es
@@ -86,19 +86,19 @@ pub record IsMatchList (es : List MatchEntry) (paired : OpId → Bool) (count : 
   pub room : count ≤ match_list.room
 
 module _ (plans : List Plan) (keys : List Pattern) where
-  -- the receives of a list that were posted, the sends for it that have arrived and met no receive then
+  -- the posted receives of a list; the sends for it that have arrived and met no receive then
   abbrev pub receives_of : List Act → ℕ → List MatchEntry
   receives_of h list = filter (λ (e : MatchEntry). in_list plans keys list e.op) (entries_of Post h)
 
   abbrev pub sends_of : List Act → ℕ → List MatchEntry
   sends_of h list = filter (λ (e : MatchEntry). for_list plans keys list e.op) (unmet_of plans h)
 
-  -- the match lists of a pattern have these receives and sends, and room for each receive of it and for each send for it
+  -- the match lists of a pattern have these receives and sends, and room for all its receives and all sends for it
   pub record AreLists (paired : OpId → Bool) (list : ℕ) (posted arrived : List MatchEntry) (w : PatternLists) : Type 0 where
     pub receives : IsMatchList posted paired (count_by (in_list plans keys list) (operations plans)) w.receives
     pub sends : IsMatchList arrived paired (count_by (for_list plans keys list) (operations plans)) w.sends
 
-  -- what is kept after h: each pattern has its lists, and what is paired is marked
+  -- the state after h: each pattern has its lists, and paired operations are marked
   pub record Mirrors (lists : List PatternLists) (marks : List Bool) (h : List Act) : Type 0 where
     pub accepted : IsAccepted plans
     pub actions : ArePostsAndArrivals plans h
@@ -108,8 +108,8 @@ module _ (plans : List Plan) (keys : List Pattern) where
     pub marked : (x : OpId) → is_marked (operations plans) marks x ≡ is_paired (pairs plans h) x
     pub all_marks : length (operations plans) ≤ length marks
 
-  -- After h the send m stands last in the lists of some numbers too, and others were looked at: it has met the first receive
-  -- of these that waits.
+  -- After h the send m is also the last entry of the lists `stood`, and the lists `looked` were probed: it met the
+  -- first waiting receive of these.
   pub record IsJoined (h : List Act) (m : OpId) (stood looked : List (Option ℕ)) (lists : List PatternLists) (met : Option MatchEntry) : Type 0 where
     pub one_each : length lists ≡ length keys
     pub each : (list : ℕ) (w : PatternLists)
@@ -117,7 +117,7 @@ module _ (plans : List Plan) (keys : List Pattern) where
         → AreLists (is_paired (pairs plans h)) list (receives_of h list) (sends_of h list ++ (if list_any (same_number (Some list)) stood then record { op = m; at = length h } ∷ [] else [])) w
     pub found : met ≡ find (λ (e : MatchEntry). not (is_paired (pairs plans h) e.op) && list_any (same_number (list_of plans keys e.op)) looked) (entries_of Post h)
 
--- what a match table keeps
+-- the invariant of a match table
 pub record IsKept (plans : List Plan) (table : MatchTable) : Type 0 where
   pub few : length (operations plans) < 2 ^ 32
   pub as_many : length table.receives ≡ length table.sends
@@ -125,6 +125,6 @@ pub record IsKept (plans : List Plan) (table : MatchTable) : Type 0 where
   pub mirrors : Mirrors plans numbered.keys (side_by_side table.receives table.sends) table.marks.items (actions_of plans table.events.items)
   pub count : table.count ≡ length table.events.items
   pub standing : table.standing ≡ length (unmet_of plans (actions_of plans table.events.items))
-  -- for each entry that no look has passed a look is counted already, and no event counted more than eight
+  -- a probe is already counted for each entry that no probe has passed, at most eight per event
   pub covered : unseen table.receives + unseen table.sends ≤ table.credit
   pub bounded : table.credit ≤ 8 * length table.events.items

@@ -1,4 +1,4 @@
--- Match lists that stand one after another in one list of entries.
+-- Match lists that follow one another in one list of entries.
 use Rattle.std.specs.Prelude.{ℕ, ◌≡◌, ◌<◌, ◌≤◌, ◌+◌, ◌-◌, ◌^◌, List, [], ◌∷◌, length, Some, take, drop, slice_get}
 use Rattle.sim_match.specs.declared.match_list.MatchEntry.{MatchEntry}
 use Rattle.sim_match.specs.declared.match_lists.Span.{Span}
@@ -24,11 +24,11 @@ abbrev pub stretches : List Span → ℕ → List Stretch
 stretches [] end = []
 stretches (s ∷ ss) end = stretch s (first_start ss end) ∷ stretches ss end
 
--- the list that stands there
+-- the list of a stretch
 abbrev pub list_at : List MatchEntry → Stretch → MatchList
 list_at entries s = record { entries = take s.len (drop s.start entries); head = s.head; room = s.end - s.start }
 
--- each stretch ends before the next begins, and its list is not over its end
+-- each stretch ends before the next begins, and its list fits
 pub record ArePacked (spans : List Stretch) (entries : List MatchEntry) : Type 0 where
   pub apart : (i j : ℕ) (s t : Stretch) → i < j → slice_get spans i ≡ Some s → slice_get spans j ≡ Some t → s.end ≤ t.start
   pub fits : (i : ℕ) (s : Stretch) → slice_get spans i ≡ Some s → s.start + s.len ≤ s.end

@@ -1,4 +1,4 @@
--- The patterns of receives, and the lists in which an operation stands.
+-- The patterns of receives, and the lists of an operation.
 use Rattle.std.specs.Prelude.{ℕ, ◌≡◌, ◌<◌, ◌≤◌, ◌+◌, ◌%◌, ◌==◌, ◌&&◌, not, Bool, true, false, List, [], ◌∷◌, length, map, Option, Some, None, is_some, position, slice_get}
 use Rattle.std.specs.List.{list_any, list_all}
 use Rattle.std.specs.List.Sorted.{IsStrictlySortedBy}
@@ -18,7 +18,7 @@ pub use Rattle.goal_graph.specs.Choices.{same_choice}
 abbrev pub same_pattern : Pattern → Pattern → Bool
 same_pattern p q = (p.rank == q.rank) && (same_choice p.from q.from && same_choice p.tag q.tag)
 
--- the order of patterns: by rank, then source, then tag; any stands first
+-- the order of patterns: by rank, then source, then tag; any comes first
 abbrev pub pattern_cmp : Pattern → Pattern → Ordering
 pattern_cmp p q =
     ordering_then (nat_cmp p.rank q.rank) (ordering_then (option_cmp nat_cmp p.from q.from) (option_cmp nat_cmp p.tag q.tag))
@@ -29,7 +29,7 @@ names_a_source p = is_some p.from
 abbrev pub names_a_tag : Pattern → Bool
 names_a_tag p = is_some p.tag
 
--- the pattern of that kind which a message fits
+-- the pattern of that kind that a message fits
 abbrev pub wild_pattern : Wild → ℕ → ℕ → ℕ → Pattern
 wild_pattern AnyTag source to tag = record { rank = to; from = Some source; tag = None }
 wild_pattern AnySource source to tag = record { rank = to; from = None; tag = Some tag }
@@ -41,20 +41,20 @@ is_wild AnyTag p = is_some p.from && not (is_some p.tag)
 is_wild AnySource p = not (is_some p.from) && is_some p.tag
 is_wild Any p = not (is_some p.from) && not (is_some p.tag)
 
--- the slot of a pattern, of so many
+-- the slot of a pattern in a table of `slots` slots
 abbrev pub slot_of : Pattern → ℕ → ℕ
 slot_of p slots = (unwrap_or p.from 0 + unwrap_or p.tag 0) % slots
 
--- each pattern of that kind has taken its slot
+-- each pattern of that kind has marked its slot
 pub record AreTaken (wild : Wild) (patterns : List Pattern) (taken : List Bool) : Type 0 where
   pub some : 0 < length taken
   pub each : (k : ℕ) (p : Pattern) → slice_get patterns k ≡ Some p → is_wild wild p ≡ true → slice_get taken (slot_of p (length taken)) ≡ Some true
 
--- the patterns before that place are of lower ranks
+-- the patterns before that place are of lesser ranks
 abbrev pub AreLower : List Pattern → ℕ → ℕ → Type 0
 AreLower patterns rank place = (k : ℕ) (p : Pattern) → slice_get patterns k ≡ Some p → k < place → p.rank < rank
 
--- the patterns of a rank, and of higher ones, begin at that place
+-- the patterns of this rank, and of greater ones, begin at that place
 pub record IsStart (patterns : List Pattern) (rank start : ℕ) : Type 0 where
   pub within : start ≤ length patterns
   pub lower : AreLower patterns rank start
@@ -64,18 +64,18 @@ pub record IsStart (patterns : List Pattern) (rank start : ℕ) : Type 0 where
 abbrev pub AreStarts : List Pattern → List ℕ → Type 0
 AreStarts patterns starts = (rank start : ℕ) → slice_get starts rank ≡ Some start → IsStart patterns rank start
 
--- all patterns of a rank stand from the one place to before the other
+-- all patterns of a rank are between these places, without the second
 pub record IsRow (patterns : List Pattern) (rank start end : ℕ) : Type 0 where
   pub order : start ≤ end
   pub within : end ≤ length patterns
   pub between : (k : ℕ) (p : Pattern) → slice_get patterns k ≡ Some p → p.rank ≡ rank → (start ≤ k) × (k < end)
 
--- the pattern at that place is behind the one before it
+-- the pattern at that place is greater than the one before it
 abbrev pub IsBehind : List Pattern → ℕ → Type 0
 IsBehind patterns at =
     (k : ℕ) (p q : Pattern) → k + 1 ≡ at → slice_get patterns k ≡ Some p → slice_get patterns at ≡ Some q → pattern_cmp p q ≡ Less
 
--- patterns in their order, each once, where those of each rank begin, and whether each names a source and each a tag
+-- patterns in order, without duplicates; where those of each rank begin; and whether all name a source, and all a tag
 pub record AreInOrder (patterns : List Pattern) (starts : List ℕ) (sources_named tags_named : Bool) : Type 0 where
   pub sorted : IsStrictlySortedBy pattern_cmp patterns
   pub rows : AreStarts patterns starts
@@ -89,14 +89,14 @@ pattern_of x (Some (Send bytes to tag)) = None
 pattern_of x (Some (Recv room from tag)) = Some (record { rank = x.rank; from = from; tag = tag })
 pattern_of x None = None
 
--- an operation's own pattern: what a receive asks for, or what names the source and the tag of a send
+-- an operation's own pattern: that of a receive, or the one with the source and the tag of a send
 abbrev pub own_pattern : OpId → Option Kind → Option Pattern
 own_pattern x (Some (Calc nanos)) = None
 own_pattern x (Some (Send bytes to tag)) = Some (record { rank = to; from = Some x.rank; tag = Some tag })
 own_pattern x (Some (Recv room from tag)) = Some (record { rank = x.rank; from = from; tag = tag })
 own_pattern x None = None
 
--- the patterns of the receives that a message fits
+-- the patterns of the receives that a message may fit
 abbrev pub patterns_for : ℕ → ℕ → ℕ → List Pattern
 patterns_for source to tag =
     record { rank = to; from = Some source; tag = Some tag }
@@ -105,13 +105,13 @@ patterns_for source to tag =
     ∷ record { rank = to; from = None; tag = None }
     ∷ []
 
--- two numbers, and the same
+-- both are numbers, and the same
 abbrev pub same_number : Option ℕ → Option ℕ → Bool
 same_number None j = false
 same_number (Some i) None = false
 same_number (Some i) (Some j) = i == j
 
--- the place of a pattern among the patterns of the schedule
+-- the place of a pattern among those of the schedule
 abbrev pub number : List Pattern → Pattern → Option ℕ
 number keys p = position (same_pattern p) keys
 
@@ -144,7 +144,7 @@ module _ (plans : List Plan) (keys : List Pattern) where
   abbrev pub wild_list : Wild → OpId → Option ℕ
   wild_list wild x = wild_number keys wild x (kind_at plans x)
 
-  -- the lists of a send, where the schedule has the patterns that it takes
+  -- the lists of a send, as far as the schedule has their patterns
   abbrev pub lists_for : OpId → List (Option ℕ)
   lists_for m = numbers_for keys m (kind_at plans m)
 

@@ -1,4 +1,4 @@
--- What a matcher knows: the posts of receives and the arrivals of sends so far.
+-- What contracts know of a matcher: the posts of receives and the arrivals of sends so far.
 use Rattle.std.specs.Prelude.{◌≡◌, Bool, true, false, List, ◌∷◌, Option}
 use Rattle.std.specs.Option.{option_map}
 use Rattle.goal_graph.specs.declared.action.OpId.{OpId}
@@ -13,14 +13,14 @@ pub record PostsAndArrivals : Type 0 where
   pub plans : List Plan
   pub actions : List Act
 
--- with the post of x, with the arrival of m
+-- the same after the post of x; after the arrival of m
 abbrev pub with_post : PostsAndArrivals → OpId → PostsAndArrivals
 with_post s x = record s { actions = record { class = Post; op = x } ∷ s.actions }
 
 abbrev pub with_arrival : PostsAndArrivals → OpId → PostsAndArrivals
 with_arrival s m = record s { actions = record { class = Arrive; op = m } ∷ s.actions }
 
--- posts and arrivals are the actions that matching looks at
+-- posts and arrivals are the actions on which matching depends
 abbrev pub is_post_or_arrival_class : Class → Bool
 is_post_or_arrival_class Arrive = true
 is_post_or_arrival_class Serve = false
@@ -31,11 +31,11 @@ is_post_or_arrival_class Begin = false
 abbrev pub is_post_or_arrival : Act → Bool
 is_post_or_arrival a = is_post_or_arrival_class a.class
 
--- the send that the rule of matching pairs with x where x is posted after h
+-- the send that the rule of matching pairs with x, if x is posted after h
 abbrev pub send_for : List Plan → List Act → OpId → Option OpId
 send_for plans h x = option_map (λ (p : Pair). p.send) (new_pair plans (pairs plans h) h Post x)
 
--- the receive that the rule of matching pairs with m where m arrives after h
+-- the receive that the rule of matching pairs with m, if m arrives after h
 abbrev pub receive_for : List Plan → List Act → OpId → Option OpId
 receive_for plans h m = option_map (λ (p : Pair). p.recv) (new_pair plans (pairs plans h) h Arrive m)
 

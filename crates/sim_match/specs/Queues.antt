@@ -1,4 +1,4 @@
--- Queues of the operations that wait, one a pattern, where each pattern names a source and a tag.
+-- Queues of waiting operations, one per pattern, if each pattern names a source and a tag.
 use Rattle.std.specs.Prelude.{ℕ, ◌≡◌, ◌≢◌, ◌<◌, ◌≤◌, ◌-◌, ◌^◌, ◌&&◌, not, Bool, true, false, List, [], ◌∷◌, length, filter, Option, Some, None, slice_get}
 use Rattle.goal_graph.specs.declared.action.OpId.{OpId}
 use Rattle.goal_graph.specs.declared.action.Class.{Class}
@@ -26,12 +26,12 @@ class_of_side Sends = Arrive
 abbrev pub come : Side → OpId → Act
 come side x = record { class = class_of_side side; op = x }
 
--- what an operation of that side takes where it comes after h
+-- what an operation of that side takes when it comes after h
 abbrev pub taken_by : Side → List Plan → List Act → OpId → Option OpId
 taken_by Receives plans h x = send_for plans h x
 taken_by Sends plans h x = receive_for plans h x
 
--- those of that side wait
+-- operations of that side wait
 abbrev pub waits_as : Option Side → Side → Bool
 waits_as None side = false
 waits_as (Some Receives) Receives = true
@@ -39,30 +39,30 @@ waits_as (Some Receives) Sends = false
 waits_as (Some Sends) Receives = false
 waits_as (Some Sends) Sends = true
 
--- what stands at a place that is not the last links to the place of the one behind it
+-- the entry at a place, which is not the last, links to the place of the next one
 pub record IsLink (ops : List OpId) (next : List ℕ) (place last behind : ℕ) (y : OpId) : Type 0 where
   pub apart : place ≢ last
   pub links : slice_get next place ≡ Some behind
   pub is : slice_get ops behind ≡ Some y
 
--- behind that place stand these, up to the last
+-- these operations follow that place, up to the last
 abbrev pub AreLinked : List OpId → List ℕ → ℕ → ℕ → List OpId → Type 0
 AreLinked ops next place last [] = place ≡ last
 AreLinked ops next place last (y ∷ ys) =
     (behind : ℕ) × IsLink ops next place last behind y × AreLinked ops next behind last ys
 
--- the operations of a queue in which some wait, oldest first
+-- the operations of a queue that is not empty, oldest first
 abbrev pub AreInLine : List OpId → List ℕ → Queue → List OpId → Type 0
 AreInLine ops next queue [] = ⊥
 AreInLine ops next queue (x ∷ xs) =
     (queue.first ≡ x) × (place : ℕ) × (slice_get ops place ≡ Some x) × AreLinked ops next place queue.last xs
 
--- of a side that waits these are in a queue, of another none
+-- these operations are in the queue if their side waits, and otherwise there are none
 abbrev pub AreQueued : List OpId → List ℕ → Queue → Bool → List OpId → Type 0
 AreQueued ops next queue true xs = AreInLine ops next queue xs
 AreQueued ops next queue false xs = xs ≡ []
 
--- what is left of a queue without its first
+-- the rest of a queue after its first was removed
 abbrev pub AreLeft : List OpId → List ℕ → Queue → Queue → List OpId → Type 0
 AreLeft ops next old new [] = new.waits ≡ None
 AreLeft ops next old new (y ∷ ys) = (new.waits ≡ old.waits) × AreInLine ops next new (y ∷ ys)
@@ -72,23 +72,23 @@ module _ (plans : List Plan) (keys : List Pattern) where
   abbrev pub is_waiting : List Act → ℕ → OpId → Bool
   is_waiting h list x = not (is_paired (pairs plans h) x) && same_number (own_list plans keys x) (Some list)
 
-  -- the operations of a pattern that were posted, or have arrived, and wait
+  -- the waiting operations of a pattern among the posts or arrivals
   abbrev pub waiting : List Act → Class → ℕ → List OpId
   waiting h class list = filter (is_waiting h list) (ops_of class h)
 
-  -- each pattern has in its queue what waits after h, of one side alone
+  -- the queue of each pattern has the operations that wait after h, all of one side
   pub record AreQueues (queues : List Queue) (next : List ℕ) (h : List Act) : Type 0 where
     pub one_each : length queues ≡ length keys
     pub links : 0 < length keys → length (operations plans) ≤ length next
     pub each : (list : ℕ) (queue : Queue) → slice_get queues list ≡ Some queue → (side : Side) → AreQueued (operations plans) next queue (waits_as queue.waits side) (waiting h (class_of_side side) list)
 
-  -- of what has not come in h the number of its list is kept at its place, where there is a pattern
+  -- for each operation that has not come in h, the number of its list is kept at its place, if there is a pattern
   pub record AreToCome (next : List ℕ) (h : List Act) : Type 0 where
     pub each :
         0 < length keys → (side : Side) (x : OpId) (place : ℕ)
         → slice_get (operations plans) place ≡ Some x → has_class (kind_at plans x) (class_of_side side) ≡ true → happened (class_of_side side) x h ≡ false → slice_get next place ≡ Some (coded (own_list plans keys x))
 
--- what queues keep
+-- the invariant of queues
 pub record AreKept (plans : List Plan) (kept : Queues) : Type 0 where
   pub keys : List Pattern
   pub listed : AreListed plans keys

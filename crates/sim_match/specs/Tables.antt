@@ -1,4 +1,4 @@
--- What a matcher keeps: queues or match lists.
+-- The tables of a matcher: queues or match lists.
 use Rattle.std.specs.Prelude.{List}
 use Rattle.goal_graph.specs.declared.action.OpId.{OpId}
 use Rattle.goal_graph.specs.Schedule.{Plan}

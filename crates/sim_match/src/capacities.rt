@@ -1,4 +1,4 @@
-// The capacities of the lists of a matcher.
+//! The capacities of the lists of a matcher.
 ghost use Rattle.std.specs.Prelude.{ℕ, ◌≡◌, ◌+◌, ◌<◌, ◌^◌, length, slice_get, Some, IfOk};
 ghost use Rattle.goal_graph.specs.Schedule.{operations};
 ghost use Rattle.sim_match.specs.declared.capacities.Capacity.{Capacity};
@@ -10,22 +10,26 @@ use crate::list_numbers::ListNumbers;
 use goal_graph::{Kind, Sched};
 use std::alloc::{AllocError, Global};
 
-/// How many receives a list has, and how many sends are for it.
+/// The numbers of a list.
 #[derive(Clone, Copy, Debug, PartialEq, Eq)]
 pub struct Capacity {
+    /// The number of its receives.
     pub receives: u32,
+    /// The number of sends for it.
     pub sends: u32,
 }
 
-/// Whether the receives of the lists are meant, or their sends.
+/// A side of the lists of a matcher.
 #[derive(Clone, Copy, Debug, PartialEq, Eq)]
 pub enum Side {
+    /// Their receives.
     Receives,
+    /// The sends for them.
     Sends,
 }
 
 impl Side {
-    /// How many of this side a list has room for.
+    /// Returns the room that a list needs for this side.
     pub fn room(self, capacity: &Capacity) -> u32
         ensures { result ≡ room_of self capacity.now }
     {
@@ -35,7 +39,7 @@ impl Side {
         }
     }
 
-    /// Whether it is that side.
+    /// Returns whether it is that side.
     pub fn is(self, side: Side) -> bool
         ensures { result ≡ waits_as (Some self) side }
     {
@@ -65,7 +69,7 @@ fn count_send(capacities: &mut [Capacity], numbers: [Option<usize>; 4])
     }
 }
 
-/// The capacity of each list.
+/// Returns the capacity of each list. `Err` means out of memory.
 pub fn capacities(
     alloc: Global,
     sched: &Sched,

@@ -1,12 +1,12 @@
-// Looks that are counted before they are made.
+//! Probes that are counted before they are made.
 ghost use Rattle.std.specs.Prelude.{◌≡◌, ◌+◌, ◌<◌, ◌^◌};
 
 use sim_order::Steps;
 use std::marker::Model;
 use std::sync::ledger::Ledger;
 
-/// Looks at entries that a counter has counted and that are not made yet. Contracts see how many they are. Only `count`
-/// adds one, and it ticks; each look takes one away. So no more looks are made than were counted, at any time.
+/// Probes of entries that are counted and not yet made. Contracts see their number. Only `count` adds one, and counts a
+/// step; each probe takes one away. So at any time at most as many probes were made as were counted.
 #[derive(Debug, Drop)]
 pub struct Credit {
     looks: u64,
@@ -21,14 +21,14 @@ impl Model for Credit {
 }
 
 impl Credit {
-    /// No look that was counted.
+    /// Creates a credit of no probes.
     pub fn none() -> Credit
         ensures { result ≡ 0 }
     {
         Credit { looks: 0 }
     }
 
-    /// Counts a look that is to be made.
+    /// Counts a probe that will be made.
     pub fn count<L: Ledger>(&mut self, steps: &mut Steps<L>)
         requires { self.old + 1 < 2 ^ 64 }
         ensures more { self.new ≡ self.old + 1 }
@@ -38,7 +38,7 @@ impl Credit {
         self.looks += 1;
     }
 
-    /// Makes a look that was counted.
+    /// Makes a probe that was counted.
     pub fn look(&mut self)
         requires { 0 < self.old }
         ensures { self.new + 1 ≡ self.old }

@@ -1,4 +1,4 @@
-// The number of each operation's list, found once.
+//! The number of each operation's list, found once.
 ghost use Rattle.std.specs.Prelude.{ℕ, ◌≡◌, ◌<◌, ◌≤◌, ◌-◌, ◌^◌, [], Option, Some, length, map, IfOk, OnOk};
 ghost use Rattle.goal_graph.specs.Schedule.{operations, IsSend, IsReceive};
 ghost use Rattle.std.specs.Option.{IfSome};
@@ -13,27 +13,33 @@ use goal_graph::{Kind, OpId, Sched};
 use goal_limits::NoMemory;
 use std::alloc::{AllocError, Global};
 
-/// Of those lists of a send whose patterns take any source or any tag the numbers, by the places of the operations. A kind
-/// of which the schedule has no pattern is not kept.
+/// The numbers of those lists of sends whose patterns have a wildcard, by the places of the operations. A kind of
+/// pattern that the schedule does not have is `None`.
 #[derive(Drop)]
 pub struct Others {
+    /// The lists with any tag.
     pub any_tag: Option<Vec<u32>>,
+    /// The lists with any source.
     pub any_source: Option<Vec<u32>>,
+    /// The lists with any source and any tag.
     pub any: Option<Vec<u32>>,
 }
 
-/// For each operation, in the order of all, the number of the list of its own pattern: of what a receive asks for, and of
-/// what names the source and the tag of a send. `NO_LIST` stands where the schedule doesn't have that pattern. Where it has
-/// none at all, none are kept. The others of the sends are kept only where a pattern takes any source or any tag: there lists
-/// are numbered in the order in which operations come that have them, and else in the order of their patterns.
+/// For each operation, in order, the number of the list of its own pattern: that of a receive, or the one with the
+/// source and the tag of a send. It is `NO_LIST` if the schedule does not have that pattern. If there are no patterns,
+/// nothing is kept. The other lists of sends are kept only if a pattern has a wildcard. Then lists are numbered in the
+/// order in which operations that have them are seen, and otherwise in the order of their patterns.
 #[derive(Drop)]
 pub struct ListNumbers {
+    /// The number of each operation's own list, or `NO_LIST`.
     pub own: Vec<u32>,
+    /// The other lists of sends, if a pattern has a wildcard.
     pub others: Option<Others>,
+    /// The number of lists.
     pub count: usize,
 }
 
-// A number, or none, as it is kept.
+// The code of a number, or of none.
 fn coded(number: Option<usize>) -> u32
     requires { IsCodable number }
     ensures { result ≡ coded number }
@@ -44,7 +50,7 @@ fn coded(number: Option<usize>) -> u32
     }
 }
 
-/// The number that is kept so, or none.
+/// Returns the number with this code, or `None`.
 pub fn decoded(kept: u32) -> Option<usize>
     ensures { (number : Option ℕ) → kept ≡ coded number → IsCodable number → result ≡ number }
 {
@@ -55,8 +61,8 @@ pub fn decoded(kept: u32) -> Option<usize>
     }
 }
 
-// Where a pattern was found last, and how far behind the one before it. No clause rests on these numbers: they say where to
-// look first.
+// Where a pattern was found last, and how far it was from the one before. No contract relies on these numbers: they
+// only say where to probe first.
 #[derive(Clone, Copy, Debug)]
 struct Trail {
     last: usize,
@@ -64,7 +70,7 @@ struct Trail {
 }
 
 impl Trail {
-    // One that goes on to that place, and then to those behind it.
+    // A trail that is at that place, and expects the next pattern after it.
     fn to(place: usize) -> Trail {
         Trail {
             last: place.wrapping_sub(1),
@@ -72,7 +78,7 @@ impl Trail {
         }
     }
 
-    // The place of a pattern, where it stands where the trail goes on.
+    // Returns the place of a pattern, if it is where the trail expects it.
     #[inline(always)]
     fn next(&mut self, patterns: &Patterns, pattern: Pattern) -> Option<usize>
         ensures { IfSome result (λ place. number patterns.now pattern ≡ Some place) }
@@ -86,13 +92,13 @@ impl Trail {
         }
     }
 
-    // It goes on from that place, with as long a step as the last.
+    // Moves to that place, and expects as long a step as the last.
     fn turn(&mut self, place: usize) {
         self.step = place.wrapping_sub(self.last);
         self.last = place;
     }
 
-    // The place of a pattern, which is looked for first where the trail goes on.
+    // Returns the place of a pattern, probing first where the trail expects it.
     #[inline(always)]
     fn find(&mut self, patterns: &Patterns, pattern: Pattern) -> Option<usize>
         ensures { result ≡ number patterns.now pattern }
@@ -108,9 +114,9 @@ impl Trail {
     }
 }
 
-// The trail of the receives, for each rank that of the sends to it, and that of the receives from it, behind that of those
-// from any. The pattern of a receive mostly stands next to that of the receive before it, or to that of the last from its
-// source. The sends to a rank come in the order of their sources, in which its patterns stand too.
+// The trail of the receives, for each rank that of the sends to it, and that of the receives from it, after that of
+// those from any. The pattern of a receive is usually next to that of the receive before it, or to that of the last
+// from its source. The sends to a rank come in the order of their sources, which is also that of its patterns.
 #[derive(Drop)]
 struct Trails {
     receives: Trail,
@@ -119,7 +125,7 @@ struct Trails {
 }
 
 impl Trails {
-    // Before the first operation.
+    // The trails before the first operation.
     fn of(alloc: Global, sched: &Sched, patterns: &Patterns) -> Result<Trails, AllocError> {
         let ranks = sched.plans().len();
         let mut sends = Vec::with_capacity(alloc, ranks)?;
@@ -133,7 +139,7 @@ impl Trails {
         })
     }
 
-    // The place of a receive's pattern, which is looked for first next to that of the last from its source.
+    // Returns the place of a receive's pattern, probing first next to that of the last from its source.
     #[inline(never)]
     fn find_by_source(&mut self, patterns: &Patterns, pattern: Pattern) -> Option<usize>
         ensures { result ≡ number patterns.now pattern }
@@ -152,7 +158,7 @@ impl Trails {
         found
     }
 
-    // The number of the list of an operation's own pattern, where the schedule has it.
+    // Returns the number of the list of an operation's own pattern, if the schedule has it.
     #[inline(always)]
     fn own_list(&mut self, patterns: &Patterns, sched: &Sched, id: OpId) -> Option<usize>
         requires { IsOp sched.now id }
@@ -180,7 +186,7 @@ impl Trails {
     }
 }
 
-// The numbers of all operations. Where there is no pattern none has one, and none is kept.
+// Returns the numbers of all operations. If there are no patterns, nothing is kept.
 fn own_numbers(alloc: Global, sched: &Sched, patterns: &Patterns) -> Result<Vec<u32>, AllocError>
     requires { length patterns.now ≤ length (operations sched.now) }
     ensures few { OnOk result (length patterns.now < 2 ^ 32 - 1) }
@@ -198,7 +204,7 @@ fn own_numbers(alloc: Global, sched: &Sched, patterns: &Patterns) -> Result<Vec<
     Ok(numbers)
 }
 
-// The same, where the patterns are given their numbers in turn.
+// The same, if the patterns are numbered in turn.
 fn numbers_in_turn(
     alloc: Global,
     sched: &Sched,
@@ -221,7 +227,7 @@ fn numbers_in_turn(
     Ok(numbers)
 }
 
-// The number of the list of a send whose pattern takes what that kind takes, where the schedule has it.
+// Returns the number of the list of a send with the pattern of that kind, if the schedule has it.
 fn wild_list(
     patterns: &Patterns,
     taken: &[bool],
@@ -246,7 +252,7 @@ fn wild_list(
     }
 }
 
-// The numbers of the lists of that kind, by operation, where a pattern is of the kind: else no send has one.
+// Returns the numbers of the lists of that kind, by operation, if a pattern is of that kind; otherwise no send has one.
 fn wild_numbers(
     alloc: Global,
     sched: &Sched,
@@ -269,7 +275,7 @@ fn wild_numbers(
     Ok(Some(numbers))
 }
 
-// Those of all kinds.
+// Returns those of all kinds.
 fn all_others(
     alloc: Global,
     sched: &Sched,
@@ -286,7 +292,7 @@ fn all_others(
     })
 }
 
-// The number of the list of the operation at that place, of those that are kept.
+// Returns the kept number of the list of the operation at that place.
 #[inline(always)]
 fn wild_at(kept: &Option<Vec<u32>>, place: usize) -> Option<usize>
     requires { IfSome kept.now (λ numbers. place < length numbers.items) }
@@ -299,7 +305,8 @@ fn wild_at(kept: &Option<Vec<u32>>, place: usize) -> Option<usize>
 }
 
 impl ListNumbers {
-    /// The numbers of a schedule. Each pattern is looked up here, next to the one before or by halving.
+    /// Returns the numbers of a schedule. Each pattern is looked up here, next to the one before or by binary search.
+    /// `Err` means out of memory.
     pub fn of(alloc: Global, sched: &Sched) -> Result<ListNumbers, NoMemory>
         ensures { IfOk result (λ numbers. AreNumbered sched.now numbers) }
     {
@@ -315,7 +322,7 @@ impl ListNumbers {
         })
     }
 
-    // The numbers of a schedule with these patterns, some of which take any source or any tag.
+    // Returns the numbers of a schedule with these patterns, some of which have a wildcard.
     fn in_turn(alloc: Global, sched: &Sched, patterns: &Patterns) -> Result<ListNumbers, AllocError>
         requires { AreListed sched.now patterns.now }
         ensures { IfOk result (λ numbers. AreNumbered sched.now numbers) }
@@ -330,7 +337,7 @@ impl ListNumbers {
         })
     }
 
-    // What is kept of an operation, where there is a pattern.
+    // Returns the code that is kept for an operation, if there is a pattern.
     fn own(&self, sched: &Sched, id: OpId) -> u32
         requires op { IsOp sched.now id }
         requires numbered { AreNumbered sched.now self.now }
@@ -340,7 +347,7 @@ impl ListNumbers {
         self.own[sched.index(id) as usize]
     }
 
-    // The number of the list of an operation's own pattern, where the schedule has it.
+    // Returns the number of the list of an operation's own pattern, if the schedule has it.
     fn own_list(&self, sched: &Sched, id: OpId) -> Option<usize>
         requires op { IsOp sched.now id }
         requires numbered { AreNumbered sched.now self.now }
@@ -352,7 +359,7 @@ impl ListNumbers {
         decoded(self.own(sched, id))
     }
 
-    /// The number of the list of a receive.
+    /// Returns the number of the list of a receive.
     pub fn list_of_receive(&self, sched: &Sched, recv: OpId) -> usize
         requires receive { IsReceive sched.now recv }
         requires numbered { AreNumbered sched.now self.now }
@@ -362,7 +369,7 @@ impl ListNumbers {
         self.own(sched, recv) as usize
     }
 
-    /// The numbers of the lists of a send.
+    /// Returns the numbers of the lists of a send, at most four.
     #[inline(always)]
     pub fn lists_of_send(&self, sched: &Sched, send: OpId) -> [Option<usize>; 4]
         requires send { IsSend sched.now send }

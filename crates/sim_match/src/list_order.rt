@@ -1,4 +1,4 @@
-// The order of lists: that in which operations come that have them.
+//! The order of lists: that in which operations that have them are seen.
 ghost use Rattle.std.specs.Prelude.{◌≡◌, ◌<◌, ◌≤◌, ◌+◌, ◌-◌, ◌^◌, [], List, Option, Some, is_some, length, slice_get, IfOk};
 ghost use Rattle.std.specs.Option.{IfSome};
 ghost use Rattle.sim_match.specs.declared.pattern.Pattern.{Pattern};
@@ -10,21 +10,24 @@ use crate::pattern::{Pattern, Patterns};
 use sim_order::Past;
 use std::alloc::{AllocError, Global};
 
-/// What is kept in the place of a number where there is none.
+/// The code of an operation without a list.
 pub const NO_LIST: u32 = u32::MAX;
 
-/// For each pattern of a schedule, by its place, the number of its list, or `NO_LIST` until it is given one. Numbers are given in
-/// the order in which operations come that have the patterns, so that lists which are used one after another stand side by
-/// side. How many were given is counted; the patterns that have one, in this order, stand in proofs alone.
+/// For each pattern of a schedule, by its place, the number of its list, or `NO_LIST` until it gets one. Numbers are
+/// given in the order in which operations with these patterns are seen, so that lists that are used one after another
+/// are side by side.
 #[derive(Drop)]
 pub struct ListOrder {
+    /// The number of the list of each pattern, or `NO_LIST`.
     pub numbers: Vec<u32>,
+    /// How many numbers were given.
     pub count: u32,
+    /// The patterns that have a number, in order, for proofs only.
     pub keys: Past<Pattern>,
 }
 
 impl ListOrder {
-    /// No pattern has a number.
+    /// Creates an order in which no pattern has a number. `Err` means out of memory.
     pub fn new(alloc: Global, patterns: &Patterns) -> Result<ListOrder, AllocError>
         ensures given { IfOk result (λ order. AreGiven patterns.now order) }
         ensures none { IfOk result (λ order. order.keys.items ≡ []) }
@@ -36,7 +39,7 @@ impl ListOrder {
         })
     }
 
-    // The pattern at that place, which has no number, is given the next one.
+    // Gives the next number to the pattern at that place, which has none.
     fn add(&mut self, patterns: &Patterns, place: usize) -> u32
         requires given { AreGiven patterns.now self.old }
         requires few { self.old.count + 1 < 2 ^ 32 - 1 }
@@ -52,7 +55,7 @@ impl ListOrder {
         number
     }
 
-    /// The number of the pattern at that place, as it is kept. Where it has none it is given the next one.
+    /// Returns the code of the number of the pattern at that place. If it has none, it gets the next one.
     #[inline(always)]
     pub fn give(&mut self, patterns: &Patterns, place: Option<usize>) -> u32
         requires given { AreGiven patterns.now self.old }
@@ -76,7 +79,7 @@ impl ListOrder {
         }
     }
 
-    /// The number of the pattern at that place, as it is kept.
+    /// Returns the code of the number of the pattern at that place.
     #[inline(always)]
     pub fn number(&self, place: Option<usize>) -> u32
         requires { IfSome place (λ at. at < length self.now.numbers.items) }

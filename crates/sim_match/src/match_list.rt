@@ -1,4 +1,4 @@
-// Match lists: operations in the order of their posts or arrivals, of which the first that waits is wanted.
+//! Match lists: operations in the order of their posts or arrivals, of which the first that waits is taken.
 ghost use Rattle.std.specs.Prelude.{ℕ, ◌≡◌, ◌≤◌, ◌<◌, ◌+◌, length};
 ghost use Rattle.goal_graph.specs.Schedule.{operations};
 ghost use Rattle.goal_graph.specs.Fault.{IsOp};
@@ -7,14 +7,16 @@ ghost use Rattle.sim_match.specs.MatchLists.{is_marked, earlier, IsMarked, IsRea
 use crate::credit::Credit;
 use goal_graph::{OpId, Sched};
 
-/// An operation that was posted or has arrived, and how many posts and arrivals were before it.
+/// An operation that was posted or has arrived.
 #[derive(Clone, Copy, Debug, PartialEq, Eq)]
 pub struct MatchEntry {
+    /// The operation.
     pub op: OpId,
+    /// The number of posts and arrivals before it.
     pub at: u32,
 }
 
-/// Of two entries the one that came first.
+/// Returns the earlier of two entries.
 pub fn earlier(first: Option<MatchEntry>, other: Option<MatchEntry>) -> Option<MatchEntry>
     ensures { result ≡ earlier first other }
 {
@@ -31,7 +33,7 @@ pub fn earlier(first: Option<MatchEntry>, other: Option<MatchEntry>) -> Option<M
     }
 }
 
-/// Whether an operation is marked: a look at it, which was counted before.
+/// Returns whether an operation is marked. This is a probe, which was counted before.
 pub fn is_marked(sched: &Sched, marks: &[bool], id: OpId, credit: &mut Credit) -> bool
     requires op { IsOp sched.now id }
     requires long { length (operations sched.now) ≤ length marks.now }
@@ -53,8 +55,8 @@ pub fn mark(sched: &Sched, marks: &mut [bool], id: OpId)
     marks[sched.index(id) as usize] = true;
 }
 
-/// The first entry of a list that waits, and the new head: that entry's place, or the end. What is marked waits no
-/// longer; it stays where it is, and is skipped once it comes to the head. Each entry that is skipped costs a look, and so
+/// Returns the first entry of a list that waits, and the new head: the place of that entry, or the end. A marked entry
+/// no longer waits; it stays in place, and is skipped once it is at the head. Each skipped entry costs a probe, and so
 /// does the one that waits.
 pub fn first_that_waits(
     entries: &[MatchEntry],

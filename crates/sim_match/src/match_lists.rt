@@ -1,4 +1,4 @@
-// Match lists, one after another in one vector of entries.
+//! Match lists, one after another in one vector of entries.
 ghost use Rattle.std.specs.Prelude.{ℕ, ◌≡◌, ◌<◌, ◌≤◌, ◌+◌, Some, length, map, slice_get, slice_set, IfOk};
 ghost use Rattle.goal_graph.specs.Schedule.{operations};
 ghost use Rattle.sim_match.specs.MatchLists.{MatchList, is_marked, IsReady, IsFirst, pushed, skipped_to};
@@ -12,12 +12,14 @@ use goal_limits::NoMemory;
 use std::alloc::Global;
 use std::marker::Model;
 
-/// Where a match list stands among the entries: from `start` on, so many of them. It has room up to where the next
-/// begins. Those before the head are skipped.
+/// The entries of a match list. It has room up to where the next one begins.
 #[derive(Clone, Copy, Debug)]
 pub struct Span {
+    /// The place of its first entry.
     pub start: u32,
+    /// The number of its entries.
     pub len: u32,
+    /// The number of entries that are skipped.
     pub head: u32,
 }
 
@@ -42,7 +44,8 @@ impl Model for MatchLists {
 }
 
 impl MatchLists {
-    /// Empty lists with room for so many. They take all their memory here.
+    /// Creates empty lists with room for this side of the capacities. It allocates all its memory here. `Err` means out
+    /// of memory.
     pub fn new(alloc: Global, capacities: &[Capacity], side: Side) -> Result<MatchLists, NoMemory>
         ensures { IfOk result (λ lists. lists ≡ map (empty_list side) capacities.now) }
     {
@@ -69,7 +72,7 @@ impl MatchLists {
         Ok(MatchLists { spans, entries })
     }
 
-    /// An entry is added to a list.
+    /// Appends an entry to a list.
     pub fn push(&mut self, list: usize, entry: MatchEntry)
         requires within { list < length self.old }
         requires room { (w : MatchList) → slice_get self.old list ≡ Some w → length w.entries < w.room }
@@ -84,7 +87,8 @@ impl MatchLists {
         };
     }
 
-    /// The first of a list that waits. Each entry is skipped once in all calls. What it skips, and one more, are looks.
+    /// Returns the first waiting entry of a list. Each entry is skipped once in all calls. Skipping an entry is a
+    /// probe, and so is the last one.
     pub fn first(
         &mut self,
         list: usize,

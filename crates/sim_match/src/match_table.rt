@@ -1,4 +1,4 @@
-// The table of a matcher: the posts and arrivals so far, by pattern.
+//! The table of a matcher: the posts and arrivals so far, by pattern.
 ghost use Rattle.std.specs.Prelude.{ℕ, ◌≡◌, ◌<◌, ◌≤◌, ◌+◌, ◌∷◌, [], ◌++◌, false, length, Some, slice_get, slice_set, IfOk};
 ghost use Rattle.std.specs.Option.{option_map, IfSome};
 ghost use Rattle.goal_graph.specs.Schedule.{operations, IsSend, IsReceive};
@@ -23,23 +23,29 @@ use sim_order::{Past, Steps};
 use std::alloc::Global;
 use std::sync::ledger::Ledger;
 
-/// For each pattern of the schedule its lists: the receives of the pattern, and the sends that they fit and that met no receive
-/// when they arrived. An operation is marked once it is paired. For each entry that no look has passed a look is counted already. The receives that were
-/// posted and the sends that have arrived, in this order, stand in proofs alone; how many they are is counted, and how many sends
-/// joined lists.
+/// The lists of each pattern of the schedule: the receives of the pattern, and the sends that they fit and that met no
+/// receive when they arrived. A probe is already counted for each entry that no probe has passed.
 #[derive(Drop)]
 pub struct MatchTable {
+    /// The numbers of each operation's lists.
     pub numbers: ListNumbers,
+    /// The receives of each list.
     pub receives: MatchLists,
+    /// The sends for each list that met no receive when they arrived.
     pub sends: MatchLists,
+    /// Whether each operation is paired.
     pub marks: Vec<bool>,
+    /// The operations of the posts and arrivals so far, for proofs only.
     pub events: Past<OpId>,
+    /// Their number.
     pub count: u32,
+    /// The number of sends that joined lists.
     pub standing: u32,
+    /// The probes that are counted and not yet made.
     pub credit: Credit,
 }
 
-// Marks an operation and the one that it has met. Answers the latter.
+// Marks an operation and the one that it met. Returns the latter.
 fn pair(sched: &Sched, marks: &mut [bool], id: OpId, met: Option<MatchEntry>) -> Option<OpId>
     requires op { IsOp sched.now id }
     requires other { IfSome met (λ e. IsOp sched.now e.op) }
@@ -58,7 +64,7 @@ fn pair(sched: &Sched, marks: &mut [bool], id: OpId, met: Option<MatchEntry>) ->
     }
 }
 
-// The first of a list of sends that waits. Where none has joined any list, none does, and the list is not looked at.
+// Returns the first waiting entry of a list of sends. If no send has joined any list, the list is not probed.
 #[inline(always)]
 fn first_standing(
     sends: &mut MatchLists,
@@ -85,7 +91,8 @@ fn first_standing(
 }
 
 impl MatchTable {
-    /// Nothing was posted or has arrived, and there is room for each send and each receive once.
+    /// Creates a table without posts and arrivals, with room for each send and each receive once. `Err` means out of
+    /// memory.
     pub fn new(alloc: Global, sched: &Sched, numbers: ListNumbers) -> Result<MatchTable, NoMemory>
         requires { AreNumbered sched.now numbers }
         ensures kept { IfOk result (λ table. IsKept sched.now table) }
@@ -109,8 +116,8 @@ impl MatchTable {
         })
     }
 
-    /// A receive is posted. Answers the send that it takes. Two looks are counted: one at what it finds, and one for when
-    /// it is passed itself.
+    /// Posts a receive. Returns the send that it takes. Two probes are counted: of what it finds, and for when it is
+    /// passed itself.
     pub fn post<L: Ledger>(
         &mut self,
         sched: &Sched,
@@ -146,8 +153,8 @@ impl MatchTable {
         pair(sched, &mut self.marks, recv, met)
     }
 
-    // The receive that a send meets: of those in its lists the one that was posted first and waits. Where there is none the send
-    // joins the lists. Two looks at most are counted for each.
+    // Returns the receive that a send meets: the first posted of those in its lists that wait. If there is none, the
+    // send joins the lists. At most two probes are counted for each list.
     fn join<L: Ledger>(
         &mut self,
         sched: &Sched,
@@ -202,8 +209,8 @@ impl MatchTable {
         None
     }
 
-    /// A send arrives. Answers the receive that takes it. At most two looks are counted for each of its lists, of which there are
-    /// four at most.
+    /// Lets a send arrive. Returns the receive that takes it. At most two probes are counted for each of its lists, of
+    /// which there are at most four.
     pub fn arrive<L: Ledger>(
         &mut self,
         sched: &Sched,

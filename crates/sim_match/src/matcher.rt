@@ -1,4 +1,4 @@
-// The matcher: who is paired with whom, as receives are posted and messages arrive.
+//! The matcher: it pairs sends with receives as receives are posted and messages arrive.
 ghost use Rattle.std.specs.Prelude.{◌≡◌, ◌≤◌, ◌<◌, ◌+◌, ◌↔◌, [], false, true, IfOk, IsNone};
 ghost use Rattle.goal_graph.specs.declared.action.Class.TheVariants.{Post, Arrive};
 ghost use Rattle.goal_graph.specs.Action.{happened};
@@ -14,12 +14,12 @@ use std::alloc::Global;
 use std::marker::{Brand, Model};
 use std::sync::ledger::{Blank, Ledger};
 
-/// Pairs sends with receives, as receives are posted and messages arrive. Contracts see it as the plans of the schedule
-/// and the posts and arrivals so far, newest first.
+/// Pairs sends with receives, as receives are posted and messages arrive. Contracts see the plans of the schedule, and
+/// the posts and arrivals so far, newest first.
 ///
-/// A receive fits a send where the send's target is its rank, and its source and tag are the send's rank and tag, or
-/// any. A message that arrives is paired with the first posted receive that fits and is not paired yet, and a receive
-/// that is posted with the first arrived message that it fits and that is not paired yet.
+/// A receive fits a send if the send goes to its rank, and its source and tag are the send's rank and tag, or any. An
+/// arriving message is paired with the first posted receive that fits and is unpaired. A posted receive is paired with
+/// the first arrived message that it fits and that is unpaired.
 #[derive(Drop)]
 pub struct Matcher<'a> {
     sched: &'a Sched,
@@ -40,10 +40,8 @@ impl<'a> Model for Matcher<'a> {
 }
 
 impl<'a> Matcher<'a> {
-    /// A matcher before all posts and arrivals. It takes all its memory here, with room for each send and each receive
-    /// once.
-    ///
-    /// `NoMemory` where there is not enough.
+    /// Creates a matcher before all posts and arrivals. It allocates all its memory here, with room for each send and
+    /// each receive once. `Err` means out of memory.
     pub fn new(alloc: Global, sched: &'a Sched) -> Result<Matcher<'a>, NoMemory>
         ensures { IfOk result (λ m. m ≡ record { plans = sched.now; actions = [] }) }
     {
@@ -51,8 +49,8 @@ impl<'a> Matcher<'a> {
         Ok(Matcher { sched, table })
     }
 
-    /// A receive is posted, which was not posted before. Answers the send that it takes: none exactly where every
-    /// arrived send that it fits is paired.
+    /// Posts a receive, which was not posted before. Returns the send that it takes, or `None` exactly if every arrived
+    /// send that it fits is paired.
     pub fn post(&mut self, recv: OpId) -> Option<OpId>
         requires receive { IsReceive self.old.plans recv }
         requires fresh { happened Post recv self.old.actions ≡ false }
@@ -64,8 +62,8 @@ impl<'a> Matcher<'a> {
         self.post_once::<Brand>(recv, Blank::new(1))
     }
 
-    /// A message arrives, or the request of a large one, which did not arrive before. Answers the receive that takes it:
-    /// none exactly where every posted receive that fits it is paired.
+    /// Lets an eager message, or the request of a rendezvous message, arrive, which did not arrive before. Returns the
+    /// receive that takes it, or `None` exactly if every posted receive that fits it is paired.
     pub fn arrive(&mut self, send: OpId) -> Option<OpId>
         requires send { IsSend self.old.plans send }
         requires fresh { happened Arrive send self.old.actions ≡ false }
@@ -77,9 +75,9 @@ impl<'a> Matcher<'a> {
         self.arrive_once::<Brand>(send, Blank::new(1))
     }
 
-    /// `post`, whose looks at posts and arrivals are counted. It ticks twice: once for the look at the send that it takes,
-    /// and once for the look that will pass the receive. What it passes itself was counted when that arrived, and nothing
-    /// is looked at again that was passed.
+    /// Does the same as `post`, and counts its probes of posts and arrivals. It counts two: one for the send that it
+    /// takes, and one for the probe that will pass the receive. What it passes itself was counted when that arrived,
+    /// and is never probed again.
     pub fn post_counted<L: Ledger>(&mut self, recv: OpId, steps: &mut Steps<L>) -> Option<OpId>
         requires receive { IsReceive self.old.plans recv }
         requires fresh { happened Post recv self.old.actions ≡ false }
@@ -92,9 +90,9 @@ impl<'a> Matcher<'a> {
         self.table.post(self.sched, recv, steps)
     }
 
-    /// `arrive`, whose looks at posts and arrivals are counted. It ticks at most twice for each of the lists of the send,
-    /// which are four at most: once for the look at the receive that stands first there, and once for the look that will
-    /// pass the send.
+    /// Does the same as `arrive`, and counts its probes of posts and arrivals. It counts at most two for each of the
+    /// send's lists, of which there are at most four: one for the receive at the head of the list, and one for the
+    /// probe that will pass the send.
     pub fn arrive_counted<L: Ledger>(&mut self, send: OpId, steps: &mut Steps<L>) -> Option<OpId>
         requires send { IsSend self.old.plans send }
         requires fresh { happened Arrive send self.old.actions ≡ false }
@@ -107,7 +105,7 @@ impl<'a> Matcher<'a> {
         self.table.arrive(self.sched, send, steps)
     }
 
-    // A receive is posted, and a counter of its own counts the looks.
+    // Posts a receive, with its own counter of probes.
     fn post_once<L: Ledger>(&mut self, recv: OpId, blank: Blank) -> Option<OpId>
         requires name { blank.name ≡ L.name }
         requires parts { blank.parts ≡ L.parts }
@@ -123,7 +121,7 @@ impl<'a> Matcher<'a> {
         self.post_counted(recv, &mut steps)
     }
 
-    // A message arrives, and a counter of its own counts the looks.
+    // Lets a message arrive, with its own counter of probes.
     fn arrive_once<L: Ledger>(&mut self, send: OpId, blank: Blank) -> Option<OpId>
         requires name { blank.name ≡ L.name }
         requires parts { blank.parts ≡ L.parts }

@@ -1,5 +1,5 @@
-// The queues of a matcher, where each pattern names a source and a tag: at each pattern the receives wait for messages, or
-// the messages for receives, and the one that came first is the next to go.
+//! The queues of a matcher, if each pattern names a source and a tag: at each pattern, receives wait for messages, or
+//! messages for receives, and the first that came is the next to be taken.
 ghost use Rattle.std.specs.Prelude.{◌≡◌, ◌<◌, ◌≤◌, ◌+◌, ◌∷◌, [], ◌++◌, false, length, Some, List, IfOk, slice_get, slice_set};
 ghost use Rattle.goal_graph.specs.declared.action.OpId.{OpId};
 ghost use Rattle.goal_graph.specs.Schedule.{operations, IsSend, IsReceive};
@@ -20,16 +20,19 @@ use sim_order::{Past, Steps};
 use std::alloc::Global;
 use std::sync::ledger::Ledger;
 
-/// The operations that wait at a pattern, of one side: the first of them, and the place of the last among all operations.
+/// The operations that wait at a pattern, all of one side.
 #[derive(Clone, Copy, Debug)]
 pub struct Queue {
+    /// The first of them.
     pub first: OpId,
+    /// The place of the last among all operations.
     pub last: u32,
+    /// Their side, or `None` if no operation waits.
     pub waits: Option<Side>,
 }
 
 impl Queue {
-    // No operation waits.
+    // The queue in which no operation waits.
     const NONE: Queue = Queue {
         first: OpId { rank: 0, op: 0 },
         last: 0,
@@ -37,18 +40,19 @@ impl Queue {
     };
 }
 
-/// For each pattern the queue of those that wait. For each operation, in the order of all, the number of its list, as it is
-/// coded, until it comes, and then the place of the one behind it in its queue: `next` is where it goes, and then who follows.
-/// It is empty where there is no pattern. The receives that were posted and the sends that have arrived, in this order, stand
-/// in proofs alone.
+/// The queue of each pattern. `next` is empty if there are no patterns.
 #[derive(Drop)]
 pub struct Queues {
+    /// The queue of each pattern.
     pub queues: Vec<Queue>,
+    /// For each operation, in order: the code of the number of its list until it comes, and then the place of the next
+    /// one in its queue.
     pub next: Vec<u32>,
+    /// The operations of the posts and arrivals so far, for proofs only.
     pub events: Past<OpId>,
 }
 
-// A queue in which one operation waits.
+// Returns a queue in which one operation waits.
 fn alone(sched: &Sched, id: OpId, side: Side) -> Queue
     requires { IsOp sched.now id }
     ensures waits { result.waits ≡ Some side }
@@ -62,7 +66,7 @@ fn alone(sched: &Sched, id: OpId, side: Side) -> Queue
     }
 }
 
-// An operation waits behind those of a queue.
+// Appends an operation to a queue.
 fn behind(sched: &Sched, queue: Queue, next: &mut [u32], id: OpId) -> Queue
     requires op { IsOp sched.now id }
     requires within { queue.last < length next.old }
@@ -80,7 +84,7 @@ fn behind(sched: &Sched, queue: Queue, next: &mut [u32], id: OpId) -> Queue
     }
 }
 
-// A queue without its first.
+// Returns a queue without its first operation.
 fn without_first(sched: &Sched, queue: Queue, next: &[u32]) -> Queue
     requires line { (xs : List OpId) × AreInLine (operations sched.now) next.now queue xs }
     ensures { (x : OpId) (xs : List OpId) → AreInLine (operations sched.now) next.now queue (x ∷ xs) → AreLeft (operations sched.now) next.now queue result xs }
@@ -98,7 +102,7 @@ fn without_first(sched: &Sched, queue: Queue, next: &[u32]) -> Queue
 }
 
 impl Queues {
-    /// Nothing was posted or has arrived.
+    /// Creates queues without posts and arrivals. `Err` means out of memory.
     pub fn new(alloc: Global, sched: &Sched, numbers: ListNumbers) -> Result<Queues, NoMemory>
         requires numbered { AreNumbered sched.now numbers }
         requires named { numbers.others ≡ None }
@@ -113,8 +117,8 @@ impl Queues {
         })
     }
 
-    // An operation comes to its queue. It takes the first that waits there where these are of the other side, and else it
-    // waits.
+    // Lets an operation come to its queue. It takes the first that waits there, if those are of the other side, and
+    // otherwise it waits.
     fn come(&mut self, sched: &Sched, list: usize, id: OpId, side: Side) -> Option<OpId>
         requires kept { AreKept sched.now self.old }
         requires own { (kept : AreKept sched.now self.old) → own_list sched.now kept.keys id ≡ Some list }
@@ -142,7 +146,7 @@ impl Queues {
         }
     }
 
-    // The number of the list of a send that has not come, where the schedule has its pattern.
+    // Returns the number of the list of a send that has not come, if the schedule has its pattern.
     fn list_of_send(&self, sched: &Sched, send: OpId) -> Option<usize>
         requires kept { AreKept sched.now self.now }
         requires send { IsSend sched.now send }
@@ -155,8 +159,8 @@ impl Queues {
         decoded(self.next[sched.index(send) as usize])
     }
 
-    /// A receive is posted. Answers the send that it takes. Two looks are counted: one at what waits, and one for when it is
-    /// looked at itself.
+    /// Posts a receive. Returns the send that it takes. Two probes are counted: of what waits, and for when it is
+    /// probed itself.
     pub fn post<L: Ledger>(
         &mut self,
         sched: &Sched,
@@ -177,7 +181,7 @@ impl Queues {
         self.come(sched, list, recv, Side::Receives)
     }
 
-    /// A send arrives. Answers the receive that takes it. Two looks are counted, as for a receive.
+    /// Lets a send arrive. Returns the receive that takes it. Two probes are counted, as for a receive.
     pub fn arrive<L: Ledger>(
         &mut self,
         sched: &Sched,

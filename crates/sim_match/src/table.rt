@@ -1,4 +1,5 @@
-// The posts and arrivals of a matcher: in queues where each pattern names a source and a tag, and else in match lists.
+//! The posts and arrivals of a matcher: in queues if each pattern names a source and a tag, and otherwise in match
+//! lists.
 ghost use Rattle.std.specs.Prelude.{◌≡◌, ◌≤◌, ◌+◌, ◌∷◌, [], ◌++◌, false, IfOk};
 ghost use Rattle.goal_graph.specs.Schedule.{IsSend, IsReceive};
 ghost use Rattle.goal_graph.specs.declared.action.Class.TheVariants.{Post, Arrive};
@@ -16,15 +17,18 @@ use sim_order::Steps;
 use std::alloc::Global;
 use std::sync::ledger::Ledger;
 
-/// Queues, where a send has one list at most, or match lists, where it may have four.
+/// The table of a matcher.
 #[derive(Drop)]
 pub enum Table {
+    /// Queues: each send has at most one list.
     Queued(Queues),
+    /// Match lists: a send may have four.
     Listed(MatchTable),
 }
 
 impl Table {
-    /// Nothing was posted or has arrived, and there is room for each send and each receive once.
+    /// Creates a table without posts and arrivals, with room for each send and each receive once. `Err` means out of
+    /// memory.
     pub fn new(alloc: Global, sched: &Sched) -> Result<Table, NoMemory>
         ensures kept { IfOk result (λ table. IsTable sched.now table) }
         ensures events { IfOk result (λ table. events_of table ≡ []) }
@@ -37,7 +41,7 @@ impl Table {
         }
     }
 
-    /// A receive is posted. Answers the send that it takes. Two looks are counted.
+    /// Posts a receive. Returns the send that it takes. Two probes are counted.
     pub fn post<L: Ledger>(
         &mut self,
         sched: &Sched,
@@ -58,8 +62,8 @@ impl Table {
         }
     }
 
-    /// A send arrives. Answers the receive that takes it. At most two looks are counted for each of its lists, of which there are
-    /// four at most.
+    /// Lets a send arrive. Returns the receive that takes it. At most two probes are counted for each of its lists, of
+    /// which there are at most four.
     pub fn arrive<L: Ledger>(
         &mut self,
         sched: &Sched,
