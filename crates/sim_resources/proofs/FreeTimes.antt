@@ -1,4 +1,4 @@
--- An operation is free at the time of its slot, and a later time there is worth one hold more.
+-- An operation is free at the time of its slot, and a later time there has the effect of one more hold.
 use Rattle.std.proofs.Common.{ℕ, zero, suc, ◌<◌, ◌≤◌, ◌≡◌, inl, inr, max, true, false, List, [], ◌∷◌, length, replicate, map, Option, Some, None, slice_get, slice_set, get_or, refl, ap, sym, ◌∙◌, subst, arith, if◌then◌else◌}
 use Rattle.std.proofs.lemmas.Bool.{both_ways, cases_Bool}
 use Rattle.std.proofs.lemmas.List.{get_or-set_same, get_or-set_other, get_or-replicate, length-set}
@@ -21,7 +21,7 @@ module _ (place : Op → ℕ) (plans : List Plan) where
   unfolding free_at
   free_at-empty x = refl
 
-  -- what is no operation is free at 0
+  -- an identifier without an operation is free at 0
   no_op_shares : (x y : OpId) → op_at plans x ≡ None → shares place plans x y ≡ false
   no_op_shares x y none = rw none refl
 
@@ -75,7 +75,7 @@ module _ (place : Op → ℕ) (plans : List Plan) where
       read_free x is_op whole r says =
           says (get_or times (slot x) 0) (slice_get-get_or times (slot x) 0 (omega (arith, p.within x is_op, whole))) ∙ sym (free_is x is_op)
 
-    -- where all times are 0, so is each free time
+    -- if all times are 0, each free time is 0
     pub free_at-unheld : (times : List ℕ) → times ≡ replicate count 0 → (x : OpId) → free_at place plans (held plans slot times) x ≡ 0
     free_at-unheld times none x = go (op_at plans x) refl
       where
@@ -85,7 +85,7 @@ module _ (place : Op → ℕ) (plans : List Plan) where
             let is_op = is_some_from (op_at plans x) o e in
             free_is times x is_op ∙ ap (λ (ts : List ℕ). get_or ts (slot x) 0) none ∙ get_or-replicate count (slot x) 0 0 (p.within x is_op)
 
-    -- a later time of one slot is worth one hold more
+    -- a later time of one slot has the effect of one more hold
     module _ (times times' : List ℕ) (whole : length times ≡ count) (x : OpId) (is_op : IsOp plans x) (until : ℕ)
         (says : (t : ℕ) → slice_get times (slot x) ≡ Some t → times' ≡ raised times (slot x) t until) where
       abbrev pub was : ℕ

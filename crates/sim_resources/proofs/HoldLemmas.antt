@@ -1,4 +1,4 @@
--- One hold more: what a contract sees of the resources then.
+-- One more hold: what a contract sees of the resources then.
 use Rattle.std.proofs.Common.{ℕ, ◌≡◌, List, Some, length, slice_get, refl, sym, subst}
 use Rattle.goal_graph.specs.declared.action.OpId.{OpId}
 use Rattle.goal_graph.specs.declared.plan.Op.{Op}

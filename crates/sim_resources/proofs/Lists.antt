@@ -2,7 +2,7 @@
 use Rattle.std.proofs.Common.{ℕ, zero, suc, ◌≡◌, ◌⊎◌, inl, inr, List, [], ◌∷◌, ◌++◌, length, Some, slice_get, refl, ap, sym}
 use Rattle.std.proofs.lemmas.Option.{same_Some}
 
--- an element keeps its place where more come after it
+-- an element keeps its index if others are appended
 pub get_kept : {X : Type 0} (xs ys : List X) (i : ℕ) (x : X) → slice_get xs i ≡ Some x → slice_get (xs ++ ys) i ≡ Some x
 get_kept [] ys i x e = absurd (cc e)
 get_kept (y ∷ xs) ys zero x e = e

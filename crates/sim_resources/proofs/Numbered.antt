@@ -1,4 +1,4 @@
--- How slots are given to one operation after the other.
+-- How operations get their slots, one after the other.
 use Rattle.std.proofs.Common.{ℕ, ◌+◌, ◌-◌, ◌<◌, ◌≤◌, ◌≡◌, ◌⊎◌, inl, inr, Bool, true, false, List, [], ◌∷◌, ◌++◌, length, Some, None, slice_get, get_or, refl, ap, sym, ◌∙◌, subst, arith, length-append, append-nil, eq-eqb}
 use Rattle.std.proofs.lemmas.Bool.{both_ways, cases_lt, and_from}
 use Rattle.std.proofs.lemmas.Option.{same_Some, slice_get_within, slice_get-get_or, get_or_from_slice_get}

@@ -1,4 +1,4 @@
--- The slots that operations are given: each has one, and two have the same exactly where they share.
+-- The slots of operations: each has one, and two have the same exactly if they share.
 use Rattle.std.proofs.Common.{ℕ, zero, suc, ◌≡◌, ◌<◌, inl, inr, ◌==◌, Bool, true, false, List, [], ◌∷◌, length, map, Option, Some, None, slice_get, get_or, refl, sym, ap, ◌∙◌, subst, arith, eqb-true, eq-eqb}
 use Rattle.std.specs.Option.{option_and_then}
 use Rattle.std.specs.List.{list_all}
@@ -16,7 +16,7 @@ use Rattle.sim_resources.specs.FreeTimes.{shares}
 use Rattle.sim_resources.specs.Slots.{uses_first, use_first, place_among, slots_of, IsWhole, IsNumbered, IsPlaced}
 use Rattle.sim_resources.proofs.Shares.{share_of, shares-is, shares_on, shares_back}
 
--- an operation stands at its place
+-- an operation is at its index
 at_place : (xs : List OpId) (i : ℕ) (x : OpId) → slice_get xs i ≡ Some x → slice_get xs (place_among xs x) ≡ Some x
 unfolding place_among
 at_place [] i x e = absurd (cc e)
@@ -30,13 +30,13 @@ at_place (y ∷ ys) (suc i) x e =
 pub place_is : (plans : List Plan) (i : ℕ) (x : OpId) → slice_get (operations plans) i ≡ Some x → place_among (operations plans) x ≡ i
 place_is plans i x e = one_place plans _ i x (at_place (operations plans) i x e) e
 
--- where each operation stands
+-- the index of each operation
 pub listed : (plans : List Plan) (x : OpId) → IsOp plans x → slice_get (operations plans) (place_among (operations plans) x) ≡ Some x
 listed plans x is_op =
     let c = (listed_places plans x).1 is_op in
     at_place (operations plans) c.0 x (slice_get-get_or (operations plans) c.0 x c.1 ∙ ap Some c.2)
 
--- what is told of each operation
+-- a test that all elements pass, at one of them
 pub of_all : {X : Type 0} (p : X → Bool) (xs : List X) (i : ℕ) (x : X) → list_all p xs ≡ true → slice_get xs i ≡ Some x → p x ≡ true
 of_all p [] i x all e = absurd (cc e)
 of_all p (y ∷ ys) zero x all e =
@@ -44,7 +44,7 @@ of_all p (y ∷ ys) zero x all e =
 of_all p (y ∷ ys) (suc i) x all e = of_all p ys i x (and_parts (p y) (list_all p ys) all).1 e
 
 module _ (plans : List Plan) (first : list_all use_first plans ≡ true) where
-  -- each operation uses cpu 0 and interface 0, of a rank that exists
+  -- each operation uses cpu 0 and NIC 0, of a rank that exists
   first_used : (x : OpId) (o : Op) → op_at plans x ≡ Some o → (x.rank < length plans) × (o.cpu ≡ 0) × (o.nic ≡ 0)
   unfolding op_at
   first_used x o e = go (slice_get plans x.rank) refl e
@@ -56,7 +56,7 @@ module _ (plans : List Plan) (first : list_all use_first plans ≡ true) where
           let both = and_parts (o.cpu == 0) (o.nic == 0) used in
           (slice_get_within plans x.rank p q, eqb-true o.cpu 0 both.0, eqb-true o.nic 0 both.1)
 
-  -- so the ranks number what they use
+  -- so the ranks are the slots
   ranks_placed : (place : Op → ℕ) → ((x : OpId) (o : Op) → op_at plans x ≡ Some o → place o ≡ 0) → IsPlaced place plans (λ (x : OpId). x.rank) (length plans)
   ranks_placed place none = record {
     within = λ x is_op. let o = cases_some (op_at plans x) is_op in (first_used x o.0 o.1).0;
@@ -75,7 +75,7 @@ module _ (plans : List Plan) (first : list_all use_first plans ≡ true) where
   nics_by_ranks = ranks_placed (λ (o : Op). o.nic) (λ x o e. (first_used x o e).2)
 
 module _ (plans : List Plan) (slots : List Slots) where
-  -- the slots at a place
+  -- the slots at an index
   pub read_slots : (i : ℕ) (x : OpId) → slice_get (operations plans) i ≡ Some x → i < length slots → get_or slots i (record { cpu = 0; nic = 0 }) ≡ slots_of plans slots x
   read_slots i x e within =
       let none : Slots = record { cpu = 0; nic = 0 } in
@@ -88,7 +88,7 @@ module _ (plans : List Plan) (slots : List Slots) where
         | inr told ↦ told.0
       ]
 
-  -- where some are listed, they are those of each operation
+  -- if any are listed, they are those of each operation
   pub whole_within : IsWhole plans slots → (length slots == 0) ≡ false → (i : ℕ) → i < length (operations plans) → i < length slots
   whole_within (inl none) some i below = absurd (both_ways _ some (eq-eqb (length slots) 0 none))
   whole_within (inr all) some i below = omega (arith, all, below)

@@ -1,4 +1,4 @@
--- Sharing a cpu or an interface goes both ways, and on from one operation to the next.
+-- Sharing a cpu or a NIC is symmetric and transitive.
 use Rattle.std.proofs.Common.{ℕ, ◌≡◌, ◌==◌, ◌&&◌, true, List, Option, Some, None, refl, sym, ◌∙◌, eq-eqb}
 use Rattle.std.proofs.lemmas.Bool.{both_ways, and_parts, and_from, eqb-true}
 use Rattle.goal_graph.specs.declared.action.OpId.{OpId}
@@ -45,7 +45,7 @@ module _ (place : Op → ℕ) (plans : List Plan) where
       let s = share_of x y e in
       shares-is y x s.other s.one s.other_is s.one_is ∙ and_from _ _ (eq-eqb y.rank x.rank (sym s.rank)) (eq-eqb (place s.other) (place s.one) (sym s.number))
 
-  -- what shares with an operation shares with each that shares with it
+  -- of two operations that share, each shares with the same others
   pub shares_alike : (x y z : OpId) → shares place plans x y ≡ true → shares place plans z x ≡ shares place plans z y
   shares_alike x y z e = go (op_at plans z) refl
     where

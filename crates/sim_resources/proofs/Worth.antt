@@ -1,4 +1,4 @@
--- Holds that leave everything free at the same times, one after the other and with one hold more; and what a free time is.
+-- Holds that leave everything free at the same times: transitivity and one more hold; and what a free time is.
 use Rattle.std.proofs.Common.{ℕ, zero, suc, ◌≡◌, ◌≤◌, max, ◌⊎◌, inl, inr, true, List, [], ◌∷◌, Contains, refl, sym, ap, ◌∙◌, subst, arith, if◌then◌else◌}
 use Rattle.std.proofs.lemmas.Bool.{cases_Bool, cases_lt}
 use Rattle.goal_graph.specs.declared.action.OpId.{OpId}
@@ -8,7 +8,7 @@ use Rattle.goal_graph.proofs.ForCallers.{contains_first, contains_more}
 use Rattle.sim_resources.specs.FreeTimes.{Hold, Holds, shares, free_at, hold, hold_cpu, hold_tx, hold_rx, SameFreeTimes}
 use Rattle.sim_resources.specs.Laws.{IsOn, HasLast, FreeTimesAreGreatest, OthersStay, HoldsAddUp}
 
--- with one hold more
+-- with one more hold
 free_at-more : (place : Op → ℕ) (plans plans' : List Plan) (hs hs' : List Hold) (h : Hold) (y : OpId) → plans ≡ plans' → free_at place plans hs y ≡ free_at place plans' hs' y → free_at place plans (h ∷ hs) y ≡ free_at place plans' (h ∷ hs') y
 unfolding free_at
 free_at-more place plans plans' hs hs' h y p e = λ i. max (e i) (if shares place (p i) y h.op then h.until else 0)

@@ -3,7 +3,7 @@ use Rattle.std.specs.Prelude.{ℕ, ◌≡◌, ◌≢◌, ◌+◌, ◌⊎◌, [],
 use Rattle.sim_resources.specs.declared.slots.Numbered.{Numbered}
 use Rattle.sim_resources.specs.declared.slots.Numbers.{Numbers}
 
--- the rank uses this cpu or NIC, which has this slot
+-- the rank uses the cpu or NIC of this number, and its slot is this one
 pub record IsUsed (numbers : Numbers) (number slot : ℕ) : Type 0 where
   pub index : ℕ
   pub there : slice_get numbers.used.keys index ≡ Some number
@@ -31,9 +31,9 @@ module _ (old new : Numbers) (rank : ℕ) where
   abbrev pub IsAt : Type 0
   IsAt = IsThere ⊎ IsBehind
 
--- Before and after a slot is given to a cpu or a NIC.
+-- Before and after a cpu or a NIC gets its slot.
 module _ (old new : Numbers) (number slot : ℕ) where
-  -- the rank stays, and the ranks before it
+  -- the rank and the number of slots before it stay
   pub record IsSameRank : Type 0 where
     pub rank : new.rank ≡ old.rank
     pub before : new.before ≡ old.before

@@ -1,4 +1,4 @@
-//! Until when each cpu and each interface of a schedule's ranks is held.
+//! Until when each cpu and each NIC of a schedule's ranks is held.
 #![tactic(auto)]
 
 mod laws;

@@ -1,4 +1,4 @@
-// The cpus and interfaces of a schedule, with their free times.
+//! The cpus and NICs of a schedule, with their free times.
 ghost use Rattle.std.specs.Prelude.{◌≡◌, IfOk};
 ghost use Rattle.goal_graph.specs.Fault.{IsOp};
 ghost use Rattle.goal_graph.specs.Schedule.{IsSend, IsReceive};
@@ -10,7 +10,7 @@ use goal_limits::NoMemory;
 use std::alloc::Global;
 use std::marker::Model;
 
-/// Until when each cpu, and each side of each interface, of a schedule's ranks is held. Times are in nanoseconds.
+/// Until when each cpu, and each side of each NIC, of a schedule's ranks is held. Times are in nanoseconds.
 #[derive(Drop)]
 pub struct Resources<'a> {
     sched: &'a Sched,
@@ -38,7 +38,7 @@ impl<'a> Model for Resources<'a> {
 }
 
 impl<'a> Resources<'a> {
-    /// The resources of a schedule, each free at 0.
+    /// Creates the resources of a schedule, each free at 0. `Err` means out of memory.
     pub fn new(alloc: Global, sched: &'a Sched) -> Result<Resources<'a>, NoMemory>
         ensures { IfOk result (λ r. SameFreeTimes r (unheld sched.now)) }
     {
@@ -52,7 +52,7 @@ impl<'a> Resources<'a> {
         })
     }
 
-    /// When the cpu that an operation uses is free.
+    /// Returns when the cpu that an operation uses is free.
     pub fn cpu(&self, id: OpId) -> u64
         requires { IsOp self.now.plans id }
         ensures { result ≡ cpu_free self.now id }
@@ -61,7 +61,7 @@ impl<'a> Resources<'a> {
         free(&self.cpu, slots.cpu)
     }
 
-    /// When the sending side of the interface that a send uses is free.
+    /// Returns when the sending side of the NIC that a send uses is free.
     pub fn tx(&self, id: OpId) -> u64
         requires { IsSend self.now.plans id }
         ensures { result ≡ tx_free self.now id }
@@ -70,7 +70,7 @@ impl<'a> Resources<'a> {
         free(&self.tx, slots.nic)
     }
 
-    /// When the receiving side of the interface that a receive uses is free.
+    /// Returns when the receiving side of the NIC that a receive uses is free.
     pub fn rx(&self, id: OpId) -> u64
         requires { IsReceive self.now.plans id }
         ensures { result ≡ rx_free self.now id }
@@ -79,7 +79,7 @@ impl<'a> Resources<'a> {
         free(&self.rx, slots.nic)
     }
 
-    /// Holds the cpu that an operation uses until a time at least.
+    /// Holds the cpu that an operation uses, at least until a time.
     pub fn hold_cpu(&mut self, id: OpId, until: u64)
         requires { IsOp self.old.plans id }
         ensures { SameFreeTimes self.new (hold_cpu self.old id until) }
@@ -88,7 +88,7 @@ impl<'a> Resources<'a> {
         raise(&mut self.cpu, slots.cpu, until);
     }
 
-    /// Holds the sending side of the interface that a send uses until a time at least.
+    /// Holds the sending side of the NIC that a send uses, at least until a time.
     pub fn hold_tx(&mut self, id: OpId, until: u64)
         requires { IsSend self.old.plans id }
         ensures { SameFreeTimes self.new (hold_tx self.old id until) }
@@ -97,7 +97,7 @@ impl<'a> Resources<'a> {
         raise(&mut self.tx, slots.nic, until);
     }
 
-    /// Holds the receiving side of the interface that a receive uses until a time at least.
+    /// Holds the receiving side of the NIC that a receive uses, at least until a time.
     pub fn hold_rx(&mut self, id: OpId, until: u64)
         requires { IsReceive self.old.plans id }
         ensures { SameFreeTimes self.new (hold_rx self.old id until) }

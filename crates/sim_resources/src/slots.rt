@@ -1,4 +1,4 @@
-// Slots of operations: two operations have the same slot where they use the same cpu, or the same interface.
+//! Slots of operations: two operations have the same slot if they use the same cpu, or the same NIC.
 ghost use Rattle.std.specs.Prelude.{◌≡◌, ℕ, ◌+◌, ◌<◌, ◌^◌, max, [], Some, None, IfOk, OnOk, length, slice_get, slice_set};
 ghost use Rattle.std.specs.List.{list_all};
 ghost use Rattle.goal_graph.specs.declared.plan.Op.{Op};
@@ -11,26 +11,33 @@ use goal_limits::NoMemory;
 use indexmap::IndexSet;
 use std::alloc::Global;
 
-/// The slots of an operation: that of its cpu and that of its interface.
+/// The slots of an operation.
 #[derive(Clone, Copy)]
 pub struct Slots {
+    /// The slot of its cpu.
     pub cpu: u32,
+    /// The slot of its NIC.
     pub nic: u32,
 }
 
-/// The slots of each operation, in the order of all, and how many slots there are of cpus and of interfaces. Where every
-/// operation uses cpu 0 and interface 0, none are listed: its rank stands for both.
+/// The slots of all operations. If every operation uses cpu 0 and NIC 0, no slots are listed, and the rank of an
+/// operation is its slot of both.
 #[derive(Drop)]
 pub struct Numbering {
+    /// The slots of each operation, in the order of all.
     pub slots: Vec<Slots>,
+    /// The number of slots of cpus.
     pub cpus: usize,
+    /// The number of slots of NICs.
     pub nics: usize,
 }
 
-// A cpu or a NIC of a rank, and its slot.
+/// A cpu or a NIC of a rank, and its slot.
 #[derive(Clone, Copy)]
 pub struct Numbered {
+    /// The number of the cpu or the NIC at its rank.
     pub number: u8,
+    /// Its slot.
     pub slot: u32,
 }
 
@@ -40,9 +47,9 @@ pub struct Numbered {
 pub struct Numbers {
     /// The rank of the last operation.
     pub rank: u32,
-    /// The number of slots of the ranks before it.
+    /// The number of slots of the ranks before this one.
     pub before: u32,
-    /// The cpus, or the NICs, that it uses. The slot of one is `before` plus its index.
+    /// The cpus, or the NICs, that the rank uses. The slot of one is `before` plus its index.
     pub used: IndexSet<u8>,
     /// What its last operation uses. The next one often uses the same, and skips the set.
     pub newest: Option<Numbered>,
@@ -78,7 +85,7 @@ impl Numbers {
         self.newest = None;
     }
 
-    // The slot of a cpu or a NIC of the rank: a new one at its first use.
+    // Returns the slot of a cpu or a NIC of the rank: a new one at its first use.
     fn slot_of(&mut self, number: u8) -> Result<u32, NoMemory>
         requires few { self.old.before + length self.old.used.keys < 2 ^ 32 }
         requires newest { IsKnown self.old }
@@ -91,7 +98,7 @@ impl Numbers {
         }
     }
 
-    // The same by the set.
+    // The same, by the set.
     fn insert(&mut self, number: u8) -> Result<u32, NoMemory>
         requires few { self.old.before + length self.old.used.keys < 2 ^ 32 }
         ensures given { IfOk result (λ slot. IsGiven self.old self.new number slot) }
@@ -112,14 +119,14 @@ impl Numbers {
     }
 }
 
-// Whether every operation of a rank uses cpu 0 and interface 0.
+// Whether every operation of a rank uses cpu 0 and NIC 0.
 fn use_first(ops: &[Op]) -> bool
     ensures { result ≡ list_all uses_first ops.now }
 {
     ops.iter().all(|op| op.cpu == 0 && op.nic == 0)
 }
 
-// Whether every operation of all ranks uses cpu 0 and interface 0.
+// Whether every operation of all ranks uses cpu 0 and NIC 0.
 fn all_use_first(plans: &[RankPlan]) -> bool
     ensures { result ≡ list_all use_first plans.now }
 {
@@ -150,8 +157,8 @@ fn number_each(alloc: Global, sched: &Sched) -> Result<Numbering, NoMemory>
     })
 }
 
-/// Numbers the cpus and the interfaces that the operations use. Where all use the first ones of their ranks, as those of most
-/// schedules do, the ranks number them: no table is read at each action.
+/// Numbers the cpus and the NICs that the operations use. If all use the first ones of their ranks, as in most
+/// schedules, the slots are the ranks, and no table is read at each action. `Err` means out of memory.
 pub fn number(alloc: Global, sched: &Sched) -> Result<Numbering, NoMemory>
     ensures whole { IfOk result (λ n. IsWhole sched.now n.slots.items) }
     ensures cpus { IfOk result (λ n. IsPlaced (λ (o : Op). o.cpu) sched.now (cpu_slot sched.now n.slots.items) n.cpus) }
@@ -168,7 +175,7 @@ pub fn number(alloc: Global, sched: &Sched) -> Result<Numbering, NoMemory>
     })
 }
 
-/// The slots of an operation.
+/// Returns the slots of an operation.
 pub fn slots_at(sched: &Sched, slots: &[Slots], id: OpId) -> Slots
     requires exists { IsOp sched.now id }
     requires whole { IsWhole sched.now slots.now }
@@ -183,7 +190,7 @@ pub fn slots_at(sched: &Sched, slots: &[Slots], id: OpId) -> Slots
     slots[sched.index(id) as usize]
 }
 
-/// Until when a slot is held.
+/// Returns until when a slot is held.
 pub fn free(times: &[u64], slot: u32) -> u64
     requires { slot < length times.now }
     ensures { (t : ℕ) → slice_get times.now slot ≡ Some t → result ≡ t }
@@ -191,7 +198,7 @@ pub fn free(times: &[u64], slot: u32) -> u64
     times[slot as usize]
 }
 
-/// Holds a slot until a time at least.
+/// Holds a slot at least until a time.
 pub fn raise(times: &mut [u64], slot: u32, until: u64)
     requires { slot < length times.old }
     ensures { (t : ℕ) → slice_get times.old slot ≡ Some t → times.new ≡ slice_set times.old slot (max t until) }
