@@ -1,4 +1,4 @@
-//! Eager messages: when they begin and are taken, and what they hold. Times are in nanoseconds.
+//! Eager messages: when they begin, when they are received, and what they hold. Times are in nanoseconds.
 #![tactic(auto)]
 
 mod receiving;

@@ -1,4 +1,4 @@
-// A receive takes its message.
+//! A receive takes its message.
 ghost use Rattle.std.specs.Prelude.{◌≡◌, ◌+◌, ◌<◌, ◌^◌, max};
 ghost use Rattle.goal_graph.specs.Schedule.{IsReceive, IsSend};
 ghost use Rattle.sim_params.specs.Costs.{over, gap};
@@ -9,8 +9,8 @@ use goal_graph::{OpId, Sched, laws_of_schedules};
 use sim_params::Costs;
 use sim_resources::Resources;
 
-/// When a receive may take its message, which is there from `from` on: once its cpu and the receiving side of its
-/// interface are free.
+/// Returns when a receive may take a message that is available from `from` on: once its cpu and the receiving side of
+/// its NIC are free. In nanoseconds.
 #[tactic(auto, using(goal_graph::proofs::ForCallers::receive_is_op))]
 pub fn serve_at(res: &Resources, recv: OpId, from: u64) -> u64
     requires { IsReceive res.now.plans recv }
@@ -19,8 +19,9 @@ pub fn serve_at(res: &Resources, recv: OpId, from: u64) -> u64
     from.max(res.cpu(recv).max(res.rx(recv)))
 }
 
-/// The receive takes the message of the send at the time `at`. Returns when the receive ends, in nanoseconds. The receive
-/// holds its cpu and the receiving side of its NIC by the size of the message, and nothing else changes.
+/// The receive takes the message of the send at the time `at`, in nanoseconds. Returns when the receive ends, in
+/// nanoseconds. The receive holds its cpu until it ends and the receiving side of its NIC for the gap of the message.
+/// No other free time changes.
 pub fn serve<C: Costs>(
     sched: &Sched,
     costs: &C,
@@ -43,7 +44,7 @@ pub fn serve<C: Costs>(
     serve_message(sched, costs, res, recv, send, message.to, message.bytes, at)
 }
 
-/// `serve` of a send whose message has `bytes` bytes and goes to the rank `to`. It does not look the message up.
+/// Does the same as `serve`, for a send of `bytes` bytes to the rank `to`, without looking the message up.
 #[tactic(auto, using(goal_graph::proofs::ForCallers::receive_is_op))]
 pub fn serve_message<C: Costs>(
     sched: &Sched,

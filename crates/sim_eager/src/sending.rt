@@ -1,4 +1,4 @@
-// A send sends its bytes.
+//! A send transfers its data.
 ghost use Rattle.std.specs.Prelude.{◌≡◌, ◌+◌, ◌<◌, ◌^◌, max};
 ghost use Rattle.goal_graph.specs.Schedule.{IsSend};
 ghost use Rattle.sim_params.specs.Costs.{over, gap, flight};
@@ -9,14 +9,17 @@ use goal_graph::{OpId, Sched, laws_of_schedules};
 use sim_params::Costs;
 use sim_resources::Resources;
 
-/// When a send that has begun releases its cpu, and when its bytes arrive, in nanoseconds.
+/// When a send that has begun releases its cpu, and when its data arrive, in nanoseconds.
 #[derive(Clone, Copy, Debug, PartialEq, Eq)]
 pub struct Begun {
+    /// When the send releases its cpu.
     pub end: u64,
+    /// When its data arrive at the receiver.
     pub arrive: u64,
 }
 
-/// When a send that is ready at `ready` may begin: once its cpu and the sending side of its interface are free.
+/// Returns when a send that is ready at `ready` may begin: once its cpu and the sending side of its NIC are free. In
+/// nanoseconds.
 #[tactic(auto, using(goal_graph::proofs::ForCallers::send_is_op))]
 pub fn begin_at(res: &Resources, send: OpId, ready: u64) -> u64
     requires { IsSend res.now.plans send }
@@ -25,9 +28,9 @@ pub fn begin_at(res: &Resources, send: OpId, ready: u64) -> u64
     ready.max(res.cpu(send).max(res.tx(send)))
 }
 
-/// Sends `bytes` bytes to the rank `to` at the time `at`. The send holds its cpu and the sending side of its NIC, and
-/// nothing else changes. An eager send begins by one transfer. A rendezvous send makes two: its request to send, and its
-/// bytes.
+/// Sends `bytes` bytes to the rank `to` at the time `at`, in nanoseconds. The send holds its cpu for the overhead and
+/// the sending side of its NIC for the gap. No other free time changes. An eager send begins by one transfer. A
+/// rendezvous send makes two: its request to send, and its data.
 #[tactic(auto, using(goal_graph::proofs::ForCallers::send_is_op))]
 pub fn transfer<C: Costs>(
     costs: &C,
@@ -57,8 +60,8 @@ pub fn transfer<C: Costs>(
     Begun { end, arrive }
 }
 
-/// Begins an eager send at the time `at`. The send holds its cpu and the sending side of its NIC, and nothing else
-/// changes.
+/// Begins an eager send at the time `at`, in nanoseconds. The send holds its cpu for the overhead and the sending side
+/// of its NIC for the gap. No other free time changes.
 pub fn eager_begin<C: Costs>(
     sched: &Sched,
     costs: &C,
@@ -81,7 +84,7 @@ pub fn eager_begin<C: Costs>(
     eager_begin_message(sched, costs, res, send, message.to, message.bytes, at)
 }
 
-/// `eager_begin` of a send whose message has `bytes` bytes and goes to the rank `to`. It does not look the message up.
+/// Does the same as `eager_begin`, for a send of `bytes` bytes to the rank `to`, without looking the message up.
 pub fn eager_begin_message<C: Costs>(
     sched: &Sched,
     costs: &C,
