@@ -1,4 +1,4 @@
-// A rendezvous send hands over its bytes.
+//! A rendezvous send transfers its data.
 ghost use Rattle.std.specs.Prelude.{◌≡◌, ◌+◌, ◌<◌, ◌^◌, max};
 ghost use Rattle.goal_graph.specs.Schedule.{IsSend};
 ghost use Rattle.sim_params.specs.Costs.{over, gap, flight};
@@ -10,8 +10,8 @@ use sim_eager::{begin_at, transfer};
 use sim_params::Costs;
 use sim_resources::Resources;
 
-/// When a rendezvous send whose clear to send is back at `cleared` may hand over its bytes: once its cpu and the sending
-/// side of its NIC are free.
+/// Returns when a rendezvous send may transfer its data: once its clear to send (CTS) is back, at `cleared`, and its
+/// cpu and the sending side of its NIC are free. In nanoseconds.
 pub fn data_at(res: &Resources, send: OpId, cleared: u64) -> u64
     requires { IsSend res.now.plans send }
     ensures { result ≡ max cleared (max (cpu_free res.now send) (tx_free res.now send)) }
@@ -19,15 +19,17 @@ pub fn data_at(res: &Resources, send: OpId, cleared: u64) -> u64
     begin_at(res, send, cleared)
 }
 
-/// When a rendezvous send that has handed over its bytes ends, and when its receive can take them, in nanoseconds.
+/// When a rendezvous send that has transferred its data ends, and when its receive can take them, in nanoseconds.
 #[derive(Clone, Copy, Debug, PartialEq, Eq)]
 pub struct Sent {
+    /// When the send ends and releases its cpu.
     pub end: u64,
+    /// When its receive can take the data.
     pub available: u64,
 }
 
-/// Hands over the bytes of a rendezvous send at the time `at`. The send holds its cpu and the sending side of its NIC, and
-/// nothing else changes.
+/// Transfers the data of a rendezvous send at the time `at`, in nanoseconds. The send holds its cpu for the overhead
+/// and the sending side of its NIC for the gap. No other free time changes.
 pub fn data<C: Costs>(sched: &Sched, costs: &C, res: &mut Resources, send: OpId, at: u64) -> Sent
     requires same_schedule { res.old.plans ≡ sched.now }
     requires sends { IsSend sched.now send }
@@ -44,7 +46,7 @@ pub fn data<C: Costs>(sched: &Sched, costs: &C, res: &mut Resources, send: OpId,
     data_message(sched, costs, res, send, message.to, message.bytes, at)
 }
 
-/// `data` of a send whose message has `bytes` bytes and goes to the rank `to`. It does not look the message up.
+/// Does the same as `data`, for a send of `bytes` bytes to the rank `to`, without looking the message up.
 pub fn data_message<C: Costs>(
     sched: &Sched,
     costs: &C,

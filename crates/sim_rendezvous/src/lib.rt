@@ -1,5 +1,5 @@
-//! Rendezvous messages: the request to send, the clear to send and the bytes, and what they hold. Times are in
-//! nanoseconds.
+//! Rendezvous messages: the request to send (RTS), the clear to send (CTS) and the data, and what they hold. Times are
+//! in nanoseconds.
 #![tactic(auto)]
 
 mod handover;

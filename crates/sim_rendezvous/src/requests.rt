@@ -1,4 +1,4 @@
-// The request to send of a rendezvous send, and its clear to send.
+//! The request to send (RTS) of a rendezvous send, and its clear to send (CTS).
 ghost use Rattle.std.specs.Prelude.{◌≡◌, ℕ, ◌+◌, ◌<◌, ◌^◌};
 ghost use Rattle.goal_graph.specs.Schedule.{IsSend};
 ghost use Rattle.sim_params.specs.Costs.{over_one, gap_one, flight_one, latency};
@@ -10,11 +10,12 @@ use sim_eager::transfer;
 use sim_params::Costs;
 use sim_resources::Resources;
 
-/// The bytes of a request to send.
+/// The size of a request to send, in bytes.
 const REQUEST: u64 = 1;
 
-/// Begins a rendezvous send at the time `at`. Returns when its request to send arrives, in nanoseconds. The request, of one
-/// byte, holds the cpu of the send and the sending side of its NIC, and nothing else changes.
+/// Begins a rendezvous send at the time `at`. Returns when its request to send arrives. Both are in nanoseconds. The
+/// request, of one byte, holds the cpu of the send for the overhead and the sending side of its NIC for the gap. No
+/// other free time changes.
 pub fn request<C: Costs>(sched: &Sched, costs: &C, res: &mut Resources, send: OpId, at: u64) -> u64
     requires same_schedule { res.old.plans ≡ sched.now }
     requires sends { IsSend sched.now send }
@@ -30,7 +31,7 @@ pub fn request<C: Costs>(sched: &Sched, costs: &C, res: &mut Resources, send: Op
     request_to(sched, costs, res, send, message.to, at)
 }
 
-/// `request` of a send whose message goes to the rank `to`. It does not look the message up.
+/// Does the same as `request`, for a send to the rank `to`, without looking the message up.
 pub fn request_to<C: Costs>(
     sched: &Sched,
     costs: &C,
@@ -52,7 +53,8 @@ pub fn request_to<C: Costs>(
     transfer(costs, res, send, to, REQUEST, at).arrive
 }
 
-/// When the clear to send of a rendezvous send that is paired at `paired` reaches its sender, in nanoseconds.
+/// Returns when the clear to send reaches the sender if the rendezvous send is paired at `paired`: one latency later.
+/// Both are in nanoseconds.
 pub fn clear<C: Costs>(sched: &Sched, costs: &C, send: OpId, paired: u64) -> u64
     requires sends { IsSend sched.now send }
     requires latency_fits { paired + latency sched.now (C.model costs.now) send < 2 ^ 63 }
@@ -62,7 +64,7 @@ pub fn clear<C: Costs>(sched: &Sched, costs: &C, send: OpId, paired: u64) -> u64
     clear_to(sched, costs, send, message.to, paired)
 }
 
-/// `clear` of a send whose message goes to the rank `to`. It does not look the message up.
+/// Does the same as `clear`, for a send to the rank `to`, without looking the message up.
 pub fn clear_to<C: Costs>(sched: &Sched, costs: &C, send: OpId, to: u32, paired: u64) -> u64
     requires goes_to { (bytes : ℕ) × IsMessage sched.now send to bytes }
     requires latency_fits { paired + latency sched.now (C.model costs.now) send < 2 ^ 63 }
