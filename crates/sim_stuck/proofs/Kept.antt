@@ -5,7 +5,7 @@ use Rattle.std.proofs.lemmas.List.{append-nil, map-append, take_more}
 use Rattle.std.proofs.lemmas.List.Elements.{All-contains, All-filter, All-contains_itself, filter_more, filter_passes}
 use Rattle.goal_graph.proofs.ForCallers.{contains_first, contains_more}
 
--- to find among what a filter keeps is to find what passes both tests
+-- what is found in the elements that a filter keeps passes both tests
 pub find_kept : {X : Type 0} (p q : X → Bool) (xs : List X) → find p (filter q xs) ≡ find (λ (x : X). p x && q x) xs
 find_kept p q [] = refl
 find_kept {X} p q (x ∷ xs) = go (q x) (p x) refl (find_kept p q xs)
@@ -26,7 +26,7 @@ module _ {X : Type 0} (p : X → Bool) (xs : List X) (i : ℕ) (d : X) (kept : L
   one_left_out e =
       sym (append-nil kept) ∙ ap₂ (λ (ys : List X) (b : Bool). ys ++ cond b (get_or xs i d ∷ []) []) so_far (sym e) ∙ sym (filter_more p xs i d low)
 
--- the value of the element at i stands after those of the elements before it
+-- the value of the element at i comes after those of the elements before it
 pub one_mapped : {X Y : Type 0} (f : X → Y) (xs : List X) (i : ℕ) (d : X) (so_far more : List Y) (y : Y) → i < length xs → so_far ≡ map f (take i xs) → more ≡ so_far ++ y ∷ [] → y ≡ f (get_or xs i d) → more ≡ map f (take (i + 1) xs)
 one_mapped {X} {Y} f xs i d so_far more y low e pushed is =
     pushed ∙ ap₂ (λ (ys : List Y) (z : Y). ys ++ z ∷ []) e is ∙ sym (ap (map f) (take_more xs i d low) ∙ map-append f (take i xs) (get_or xs i d ∷ []))

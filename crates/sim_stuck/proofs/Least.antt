@@ -38,7 +38,7 @@ order_head e es order k d b = order 0 (suc k) d (omega arith) (omega arith)
 order_tail : (e : OpId) (es : List OpId) → AllPairs IsBefore (e ∷ es) → AllPairs IsBefore es
 order_tail e es order i j d l b = order (suc i) (suc j) d (omega arith) (omega arith)
 
--- of the first of two kinds, the lesser is the first of either kind
+-- the first element that passes one of two tests is the lesser of the first of each
 find_either : (p q : OpId → Bool) (es : List OpId) → AllPairs IsBefore es → find (λ (e : OpId). p e || q e) es ≡ least (find p es) (find q es)
 find_either p q [] order = refl
 find_either p q (e ∷ es) order = go (p e) (q e) (find_either p q es (order_tail e es order))
@@ -116,7 +116,7 @@ module _ (plans : List Plan) (ids : List OpId) (firsts : Firsts) (are : AreFirst
           q : Pattern
           q = record { rank = y.rank; from = from; tag = wanted }
 
-  -- none fits a calculation
+  -- no operation fits a calculation
   pub none_found : (nanos : ℕ) → kind_at plans x ≡ Some (Calc nanos) → None ≡ find (λ (y : OpId). fits plans x y || fits plans y x) ids
   unfolding fits
   none_found nanos is =

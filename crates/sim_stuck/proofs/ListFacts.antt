@@ -1,4 +1,4 @@
--- What the list of stuck operations says.
+-- The laws of the list of stuck operations.
 use Rattle.std.proofs.Common.{◌≡◌, ◌≤◌, ◌⊎◌, inl, inr, true, not, List, [], ◌∷◌, length, map, filter, Contains, AllPairs, refl, sym, ap, ◌∙◌, subst, arith}
 use Rattle.std.proofs.lemmas.Bool.{not-true}
 use Rattle.std.proofs.lemmas.List.Elements.{All-contains}
@@ -83,7 +83,7 @@ module _ (plans : List Plan) (costs : CostModel) (h : List Timed) where
       let alone = ap (λ (t : Stuck). t.why) l.3 ∙ e in
       subst (λ (z : OpId). (has_started plans y (plain h) ≡ true) × IsTaken plans (plain h) y z) same (alone_is_alone plans (is_eager plans costs) (plain h) complete l.0 y (not-true _ l.2) alone (subst (λ (z : OpId). are_fit plans (is_eager plans costs) z y ≡ true) (sym same) fit))
 
--- nothing is listed where all operations have an end
+-- nothing is listed if all operations have an end
 pub none_listed : (plans : List Plan) (costs : CostModel) (h : List Timed) (stuck : List OpId) (list : List Stuck) → length stuck ≤ 0 → list ≡ [] → list ≡ map (with_reason plans costs h) stuck
 none_listed plans costs h [] list none e = e
 none_listed plans costs h (x ∷ xs) list none e = absurd (omega (arith, none))

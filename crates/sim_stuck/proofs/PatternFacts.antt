@@ -1,4 +1,4 @@
--- Patterns that are alike, and the receives that a message fits by its patterns.
+-- Patterns that are alike, and the receives that fit a message, by its patterns.
 use Rattle.std.proofs.Common.{ℕ, ◌≡◌, ◌==◌, ◌&&◌, ◌||◌, Bool, true, false, Option, Some, None, cond, refl, sym, ap, ap₂, ◌∙◌}
 use Rattle.std.specs.Ordering.{nat_cmp, is_eq}
 use Rattle.std.specs.Option.{option_cmp}
@@ -29,7 +29,7 @@ any_source_of to tag = record { rank = to; from = None; tag = Some tag }
 abbrev pub any_of : ℕ → Pattern
 any_of to = record { rank = to; from = None; tag = None }
 
--- a pattern asks for a message exactly where it is one of the message's four
+-- a pattern accepts a message exactly if it is one of the message's four
 pub four : (q : Pattern) (source to with_tag : ℕ) → ((to == q.rank) && accepts q.from source && accepts q.tag with_tag) ≡ ((is_alike (exact_of source to with_tag) q || is_alike (any_tag_of source to) q) || (is_alike (any_source_of to with_tag) q || is_alike (any_of to) q))
 four q source to with_tag = go (to == q.rank) q.from q.tag
   where
@@ -88,7 +88,7 @@ put_once true false false false x y = refl
 put_once false true false false x y = refl
 put_once false false false false x y = refl
 
--- what is put at each of a message's four patterns is there for the patterns that ask for the message
+-- what is put at each of a message's four patterns is at the patterns that accept the message
 pub four_put : (q : Pattern) (source to with_tag : ℕ) {X : Type 0} (x y : X) → cond (is_eq (pattern_cmp (any_of to) q)) x (cond (is_eq (pattern_cmp (any_source_of to with_tag) q)) x (cond (is_eq (pattern_cmp (any_tag_of source to) q)) x (cond (is_eq (pattern_cmp (exact_of source to with_tag) q)) x y))) ≡ cond ((to == q.rank) && accepts q.from source && accepts q.tag with_tag) x y
 four_put q source to with_tag x y =
     put_once (is_eq (pattern_cmp (exact_of source to with_tag) q)) (is_eq (pattern_cmp (any_tag_of source to) q)) (is_eq (pattern_cmp (any_source_of to with_tag) q)) (is_eq (pattern_cmp (any_of to) q)) x y

@@ -1,4 +1,4 @@
--- The reason of an operation, as it is looked for: first among its needs, then among the operations that have not
+-- The reason of an operation, as the code finds it: first among its needs, then among the operations that have not
 -- started.
 use Rattle.std.proofs.Common.{◌≡◌, ◌||◌, Bool, not, List, All, AllPairs, Option, Some, None, find, filter, refl, sym, ap, ◌∙◌, subst}
 use Rattle.std.specs.Option.{option_map}
@@ -24,12 +24,12 @@ abbrev pub is_unstarted : List Plan → List Act → OpId → Bool
 is_unstarted plans h y = not (has_started plans y h)
 
 module _ (plans : List Plan) (eager : OpId → Bool) (h : List Act) where
-  -- what x needs of d is not there
+  -- what x needs of d has not happened
   abbrev pub is_unmet : OpId → Need → Bool
   is_unmet x d = not (is_met plans eager h d.when (needed x d))
 
   module _ (x : OpId) where
-    -- a need that is not there is the reason
+    -- a need that has not happened is the reason
     pub unmet_reason : (y : OpId) → Some y ≡ option_map (needed x) (first_unmet plans eager h x) → why.Op y ≡ reason plans eager h x
     unfolding reason
     unmet_reason y e = go (first_unmet plans eager h x) e
@@ -38,7 +38,7 @@ module _ (plans : List Plan) (eager : OpId → Bool) (h : List Act) where
         go None e = absurd (cc e)
         go (Some d) e = ap why.Op (same_Some y (needed x d) e)
 
-    -- where all is there, the first that fits among those that have not started is
+    -- if all needs have happened, the reason is the first that fits among those that have not started
     pub met_reason : (read : List Plan) (firsts : Firsts) (r : Option OpId) → read ≡ plans → AreFirsts plans (filter (is_unstarted plans h) (operations plans)) firsts
         → None ≡ option_map (needed x) (first_unmet plans eager h x)
         → ((ids : List OpId) → AllPairs IsBefore ids → AreFirsts read ids firsts → r ≡ find (λ (y : OpId). fits read x y || fits read y x) ids)
@@ -57,7 +57,7 @@ module _ (plans : List Plan) (eager : OpId → Bool) (h : List Act) where
         go None e = refl
         go (Some d) e = absurd (cc e)
 
--- operations that are picked from all exist
+-- operations that a filter keeps of all exist
 pub picked_exist : (p : OpId → Bool) (plans read : List Plan) (ids : List OpId) → read ≡ plans → ids ≡ filter p (operations plans) → All (IsOp read) ids
 picked_exist p plans read ids same is =
     subst (λ (xs : List OpId). All (IsOp read) xs) (sym is) (subst (λ (ps : List Plan). All (IsOp ps) (filter p (operations plans))) (sym same) (All-filter p (IsOp plans) (operations plans) (listed_exist plans plans (operations plans) refl refl)))

@@ -1,4 +1,4 @@
--- What is so of the list of stuck operations. `explain` ensures each.
+-- The laws of the list of stuck operations. `explain` ensures each.
 use Rattle.std.specs.Prelude.{◌≡◌, ◌⊎◌, ◌↔◌, true, List, map, Contains, AllPairs}
 use Rattle.goal_graph.specs.declared.action.OpId.{OpId}
 use Rattle.goal_graph.specs.declared.action.Timed.{Timed}
@@ -18,17 +18,17 @@ use Rattle.sim_params.specs.Laws.{IsStuck}
 abbrev pub ops_of : List Stuck → List OpId
 ops_of list = map (λ (s : Stuck). s.op) list
 
--- they stand by rank and number, each once
+-- they are ordered by rank and number, each once
 abbrev pub IsInOrder : List Stuck → Type 0
 IsInOrder list = AllPairs IsBefore (ops_of list)
 
--- an operation that a reason names is one of them
+-- an operation that a reason names is in the list
 abbrev pub NamesListed : List Stuck → Type 0
 NamesListed list =
     (s : Stuck) (y : OpId) → Contains list s → ((s.why ≡ Op y) ⊎ (s.why ≡ Partner y)) → Contains (ops_of list) y
 
 module _ (plans : List Plan) (costs : CostModel) (h : List Timed) where
-  -- the operations without an end are listed, and no others
+  -- the list has the operations without an end, and no others
   abbrev pub ListsStuck : List Stuck → Type 0
   ListsStuck list = (x : OpId) → Contains (ops_of list) x ↔ (IsOp plans x × IsStuck plans (is_eager plans costs) (plain h) x)
 

@@ -1,4 +1,4 @@
--- The first operation of a list for each pattern that receives ask by.
+-- The first operation of a list for each pattern of a receive.
 use Rattle.std.specs.Prelude.{ℕ, ◌≡◌, Bool, false, cond, List, [], ◌∷◌, Option, Some, None, find}
 use Rattle.std.specs.declared.cmp.Ordering.{Ordering}
 use Rattle.std.specs.Ordering.{nat_cmp, ordering_then, is_eq, is_lt}
@@ -12,7 +12,7 @@ use Rattle.goal_graph.specs.Matching.{fits_kinds}
 use Rattle.sim_stuck.specs.declared.pattern.Pattern.{Pattern}
 use Rattle.sim_stuck.specs.declared.partner.Firsts.{Firsts}
 
--- the orders of patterns and of operations
+-- the order of patterns, and that of operations
 abbrev pub pattern_cmp : Pattern → Pattern → Ordering
 pattern_cmp p q =
     ordering_then (nat_cmp p.rank q.rank) (ordering_then (option_cmp nat_cmp p.from q.from) (option_cmp nat_cmp p.tag q.tag))
@@ -20,12 +20,12 @@ pattern_cmp p q =
 abbrev pub op_cmp : OpId → OpId → Ordering
 op_cmp x y = ordering_then (nat_cmp x.rank y.rank) (nat_cmp x.op y.op)
 
--- m, of that kind, is a send that a receive of the pattern takes
+-- m, of this kind, is a send that a receive of the pattern q takes
 abbrev pub is_for : Pattern → OpId → Option Kind → Bool
 is_for q m kind =
     fits_kinds (record { rank = q.rank; op = 0 }) (Some (Recv 0 q.from q.tag)) m kind
 
--- x, of that kind, is a receive of the pattern
+-- x, of this kind, is a receive of the pattern q
 abbrev pub is_by : Pattern → OpId → Option Kind → Bool
 is_by q x (Some (Calc nanos)) = false
 is_by q x (Some (Send bytes to tag)) = false
@@ -33,7 +33,7 @@ is_by q x (Some (Recv room from tag)) =
     is_eq (pattern_cmp (record { rank = x.rank; from = from; tag = tag }) q)
 is_by q x None = false
 
--- the patterns of the receives that a message fits
+-- the patterns of the receives that fit a message
 abbrev pub patterns_for : ℕ → ℕ → ℕ → List Pattern
 patterns_for source to tag =
     record { rank = to; from = Some source; tag = Some tag }
@@ -42,13 +42,13 @@ patterns_for source to tag =
     ∷ record { rank = to; from = None; tag = None }
     ∷ []
 
--- the lesser of two operations
+-- the lesser of two operations; `None` if there is neither
 abbrev pub least : Option OpId → Option OpId → Option OpId
 least None b = b
 least (Some x) None = Some x
 least (Some x) (Some y) = cond (is_lt (op_cmp y x)) (Some y) (Some x)
 
--- the first send for each pattern, and the first receive of each
+-- the first send and the first receive of each pattern
 pub record AreFirsts (plans : List Plan) (ids : List OpId) (firsts : Firsts) : Type 0 where
   pub sends : (q : Pattern) → get pattern_cmp firsts.sends q ≡ find (λ (y : OpId). is_for q y (kind_at plans y)) ids
   pub receives : (q : Pattern) → get pattern_cmp firsts.receives q ≡ find (λ (y : OpId). is_by q y (kind_at plans y)) ids

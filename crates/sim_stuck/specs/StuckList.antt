@@ -18,6 +18,6 @@ module _ (plans : List Plan) (costs : CostModel) (h : List Timed) where
   abbrev pub with_reason : OpId → Stuck
   with_reason x = record { op = x; why = reason_of x }
 
-  -- each operation that has no end, with its reason, by rank and number
+  -- each operation without an end, with its reason, by rank and number
   unfoldable pub stuck_list : List Stuck
   stuck_list = map with_reason (filter (lacks_end plans costs h) (operations plans))

@@ -1,4 +1,4 @@
--- The lines of stuck operations. Every line ends with a line feed, and numbers are decimal.
+-- The lines of stuck operations. Each ends with a line feed, and numbers are decimal.
 use Rattle.std.specs.Prelude.{ℕ, List, [], ◌++◌, codes}
 use Rattle.std.specs.List.{flat_map}
 use Rattle.goal_base.specs.Text.{line_feed}
@@ -13,7 +13,7 @@ why_words (Op y) = codes " for op "
 why_words (Partner y) = codes " for partner "
 why_words Alone = codes " alone"
 
--- the operation that a reason names, if it names one
+-- the operation that a reason names, if any
 abbrev pub named_text : Why → List ℕ
 named_text (Op y) = id_text y
 named_text (Partner y) = id_text y
@@ -23,6 +23,6 @@ named_text Alone = []
 abbrev pub stuck_line : Stuck → List ℕ
 stuck_line s = codes "stuck " ++ id_text s.op ++ why_words s.why ++ named_text s.why ++ line_feed
 
--- a line for each
+-- the lines of stuck operations, in order
 unfoldable pub stuck_text : List Stuck → List ℕ
 stuck_text list = flat_map stuck_line list

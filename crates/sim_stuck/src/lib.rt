@@ -1,5 +1,4 @@
-//! Why operations are stuck: each operation that has no end when a run is over, with its reason, and the lines that
-//! tell it.
+//! Why operations are stuck: each operation without an end when a run is over, with its reason, and their lines.
 #![tactic(auto)]
 
 mod lines;

@@ -1,4 +1,4 @@
-// The lines of stuck operations.
+//! The lines of stuck operations.
 ghost use Rattle.std.specs.Prelude.{◌≡◌, ◌++◌, OnOk, IfOk};
 ghost use Rattle.sim_stuck.specs.StuckText.{why_words, named_text, stuck_line, stuck_text};
 
@@ -7,8 +7,9 @@ use goal_graph::{Stuck, Why};
 use goal_limits::NoMemory;
 use std::alloc::Global;
 
-/// A line for each stuck operation, in the order of the list: `stuck R I for op R J`, `stuck R I for partner Q J` or
-/// `stuck R I alone`, with rank and number of the operation and of the one that its reason names.
+/// Returns a line for each stuck operation, in the order of the list: `stuck R I for op R J`, `stuck R I for partner Q
+/// J` or `stuck R I alone`, with rank and number of the operation and of the one that its reason names. `Err` means out
+/// of memory.
 pub fn stuck_text(alloc: Global, list: &[Stuck]) -> Result<Vec<u8>, NoMemory>
     ensures { IfOk result (λ text. text.items ≡ stuck_text list.now) }
 {
@@ -41,7 +42,7 @@ fn why_words(why: Why) -> &'static str
     }
 }
 
-// Appends the operation that a reason names, if it names one.
+// Appends the operation that a reason names, if any.
 fn put_named(out: &mut TextOut, why: Why) -> Result<(), NoMemory>
     ensures { OnOk result (out.new ≡ out.old ++ named_text why) }
 {

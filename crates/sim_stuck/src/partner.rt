@@ -1,4 +1,4 @@
-//! The first operations that fit one another.
+//! The first operations that fit another.
 ghost use Rattle.std.specs.Prelude.{◌≡◌, ◌||◌, List, Some, cond, All, AllPairs, IfOk, OnOk, find};
 ghost use Rattle.std.specs.BTreeMap.{get};
 ghost use Rattle.goal_graph.specs.declared.action.OpId.{OpId};
@@ -17,12 +17,14 @@ use std::collections::BTreeMap;
 /// Of a list of operations, the first send for each pattern and the first receive of each.
 #[derive(Drop)]
 pub struct Firsts {
+    /// The first send for each pattern.
     pub sends: BTreeMap<Pattern, OpId>,
+    /// The first receive of each pattern.
     pub receives: BTreeMap<Pattern, OpId>,
 }
 
 impl Firsts {
-    /// The first of these operations, by pattern. `NoMemory` where memory ran out.
+    /// Returns the first of these operations, by pattern. `Err` means out of memory.
     pub fn of(alloc: Global, sched: &Sched, ids: &[OpId]) -> Result<Firsts, NoMemory>
         requires { All (IsOp sched.now) ids.now }
         ensures { IfOk result (AreFirsts sched.now ids.now) }
@@ -40,7 +42,7 @@ impl Firsts {
         Ok(firsts)
     }
 
-    // Puts an operation of that kind before the others.
+    // Puts an operation of this kind before the others.
     fn put(&mut self, id: OpId, kind: Kind) -> Result<(), NoMemory>
         ensures sends { OnOk result ((q : Pattern) → get pattern_cmp self.new.sends q
             ≡ cond (is_for q id (Some kind)) (Some id) (get pattern_cmp self.old.sends q)) }
@@ -64,8 +66,8 @@ impl Firsts {
         Ok(())
     }
 
-    /// The first of the operations that fits another: one of the two is a send and the other a receive that takes its
-    /// message.
+    /// Returns the first of the operations that fits `id`: one of the two is a send and the other a receive that takes
+    /// its message.
     pub fn first_that_fits(&self, sched: &Sched, id: OpId) -> Option<OpId>
         requires { IsOp sched.now id }
         ensures { (ids : List OpId) → AllPairs IsBefore ids → AreFirsts sched.now ids self.now
@@ -88,7 +90,7 @@ impl Firsts {
         self.receives.get(&pattern).copied()
     }
 
-    // The first receive for a message.
+    // The first receive that fits a message.
     fn first_receive(&self, source: u32, to: u32, tag: u32) -> Option<OpId>
         ensures { result ≡ least
             (least (get pattern_cmp self.now.receives (record { rank = to; from = Some source; tag = Some tag }))

@@ -1,4 +1,4 @@
-// The reason of each stuck operation.
+//! The reason of each stuck operation.
 ghost use Rattle.std.specs.Prelude.{◌≡◌, All, IfOk, filter, map, not};
 ghost use Rattle.std.specs.Option.{option_map};
 ghost use Rattle.goal_graph.specs.Schedule.{operations, needed};
@@ -19,18 +19,19 @@ use sim_events::{Engine, History};
 use sim_params::Costs;
 use std::alloc::{AllocError, Global};
 
-/// The stuck operations of a run that is over, each with its reason, by rank and number.
+/// Returns the stuck operations of a run that is over, each with its reason, by rank and number.
 ///
-/// An operation is stuck where it has no end. Its reason is the first operation, in the order of its dependencies, that
-/// it needs and that never gets so far; else the least operation that fits it and never starts; else it is alone.
+/// An operation is stuck if it has no end. Its reason is the first operation, in the order of its dependencies, that it
+/// needs and that never starts or ends as it must. If there is none, it is the least operation that fits it and never
+/// starts, and else it is alone.
 ///
 /// - `list`: the list is that of the run.
-/// - `stuck`: an operation is listed exactly where it has no end.
-/// - `order`: the operations are listed by rank and number.
+/// - `stuck`: an operation is listed exactly if it has no end.
+/// - `order`: the operations are ordered by rank and number, each once.
 /// - `named`: an operation that a reason names is listed itself.
 /// - `alone`: each operation that fits one that is alone has started, and is paired with another.
 ///
-/// The first operation that fits is found by pattern, in logarithmic time. `NoMemory` where memory ran out.
+/// The first operation that fits is found by pattern, in logarithmic time. `Err` means out of memory.
 pub fn explain<C: Costs, H: History>(
     alloc: Global,
     sched: &Sched,
@@ -55,7 +56,7 @@ pub fn explain<C: Costs, H: History>(
     with_reasons(alloc, sched, engine, &stuck)
 }
 
-// Operations that have no end, each with its reason.
+// Operations without an end, each with its reason.
 fn with_reasons<C: Costs, H: History>(
     alloc: Global,
     sched: &Sched,
@@ -79,7 +80,7 @@ fn with_reasons<C: Costs, H: History>(
     Ok(list)
 }
 
-// The operations that have no end, by rank and number.
+// The operations without an end, by rank and number.
 fn unended<C: Costs, H: History>(
     alloc: Global,
     engine: &Engine<'_, C, H>,
@@ -114,7 +115,7 @@ fn unstarted<C: Costs, H: History>(
     Ok(ids)
 }
 
-// The reason of an operation that has no end; `firsts` are of the operations that have not started.
+// The reason of an operation without an end. `firsts` are of the operations that have not started.
 fn reason<C: Costs, H: History>(engine: &Engine<'_, C, H>, firsts: &Firsts, id: OpId) -> Why
     requires op { IsOp engine.now.plans id }
     requires firsts { AreFirsts engine.now.plans
@@ -131,7 +132,8 @@ fn reason<C: Costs, H: History>(engine: &Engine<'_, C, H>, firsts: &Firsts, id: 
     }
 }
 
-// The first operation, in the order of the dependencies, that an operation needs and that is not there.
+// The first operation, in the order of the dependencies, that an operation needs and that has not started or ended as
+// it must.
 fn first_unmet<C: Costs, H: History>(engine: &Engine<'_, C, H>, id: OpId) -> Option<OpId>
     requires { IsOp engine.now.plans id }
     ensures { result ≡ option_map (needed id) (first_unmet engine.now.plans
@@ -149,7 +151,7 @@ fn first_unmet<C: Costs, H: History>(engine: &Engine<'_, C, H>, id: OpId) -> Opt
     None
 }
 
-// Whether the moment of an operation that a dependency waits for is there.
+// Whether the start or end of an operation that a dependency waits for has happened.
 fn is_met<C: Costs, H: History>(engine: &Engine<'_, C, H>, when: When, id: OpId) -> bool
     requires { IsOp engine.now.plans id }
     ensures { result ≡ is_met engine.now.plans (is_eager engine.now.plans (C.model engine.now.costs))
@@ -161,7 +163,7 @@ fn is_met<C: Costs, H: History>(engine: &Engine<'_, C, H>, when: When, id: OpId)
     }
 }
 
-/// Whether an operation has an end.
+/// Returns whether an operation has an end.
 pub fn has_ended<C: Costs, H: History>(engine: &Engine<'_, C, H>, id: OpId) -> bool
     requires { IsOp engine.now.plans id }
     ensures { result ≡ has_ended engine.now.plans (is_eager engine.now.plans (C.model engine.now.costs)) id

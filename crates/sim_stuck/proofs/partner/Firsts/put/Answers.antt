@@ -8,7 +8,7 @@ use Rattle.sim_stuck.specs.Patterns.{pattern_cmp, is_for}
 use Rattle.sim_stuck.proofs.PatternFacts.{four_put}
 use Rattle.sim_stuck.proofs.partner.Firsts.put.Goals as goal
 
--- what is at q once it was put at the pattern in that place
+-- what is at q after it was put at the pattern at this index
 abbrev put_at : List Pattern → ℕ → Pattern → Option OpId → Option OpId → Option OpId
 put_at patterns place q id was = cond (is_eq (pattern_cmp (get_or patterns place (record { rank = 0; from = None; tag = None })) q)) id was
 
