@@ -21,7 +21,7 @@ sum_add f g [] = refl
 sum_add {X} f g (x ∷ xs) =
     omega (arith, sum_by-cons (λ (z : X). f z + g z) x xs, sum_by-cons f x xs, sum_by-cons g x xs, sum_add f g xs)
 
--- counted by the one and by the other
+-- pairs are counted by their first or by their second element
 pub count_both_ways : {X Y : Type 0} (R : Y → X → Bool) (xs : List X) (ys : List Y) → sum_by (λ (x : X). count_by (λ (y : Y). R y x) ys) xs ≡ sum_by (λ (y : Y). count_by (R y) xs) ys
 count_both_ways {X} {Y} R [] ys = sym (sum_zero ys)
 count_both_ways {X} {Y} R (x ∷ xs) ys =

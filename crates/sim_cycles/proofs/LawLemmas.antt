@@ -204,7 +204,7 @@ none_from : (o : Option OpId) → is_none o ≡ true → o ≡ None
 none_from None e = refl
 none_from (Some x) e = absurd (cc)
 
--- an operation that is alone is its knot
+-- an operation that is alone is the only member of its knot
 alone_members : (list : List Stuck) (x : OpId) → next list x ≡ None → members list x ≡ x ∷ []
 unfolding members way
 alone_members list x none = ap (λ (ys : List OpId). x ∷ ys) (go (length list))

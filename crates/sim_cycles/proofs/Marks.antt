@@ -14,7 +14,7 @@ mark_set_same marks i m h = get_or-set_same marks i m Unseen h
 pub mark_set_other : (marks : List Mark) (i j : ℕ) (m : Mark) → (j ≡ i → ⊥) → mark_at (set marks i m) j ≡ mark_at marks j
 mark_set_other marks i j m apart = get_or-set_other marks i j m Unseen apart
 
--- a mark that is set leaves all marked that was
+-- setting a mark leaves marked what was marked
 pub stay_set : (marks : List Mark) (i : ℕ) (m : Mark) → is_unseen m ≡ false → StaySeen marks (set marks i m)
 stay_set marks i m seen j was = go (cases_eq j i) (cases_lt i (length marks))
   where
@@ -52,7 +52,7 @@ module _ (ts : List ℕ) where
     known = s.known;
   }
 
-  -- one step more
+  -- another step
   pub marks_more : (marks : List Mark) (start at : ℕ) (way : List ℕ) → AreMarks ts marks start way → at ≡ after (target_at ts) (length way) start → at < length ts → mark_at marks at ≡ Unseen → AreMarks ts (set marks at (OnWay (length way))) start (way ++ at ∷ [])
   marks_more marks start at way a there inside new = record {
     long = length-set marks at (OnWay (length way)) ∙ a.long;
@@ -132,7 +132,7 @@ module _ (ts : List ℕ) where
   way_inside marks start way closed inside a k d below =
       omega (arith, a.long, get_or_default way k d 0 below, a.walked k below, after_below (target_at ts) (length ts) closed k start inside)
 
-  -- a way that is marked with its head
+  -- after a way is marked with its head
   pub settled_more : (old marks new : List Mark) (start head : ℕ) (way : List ℕ) → IsClosed ts → start < length ts → AreSettled ts old start → AreMarks ts marks start way → StaySeen old marks → is_unseen (mark_at marks start) ≡ false → IsHeadOf (target_at ts) start head → length new ≡ length marks → ((i : ℕ) → Contains way i → mark_at new i ≡ Known head) → ((i : ℕ) → (mark_at new i ≡ mark_at marks i) ⊎ (Contains way i × (mark_at new i ≡ Known head))) → AreSettled ts new (start + 1)
   settled_more old marks new start head way closed inside s a stay here h long set kept = record {
     long = long ∙ a.long;

@@ -12,7 +12,7 @@ find_value f v (suc m) = go (find_value f v m) (cases_eq (f m) v)
     go (inr none) (inl e) = inl (m, omega arith, e)
     go (inr none) (inr other) = inr (λ i h e. ⊎_elim (λ below. none i below e) (λ above. let same : i ≡ m = omega arith in other (sym (sym e ∙ (λ j. f (same j))))) (cases_lt i m))
 
--- the numbers but v, without a gap
+-- the numbers without v, without a gap
 squeeze : ℕ → ℕ → ℕ
 squeeze v x = cond (ltb v x) (x - 1) x
 

@@ -1,4 +1,4 @@
--- The place of an operation is found by halves.
+-- The place of an operation is found by binary search.
 use Rattle.std.proofs.Common.{ℕ, ◌<◌, ◌≤◌, ◌≡◌, ◌⊎◌, inl, inr, Bool, true, false, List, length, get_or, Contains, sym, ap, ap₂, ◌∙◌, subst, arith}
 use Rattle.std.specs.Ordering.{nat_cmp, ordering_then, is_lt}
 use Rattle.std.specs.declared.cmp.Ordering.{Ordering}
@@ -14,7 +14,7 @@ use Rattle.sim_cycles.specs.Laws.{IsInOrder}
 use Rattle.sim_cycles.specs.Places.{op_at}
 use Rattle.sim_cycles.proofs.PlacesLemmas.{none_stuck, op_read, place_of, before_at}
 
--- the test by which the search goes
+-- the test of the search
 abbrev pub is_earlier : OpId → Stuck → Bool
 is_earlier x s = is_lt (ordering_then (nat_cmp s.op.rank x.rank) (nat_cmp s.op.op x.op))
 

@@ -83,7 +83,7 @@ module _ (list : List Stuck) where
         go (inr (inl less)) = less
         go (inr (inr more)) = absurd (not_both (op_at list i) (op_at list j) b (before_at j i more hi))
 
--- what stands at the operation is found
+-- what is at the operation is found
 find_at : (list : List Stuck) (i : ℕ) (d : Stuck) (x : OpId) → IsInOrder list → i < length list → (get_or list i d).op ≡ x → find (λ (s : Stuck). same_op s.op x) list ≡ Some (get_or list i d)
 find_at [] i d x order inside e = absurd (omega (arith, inside))
 find_at (s ∷ rest) zero d x order inside e = cond-true (same_op s.op x) (Some s) (find (λ (r : Stuck). same_op r.op x) rest) (same_op_from s.op x e)

@@ -1,4 +1,4 @@
--- What the code makes of targets, heads and counts.
+-- The targets, heads and counts that the code computes.
 use Rattle.std.proofs.Common.{ℕ, suc, ◌+◌, ◌-◌, ◌<◌, ◌≤◌, ◌≡◌, ◌⊎◌, inl, inr, Bool, true, false, ◌==◌, List, [], ◌∷◌, ◌++◌, length, map, filter, take, get_or, set, count_by, is_none, sym, ap, ap₂, ◌∙◌, arith}
 use Rattle.std.specs.List.{before_first}
 use Rattle.std.proofs.lemmas.Bool.{cases_eq, cond-true, cond-false, eq-eqb, ne_eqb, false_from_ne_true}
@@ -18,7 +18,7 @@ use Rattle.sim_cycles.proofs.Walks.{head_below}
 use Rattle.sim_cycles.proofs.PlacesLemmas.{none_op, long_ops, op_read, one_place, next_at, closed}
 use Rattle.sim_cycles.proofs.KnotLemmas.{before_first-stop, before_first-go, head_test, comes_test, count_alike}
 
--- one head more is counted
+-- another head is counted
 pub counted : (heads counts : List ℕ) (at r : ℕ) → at < length heads → length counts ≡ length heads → get_or heads at 0 < length heads → ((i : ℕ) → i < length heads → get_or counts i 0 ≡ count_by (λ (h : ℕ). h == i) (take at heads)) → r ≡ get_or counts (get_or heads at 0) 0 → (i : ℕ) → i < length heads → get_or (set counts (get_or heads at 0) (r + 1)) i 0 ≡ count_by (λ (h : ℕ). h == i) (take (at + 1) heads)
 counted heads counts at r inside long below each is i hi = go (cases_eq i (get_or heads at 0))
   where
@@ -61,7 +61,7 @@ members_round list first at i ops all inside same rest =
     let stop : following list first (suc (length list - (i + 1))) at ≡ [] = before_first-stop (λ (y : OpId). same_op y (op_at list first)) (op_at list at) (way list (length list - (i + 1)) (step list (op_at list at))) (same_op_from _ _ (ap (op_at list) same)) in
     sym (ap (λ k. ops ++ following list first k at) n ∙ ap (λ (xs : List OpId). ops ++ xs) stop ∙ append-nil ops) ∙ rest
 
--- one operation more: it is the least of a knot, or it is not
+-- another operation: it is the least of a knot, or it is not
 pub knots_more : (list : List Stuck) (at : ℕ) (k : Knot) (found new : List Knot) → at < length list → found ≡ map (knot_at list) (filter (is_head list) (take at (stuck_ops list))) → is_head list (op_at list at) ≡ true → k ≡ knot_at list (op_at list at) → new ≡ found ++ k ∷ [] → new ≡ map (knot_at list) (filter (is_head list) (take (at + 1) (stuck_ops list)))
 knots_more list at k found new inside e head is more =
     let heads = filter (is_head list) (take at (stuck_ops list)) in
@@ -91,7 +91,7 @@ module _ (list : List Stuck) (ts hs : List ℕ) (order : IsInOrder list) (target
       let hi : i < length list = omega (arith, inside, n) in
       omega (arith, n, head_below (target_at ts) (length list) (closed list (target_at ts) targets.each) i (get_or hs i 0) hi (each_head i hi))
 
-  -- the head of its own place
+  -- a place that is its own head
   pub head_is : (at h : ℕ) → at < length list → h ≡ get_or hs at h → (h == at) ≡ is_head list (op_at list at)
   head_is at h inside e =
       let same : h ≡ get_or hs at 0 = e ∙ get_or_default hs at h 0 (omega (arith, inside, targets.long, heads.long)) in

@@ -1,4 +1,4 @@
--- Following a function on the numbers below n: where it leads, and which number is the least of those that come round.
+-- Following a function on the numbers below n: where it leads, and which number of a ring is the least.
 use Rattle.std.proofs.Common.{ℕ, zero, suc, ◌+◌, ◌-◌, ◌<◌, ◌≤◌, ◌≡◌, ◌⊎◌, inl, inr, ⊎_elim, refl, sym, ap, ◌∙◌, subst, arith, zero-add}
 use Rattle.std.proofs.lemmas.Bool.{cases_lt}
 use Rattle.sim_cycles.specs.Walks.{after, Leads, ComesBack, IsHeadOf}
@@ -47,7 +47,7 @@ module _ (t : ℕ → ℕ) where
     there = after_add a.steps b.steps x ∙ ap (after t b.steps) a.there ∙ b.there;
   }
 
-  -- those that come round lead back
+  -- a number of a ring leads back to each it leads to
   leads_back_from : (h : ℕ) → ComesBack t h → (k : ℕ) → Leads t (after t k h) h
   unfolding after
   leads_back_from h back zero = leads_itself h
@@ -94,7 +94,7 @@ module _ (t : ℕ → ℕ) where
   pub head_from : (x y h : ℕ) → Leads t x y → IsHeadOf t y h → IsHeadOf t x h
   head_from x y h r a = record { comes = leads_on x y h r a.comes; back = a.back; least = a.least }
 
-  -- a number that comes round after p + 1 steps meets only those of the first steps
+  -- a number that comes back after p + 1 steps leads only to those of the first steps
   round : (c p : ℕ) → after t (suc p) c ≡ c → (k : ℕ) → (j : ℕ) × (j ≤ p) × (after t k c ≡ after t j c)
   round c p back zero = (0, omega arith, refl)
   round c p back (suc k) = go (round c p back k)
@@ -109,7 +109,7 @@ module _ (t : ℕ → ℕ) where
           on (inl less) = (suc j, omega arith, e')
           on (inr more) = let same : j ≡ p = omega (arith, within) in (0, omega arith, e' ∙ ap (λ m. after t (suc m) c) same ∙ back ∙ sym (after_none c))
 
-  -- of those that come round with c the least is their head
+  -- of the numbers on a ring with c the least is their head
   pub head_at : (c p j h : ℕ) → after t (suc p) c ≡ c → h ≡ after t j c → ((i : ℕ) → i ≤ p → h ≤ after t i c) → IsHeadOf t c h
   head_at c p j h whole place least = record {
     comes = record { steps = j; there = sym place };
@@ -120,7 +120,7 @@ module _ (t : ℕ → ℕ) where
     least = λ k. let r = round c p whole (j + k) in omega (arith, least r.0 r.1, r.2, after_add j k c, ap (after t k) place);
   }
 
-  -- a number that comes round has a head
+  -- a number that comes back has a head
   pub head_of_round : (c : ℕ) → ComesBack t c → (h : ℕ) × IsHeadOf t c h
   head_of_round c back = go (least_at (λ k. after t k c) back.steps)
     where

@@ -1,4 +1,4 @@
--- The lines of knots. Every line ends with a line feed, and numbers are decimal.
+-- The lines of knots. Each ends with a line feed, and numbers are decimal.
 use Rattle.std.specs.Prelude.{ℕ, Bool, List, ◌++◌, codes, decimal, if◌then◌else◌}
 use Rattle.std.specs.List.{flat_map}
 use Rattle.goal_base.specs.Text.{line_feed}
@@ -18,6 +18,6 @@ member_text x = codes " " ++ id_text x
 abbrev pub knot_line : Knot → List ℕ
 knot_line k = knot_word k.lone ++ flat_map member_text k.members ++ codes " behind " ++ decimal k.behind ++ line_feed
 
--- a line for each
+-- the lines of knots, in order
 unfoldable pub knots_text : List Knot → List ℕ
 knots_text list = flat_map knot_line list

@@ -1,8 +1,8 @@
--- Following a function on numbers: where it leads, and which is the least of those that come round.
+-- Following a function on numbers: where it leads, and which number of a ring is the least.
 use Rattle.std.specs.Prelude.{ℕ, zero, suc, ◌≤◌, ◌≡◌}
 
 module _ (t : ℕ → ℕ) where
-  -- where so many steps lead
+  -- the number k steps after x
   unfoldable pub after : ℕ → ℕ → ℕ
   after zero x = x
   after (suc k) x = after k (t x)
@@ -17,7 +17,7 @@ module _ (t : ℕ → ℕ) where
     pub steps : ℕ
     pub there : after steps (t x) ≡ x
 
-  -- x leads to h, which is the least of those that come round with it
+  -- x leads to h, which is the least number of a ring
   pub record IsHeadOf (x h : ℕ) : Type 0 where
     pub comes : Leads x h
     pub back : ComesBack h

@@ -1,4 +1,4 @@
-// The least member of the knot of each stuck operation, by places in their list.
+//! The least member of the knot of each stuck operation, by places in their list.
 ghost use Rattle.std.specs.Prelude.{◌≡◌, ◌⊎◌, ◌<◌, ◌≤◌, ℕ, false, [], length, drop, All, Contains, IfOk, OnOk};
 ghost use Rattle.sim_cycles.specs.Walks.{IsHeadOf};
 ghost use Rattle.sim_cycles.specs.Places.{target_at, IsClosed, AreHeads, mark_at, is_unseen, AreMarks, AreSettled, StaySeen};
@@ -6,19 +6,19 @@ ghost use Rattle.sim_cycles.specs.declared.heads.Mark.TheVariants.{Known};
 
 use std::alloc::{AllocError, Global};
 
-/// What is known of an operation while the heads are looked for.
+/// What is known of an operation while the heads are searched.
 #[derive(Clone, Copy)]
 pub enum Mark {
-    /// No way came here yet.
+    /// No way has reached it.
     Unseen,
-    /// The way that is being walked came here after so many steps.
+    /// The way that is being walked reached it after this number of steps.
     OnWay(usize),
-    /// The head of its knot stands at this place.
+    /// The head of its knot is at this place.
     Known(usize),
 }
 
-/// For each place the head of its knot: the least of those that come round where the targets lead from there. Each place
-/// is walked through once, and each ring once more.
+/// Returns for each place the head of its knot: the least place of the ring to which the targets lead from there. Each
+/// place is visited once, and those of a ring once more. `Err` means out of memory.
 pub fn heads(alloc: Global, targets: &[usize]) -> Result<Vec<usize>, AllocError>
     requires { IsClosed targets.now }
     ensures { IfOk result (λ heads. AreHeads targets.now heads.items) }
@@ -43,7 +43,8 @@ fn mark_all(alloc: Global, targets: &[usize], marks: &mut [Mark]) -> Result<(), 
     Ok(())
 }
 
-// Walks from a place, marking the way, up to where a way was before. Gives the head of the knot to which it leads.
+// Walks from a place and marks the way, up to where a way has been before. Returns the head of the knot to which it
+// leads.
 fn walk(
     targets: &[usize],
     marks: &mut [Mark],
@@ -73,7 +74,7 @@ fn walk(
     }
 }
 
-// The least of the ring in which a way ends, from that step on.
+// The least place of the ring in which a way ends. The ring begins at the step `first`.
 fn least(way: &[usize], first: usize) -> usize
     requires { first < length way.now }
     ensures among { Contains (drop first way.now) result }
@@ -99,7 +100,7 @@ fn settle(marks: &mut [Mark], way: &[usize], head: usize)
     }
 }
 
-// The heads that all the marks name.
+// The heads that the marks name.
 fn known(alloc: Global, targets: &[usize], marks: &[Mark]) -> Result<Vec<usize>, AllocError>
     requires { AreSettled targets.now marks.now (length targets.now) }
     ensures { IfOk result (λ heads. AreHeads targets.now heads.items) }

@@ -1,4 +1,4 @@
-// A knot of stuck operations.
+//! A knot of stuck operations.
 ghost use Rattle.std.specs.Prelude.{◌≡◌};
 
 use goal_graph::OpId;
@@ -28,7 +28,7 @@ impl From<Vec<OpId>> for OpList {
 }
 
 impl OpList {
-    /// The operations.
+    /// Returns the operations.
     pub fn as_slice(&self) -> &[OpId]
         ensures { result.now ≡ self.now }
     {
@@ -36,13 +36,13 @@ impl OpList {
     }
 }
 
-/// The operations at which the reasons of some stuck operations end.
+/// The operations at which following the reasons of some stuck operations ends.
 #[derive(Debug, Drop)]
 pub struct Knot {
-    /// The knot is one operation that is alone; else its members wait for one another in a ring.
+    /// Whether the knot is one operation that is alone. Otherwise its members wait for one another in a ring.
     pub lone: bool,
-    /// The members, from the least by rank and number, each before the one that its reason names.
+    /// The members, from the least by rank and number on, each before the one that its reason names.
     pub members: OpList,
-    /// How many stuck operations end here, the members included.
+    /// The number of stuck operations that lead here, the members included.
     pub behind: u32,
 }

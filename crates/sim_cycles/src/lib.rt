@@ -1,7 +1,7 @@
-//! Circular waits: which stuck operations hold up the rest.
+//! Circular waits: which stuck operations hold up the others.
 //!
-//! `specs/Knots` says what a knot is: following each stuck operation's reason to the operation that it names ends at one
-//! that is alone, or goes round a ring.
+//! `specs/Knots` says what a knot is. Following the reason of a stuck operation to the operation that it names, and on
+//! from there, ends at one that is alone, or in a ring.
 #![tactic(auto)]
 
 mod heads;

@@ -1,4 +1,4 @@
-// The knots of stuck operations.
+//! The knots of stuck operations.
 ghost use Rattle.std.specs.Prelude.{◌≡◌, ◌≤◌, ◌<◌, ℕ, length, slice_index, is_none, IfOk};
 ghost use Rattle.goal_limits.specs.declared.limits.TheConstants.{MAX_OPS};
 ghost use Rattle.sim_cycles.specs.Knots.{named, members, knots};
@@ -12,15 +12,14 @@ use goal_graph::{Stuck, Why};
 use goal_limits::NoMemory;
 use std::alloc::{AllocError, Global};
 
-/// The knots of a list of stuck operations, by their least members.
+/// Returns the knots of a list of stuck operations, in the order of their least members.
 ///
 /// Each operation leads to the one that its reason names. Following that from any of them ends at one that is alone, or
-/// goes round a ring: its knot. Of each knot the members are listed from the least on, in the order of following, and it
-/// is counted how many operations lead there, the members included.
+/// in a ring: this is its knot. The members of a knot are listed from the least on, in the order of following. `behind`
+/// is the number of operations that lead there, the members included.
 ///
-/// The list has at most 2^20 operations, by rank and number, and each that a reason names is one of them. Takes time in
-/// proportion to the length of the list, and its logarithm for the places of what the reasons name. `NoMemory` where
-/// memory ran out.
+/// The list has at most 2^20 operations, ordered by rank and number, and each that a reason names is one of them. Takes
+/// time proportional to n log n for a list of n. `Err` means out of memory.
 pub fn knots(alloc: Global, list: &[Stuck]) -> Result<Vec<Knot>, NoMemory>
     requires short { length list.now ≤ MAX_OPS }
     requires order { IsInOrder list.now }
@@ -54,7 +53,7 @@ fn is_alone(why: Why) -> bool
     }
 }
 
-// How many operations each place is the head of.
+// The number of places of which each place is the head.
 fn counts(alloc: Global, heads: &[usize]) -> Result<Vec<u32>, AllocError>
     requires short { length heads.now ≤ MAX_OPS }
     requires inside { (i : ℕ) → i < length heads.now → slice_index heads.now i < length heads.now }
@@ -67,7 +66,7 @@ fn counts(alloc: Global, heads: &[usize]) -> Result<Vec<u32>, AllocError>
     Ok(counts)
 }
 
-// The members of a knot from the place of one on, in the order of following.
+// The members of a knot, from the one at `first` on, in the order of following.
 fn members(
     alloc: Global,
     list: &[Stuck],

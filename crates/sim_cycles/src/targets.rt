@@ -1,4 +1,4 @@
-// Whom stuck operations wait for, by places in their list.
+//! Which operations stuck ones wait for, by places in their list.
 ghost use Rattle.std.specs.Prelude.{◌≡◌, ◌<◌, length, Contains, IfOk};
 ghost use Rattle.sim_cycles.specs.Knots.{named, stuck_ops};
 ghost use Rattle.sim_cycles.specs.Laws.{IsInOrder, NamesListed};
@@ -7,7 +7,8 @@ ghost use Rattle.sim_cycles.specs.Places.{op_at, AreTargets};
 use goal_graph::{OpId, Stuck, Why};
 use std::alloc::{AllocError, Global};
 
-/// For each stuck operation the place of the one that its reason names, and its own where it is alone.
+/// Returns for each stuck operation the place of the one that its reason names, or its own if it is alone. `Err` means
+/// out of memory.
 pub fn targets(alloc: Global, list: &[Stuck]) -> Result<Vec<usize>, AllocError>
     requires order { IsInOrder list.now }
     requires listed { NamesListed list.now }

@@ -1,4 +1,4 @@
-// The lines of knots.
+//! The lines of knots.
 ghost use Rattle.std.specs.Prelude.{◌≡◌, ◌++◌, OnOk, IfOk};
 ghost use Rattle.std.specs.List.{flat_map};
 ghost use Rattle.sim_cycles.specs.KnotsText.{knot_word, member_text, knot_line, knots_text};
@@ -9,8 +9,8 @@ use goal_graph::OpId;
 use goal_limits::NoMemory;
 use std::alloc::Global;
 
-/// A line for each knot, in the order of the list: `alone R I behind N`, or `ring`, each member as ` R I`, and
-/// ` behind N`.
+/// Returns a line for each knot, in the order of the list: `alone R I behind N`, or `ring`, each member as ` R I`, and
+/// ` behind N`. `Err` means out of memory.
 pub fn knots_text(alloc: Global, list: &[Knot]) -> Result<Vec<u8>, NoMemory>
     ensures { IfOk result (λ text. text.items ≡ knots_text list.now) }
 {
