@@ -28,7 +28,7 @@ greatest_agree f g [] same = refl
 greatest_agree f g (x ∷ xs) same =
     ap₂ max (same x (contains_first x xs x refl)) (greatest_agree f g xs (λ y c. same y (contains_more x xs y c)))
 
--- a test that passed did so by an action of the history
+-- a test that holds has held since one of the actions of the history
 since_within : (test : List Act → Bool) (n : ℕ) (h : List Timed) → All (λ (b : Timed). b.time ≤ n) h → since test h ≤ n
 unfolding since
 since_within test n [] each = omega arith
@@ -47,7 +47,7 @@ module _ (plans : List Plan) (costs : CostModel) where
   met_kept a h AfterEnd y run e = end_kept plans costs a h y (run_each plans costs h run) e
   met_kept a h AfterStart y run e = start_kept plans costs a h y e
 
-  -- the ready time of what is ready stays
+  -- the ready time of an operation that is ready stays
   ready_kept : (a : Timed) (h : List Timed) (x : OpId) → IsRun plans costs h → is_ready plans (is_eager plans costs) (plain h) x ≡ true → ready plans costs (a ∷ h) x ≡ ready plans costs h x
   unfolding ready
   ready_kept a h x run e =
@@ -94,7 +94,7 @@ module _ (plans : List Plan) (costs : CostModel) where
             let found = first_time a h x next.possible (is_act_class _ x (plain_act a) is) (is_act_op _ x (plain_act a) is) in
             omega (arith, found.1, ready_kept a h x run found.0, since_new (has_started plans x) a h f s)
 
-    -- and no operation starts after its last action
+    -- an operation does not start after its last action
     start_last : (h : List Timed) (x : OpId) → IsRun plans costs h → ended plans costs h x ≡ true → start plans costs h x ≤ last_time plans costs h x
     unfolding plain
     start_last [] x run e =
@@ -110,7 +110,7 @@ module _ (plans : List Plan) (costs : CostModel) where
         now f =
             omega (arith, since_within (has_started plans x) a.time (a ∷ h) (All-cons (λ (b : Timed). b.time ≤ a.time) a h (omega arith) (last plans costs h a (run, next))), since_new (has_ended plans (is_eager plans costs) x) a h f e)
 
-    -- an operation that has ended was ready when its last action came, or before
+    -- an operation that has ended was ready when its last action happened, or before
     pub ready_last : (h : List Timed) (x : OpId) → IsRun plans costs h → ended plans costs h x ≡ true → ready plans costs h x ≤ last_time plans costs h x
     ready_last h x run e =
         le_trans (ready_start h x run (ended_started plans (is_eager plans costs) (plain h) x (run_interleaving plans costs h run) e)) (start_last h x run e)

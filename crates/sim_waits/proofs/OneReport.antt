@@ -13,7 +13,7 @@ module _ {X : Type 0} (R : X → X → Type 0) (asymmetric : (x y : X) → R x y
   abbrev IsCovered : ℕ → List X → X → Type 0
   IsCovered n ys x = Contains ys x ⊎ ((length ys ≡ n) × All (λ (y : X). R y x) ys)
 
-  -- what is among the rest of a list comes after its first
+  -- an element after the first of a list comes after it in the order
   after_first : (x : X) (xs : List X) → AllPairs R (x ∷ xs) → All (R x) xs
   after_first x xs pairs k d h = pairs 0 (suc k) d (omega arith) (omega arith)
 
@@ -41,7 +41,7 @@ module _ {X : Type 0} (R : X → X → Type 0) (asymmetric : (x y : X) → R x y
           elim (contains_parts y ys z c) [ inl e ↦ absurd (asymmetric x z later (subst (λ (w : X). R w x) e (subst (λ (w : X). R y w) (sym same) (subst (λ (w : X). R w w) same (subst (λ (w : X). R x w) (sym e ∙ sym same) later))))) | inr c ↦ inl c ]
       go (inr full) = inr (omega (arith, full.0), λ i d h. full.1 (suc i) d (omega (arith, h)))
 
-  -- two lists in order, each of which has what goes before all that it leaves out, are one
+  -- two lists in order are equal if each contains all that goes before what it leaves out
   one_list : (n : ℕ) (xs ys : List X) → AllPairs R xs → AllPairs R ys → length xs ≤ n → length ys ≤ n
       → ((z : X) → Contains xs z → IsCovered n ys z) → ((z : X) → Contains ys z → IsCovered n xs z) → xs ≡ ys
   one_list n [] [] p q l m a b = refl

@@ -1,4 +1,4 @@
--- What the line of a rank tells, one operation after another, and the lines of ranks, one after another.
+-- The contents of the line of a rank, one operation after another, and the lines of ranks, one after another.
 use Rattle.std.proofs.Common.{◌≡◌, ℕ, ◌+◌, ◌*◌, ◌^◌, ◌<◌, ◌≤◌, Bool, true, false, cond, List, [], ◌∷◌, ◌++◌, length, drop, Option, Some, None, is_some, unwrap_or, if◌then◌else◌, count_by, sum_by, get_or, refl, sym, ap, ◌∙◌, arith}
 use Rattle.std.proofs.lemmas.Option.{slice_get-get_or}
 use Rattle.std.proofs.lemmas.List.{at_drop_more, at_drop_all}
@@ -29,7 +29,7 @@ module _ (plans : List Plan) (costs : CostModel) (h : List Timed) where
       go false = refl
 
   module _ (rank : ℕ) where
-    -- these are the number and the waits of the operations of the rank below a number, where the rest adds its own
+    -- `count` and `total` are of the operations of the rank before number `op`, and the rest adds its own
     pub record IsSummed (op count total : ℕ) : Type 0 where
       pub counted : count + count_by (ended plans costs h) (places_of_rank rank op (drop op (ops_at plans rank))) ≡ count_by (ended plans costs h) (places_at plans rank)
       pub summed : total + sum_by (wait_or_zero plans costs h) (places_of_rank rank op (drop op (ops_at plans rank))) ≡ sum_by (wait_or_zero plans costs h) (places_at plans rank)

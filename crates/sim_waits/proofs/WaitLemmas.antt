@@ -1,4 +1,4 @@
--- How long the last action of an operation holds its cpu, and its wait as it is computed.
+-- How long the last action of an operation holds its cpu, and its wait as the code computes it.
 use Rattle.std.proofs.Common.{◌≡◌, ℕ, ◌-◌, Bool, true, false, List, Option, Some, None, if◌then◌else◌, refl, sym, ap, ◌∙◌, subst, arith}
 use Rattle.std.proofs.lemmas.Option.{same_Some}
 use Rattle.goal_graph.specs.declared.action.OpId.{OpId}
@@ -19,17 +19,17 @@ use Rattle.sim_events.specs.Enabled.{ready_known}
 use Rattle.sim_waits.specs.Waits.{ended, wait}
 use Rattle.sim_waits.specs.WaitKeys.{wait_told}
 
--- what an operation does, as it is read
+-- the kind of an operation that was read
 pub kind_read : (plans read : List Plan) (x : OpId) (o : Op) (k : Kind) → read ≡ plans → op_at read x ≡ Some o → o.kind ≡ k → kind_at plans x ≡ Some k
 kind_read plans read x o k same found is =
     kind_from_op plans x o k (subst (λ (ps : List Plan). op_at ps x ≡ Some o) same found) is
 
--- a cost at an operation of that kind
+-- a cost at an operation of this kind
 pub cost_at : (f : ℕ → ℕ → ℕ → ℕ) (rank : ℕ) (o : Option Kind) (k : Kind) → o ≡ Some k → cost_of f rank (Some k) ≡ cost_of f rank o
 cost_at f rank o k e = ap (cost_of f rank) (sym e)
 
 module _ (plans : List Plan) (costs : CostModel) (h : List Timed) (x : OpId) where
-  -- how long the last action of x holds its cpu, where it is of that kind
+  -- how long the last action of x holds its cpu, if it has this kind
   abbrev pub hold_of : Option Kind → ℕ
   hold_of k = cpu_hold plans costs h (last_class (is_eager plans costs x) k) x k
 
@@ -46,7 +46,7 @@ module _ (plans : List Plan) (costs : CostModel) (h : List Timed) (x : OpId) whe
   pub hold_recv : (room : ℕ) (from tag : Option ℕ) (m : Option OpId) → kind_at plans x ≡ Some (Recv room from tag) → m ≡ mate plans costs h x → at_partner (over plans costs) m ≡ hold_of (kind_at plans x)
   hold_recv room from tag m k e = ap (at_partner (over plans costs)) e ∙ ap hold_of (sym k)
 
-  -- what has an end has that one
+  -- the end of an operation, once it has one
   pub end_is : (n : ℕ) → Some n ≡ end_known plans costs h x → (ended plans costs h x ≡ true) × (n ≡ end plans costs h x)
   end_is n = go (ended plans costs h x) refl
     where

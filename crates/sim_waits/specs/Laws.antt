@@ -1,4 +1,4 @@
--- The laws of reports: `laws_of_waits` ensures each.
+-- The laws of reports. `laws_of_waits` ensures each.
 use Rattle.std.specs.Prelude.{ℕ, ◌+◌, ◌≡◌, ◌≤◌, true, List}
 use Rattle.goal_graph.specs.declared.action.OpId.{OpId}
 use Rattle.goal_graph.specs.declared.action.Timed.{Timed}
@@ -16,14 +16,14 @@ OneReport = (plans : List Plan) (costs : CostModel) (h : List Timed) (one other 
     → IsWaitsText plans costs h other
     → one ≡ other
 
--- an operation that has ended was ready when its last action came, or before
+-- an operation that has ended was ready when its last action happened, or before
 abbrev pub ReadyIsNotLater : Type 0
 ReadyIsNotLater = (plans : List Plan) (costs : CostModel) (h : List Timed) (x : OpId)
     → IsRun plans costs h
     → ended plans costs h x ≡ true
     → ready plans costs h x ≤ last_time plans costs h x
 
--- so its wait is the whole difference
+-- so its wait is the difference of the two times
 abbrev pub WaitIsExact : Type 0
 WaitIsExact = (plans : List Plan) (costs : CostModel) (h : List Timed) (x : OpId)
     → IsRun plans costs h

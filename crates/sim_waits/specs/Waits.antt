@@ -15,15 +15,15 @@ module _ (plans : List Plan) (costs : CostModel) (h : List Timed) where
   abbrev pub ended : OpId → Bool
   ended x = has_ended plans (is_eager plans costs) x (plain h)
 
-  -- the time of the last action of x: that from which its end is counted
+  -- the time of the last action of x, from which its end is computed
   abbrev pub last_time : OpId → ℕ
   last_time x = since (has_ended plans (is_eager plans costs) x) h
 
-  -- the wait of an ended operation: the time of its last action less its ready time
+  -- the wait of an operation that has ended: the time of its last action less its ready time
   unfoldable pub wait : OpId → ℕ
   wait x = last_time x - ready plans costs h x
 
-  -- the wait of an operation that has ended, 0 of any other
+  -- the wait of an operation that has ended; 0 for any other
   abbrev pub wait_or_zero : OpId → ℕ
   wait_or_zero x = if ended x then wait x else 0
 
@@ -33,11 +33,11 @@ module _ (plans : List Plan) (costs : CostModel) (h : List Timed) where
     pub ended : ended x ≡ true
     pub waited : 0 < wait x
 
-  -- x has the greater wait; of equal waits the operation that is earlier by rank and number goes first
+  -- x has the greater wait, or the same and is before y by rank and number
   abbrev pub GoesFirst : OpId → OpId → Type 0
   GoesFirst x y = (wait y < wait x) ⊎ ((wait y ≡ wait x) × IsBefore x y)
 
-  -- The operations of the greatest waits above 0, in order: ten, or all where there are fewer. Each goes before those
+  -- The operations of the greatest waits above 0, in order: ten, or all if there are fewer. Each goes before those
   -- after it in the list, and before all that are left out.
   pub record AreGreatest (list : List OpId) : Type 0 where
     pub few : length list ≤ 10

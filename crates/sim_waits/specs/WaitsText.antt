@@ -1,4 +1,4 @@
--- The report on waits. Every line ends with a line feed, and numbers are decimal.
+-- The report on waits. Each line ends with a line feed, and numbers are decimal.
 use Rattle.std.specs.Prelude.{ℕ, ◌+◌, ◌≡◌, List, [], ◌∷◌, ◌++◌, Option, Some, None, codes, decimal, count_by, nat_lt, if◌then◌else◌}
 use Rattle.std.specs.List.{flat_map, sum_by}
 use Rattle.goal_base.specs.Text.{line_feed}
@@ -21,18 +21,18 @@ rank_line rank count total =
 abbrev pub wait_line : OpId → ℕ → List ℕ
 wait_line x nanos = codes "wait " ++ id_text x ++ codes " " ++ decimal nanos ++ line_feed
 
--- a receive, its bytes and those of its message
+-- a receive, its room and the size of its message, in bytes
 abbrev pub oversize_line : OpId → ℕ → ℕ → List ℕ
 oversize_line x room message =
     codes "oversize " ++ id_text x ++ codes " room " ++ decimal room ++ codes " message " ++ decimal message ++ line_feed
 
--- the line of a receive that takes a message with more bytes than it has; nothing of what else an operation is
+-- the line of a receive that takes a message larger than its room; empty for every other operation
 abbrev pub oversize_by : OpId → Option Kind → Option Kind → List ℕ
 oversize_by x (Some (Recv room from tag)) (Some (Send bytes to with_tag)) =
     if nat_lt room bytes then oversize_line x room bytes else []
 oversize_by x _ _ = []
 
--- what the partner of an operation does, if it has one
+-- the kind of the partner of an operation, if it has one
 abbrev pub kind_of_partner : List Plan → Option OpId → Option Kind
 kind_of_partner plans None = None
 kind_of_partner plans (Some y) = kind_at plans y
@@ -43,7 +43,7 @@ module _ (plans : List Plan) (costs : CostModel) (h : List Timed) where
   line_of_rank rank ops =
       rank_line rank (count_by (ended plans costs h) ops) (sum_by (wait_or_zero plans costs h) ops)
 
-  -- the lines of ranks with these plans, the first of which has the number given
+  -- the lines of the ranks of these plans, from the number `rank` on
   unfoldable pub rank_lines : ℕ → List Plan → List ℕ
   rank_lines rank [] = []
   rank_lines rank (p ∷ ps) = line_of_rank rank (places_of_rank rank 0 p.ops) ++ rank_lines (rank + 1) ps
@@ -51,12 +51,12 @@ module _ (plans : List Plan) (costs : CostModel) (h : List Timed) where
   abbrev pub wait_line_of : OpId → List ℕ
   wait_line_of x = wait_line x (wait plans costs h x)
 
-  -- the line of a receive with less room than its message
+  -- the line of an operation; empty unless it is a receive with a larger message than its room
   unfoldable pub oversize_of : OpId → List ℕ
   oversize_of x = oversize_by x (kind_at plans x) (kind_of_partner plans (mate plans costs h x))
 
-  -- a line for each rank, a line for each of these operations, and the lines of all receives with less room than
-  -- their messages, by rank and number
+  -- a line for each rank, a line for each of the operations `longest`, and the lines of all receives whose messages are
+  -- larger than their room, by rank and number
   unfoldable pub waits_text : List OpId → List ℕ
   waits_text longest =
       rank_lines 0 plans ++ flat_map wait_line_of longest ++ flat_map oversize_of (operations plans)

@@ -1,5 +1,5 @@
-//! The report on waits: how long operations waited from when they were ready, which waited longest, and which receives
-//! have less room than their messages.
+//! The report on waits: how long operations waited after they were ready, which waited longest, and which receives have
+//! less room than their messages.
 #![tactic(auto)]
 
 mod laws;

@@ -1,4 +1,4 @@
-// Receives that have less room than their messages.
+//! Receives with less room than their messages.
 ghost use Rattle.std.specs.Prelude.{◌≡◌, ◌++◌, OnOk, Some};
 ghost use Rattle.std.specs.List.{flat_map};
 ghost use Rattle.goal_graph.specs.Schedule.{operations, kind_at};
@@ -12,7 +12,8 @@ use goal_limits::NoMemory;
 use sim_events::{Engine, History};
 use sim_params::Costs;
 
-/// Appends the lines of the receives that take a message with more bytes than they have, by rank and number.
+/// Appends the lines of the receives that take messages larger than their room, by rank and number. `Err` means out of
+/// memory.
 pub fn put_oversize<C: Costs, H: History>(
     out: &mut TextOut,
     engine: &Engine<'_, C, H>,
@@ -26,7 +27,7 @@ pub fn put_oversize<C: Costs, H: History>(
     Ok(())
 }
 
-// What the partner of an operation does, if it has one.
+// The kind of the partner of an operation, if it has one.
 fn message<C: Costs, H: History>(engine: &Engine<'_, C, H>, id: OpId) -> Option<Kind>
     requires { IsOp engine.now.plans id }
     ensures { result ≡ kind_of_partner engine.now.plans
@@ -38,8 +39,8 @@ fn message<C: Costs, H: History>(engine: &Engine<'_, C, H>, id: OpId) -> Option<
     }
 }
 
-// Appends the line of an operation of that kind, whose partner is of the kind `message`: that of a receive with less room
-// than its message, else nothing.
+// Appends the line of an operation of this kind, whose partner has the kind `message`. Only a receive with a larger
+// message than its room has a line.
 fn put_receive(
     out: &mut TextOut,
     id: OpId,
@@ -56,7 +57,7 @@ fn put_receive(
     }
 }
 
-// Appends the line of a receive: its bytes and those of its message.
+// Appends the line of a receive: its room and the size of its message.
 fn put_line(out: &mut TextOut, id: OpId, room: u64, message: u64) -> Result<(), NoMemory>
     ensures { OnOk result (out.new ≡ out.old ++ oversize_line id room message) }
 {

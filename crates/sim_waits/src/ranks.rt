@@ -1,4 +1,4 @@
-// The line of each rank.
+//! The line of each rank.
 ghost use Rattle.std.specs.Prelude.{◌≡◌, ◌+◌, ◌-◌, ◌++◌, ◌<◌, ◌≤◌, ◌^◌, length, OnOk, is_some, unwrap_or, count_by, sum_by, if◌then◌else◌};
 ghost use Rattle.goal_graph.specs.Schedule.{operations};
 ghost use Rattle.sim_waits.specs.Waits.{ended, wait_or_zero};
@@ -12,7 +12,7 @@ use goal_limits::NoMemory;
 use sim_events::{Engine, History};
 use sim_params::Costs;
 
-/// Appends the line of each rank, in order.
+/// Appends the line of each rank, in order. `Err` means out of memory.
 pub fn put_ranks<C: Costs, H: History>(
     out: &mut TextOut,
     engine: &Engine<'_, C, H>,
@@ -27,7 +27,7 @@ pub fn put_ranks<C: Costs, H: History>(
     Ok(())
 }
 
-// What the line of a rank tells: how many of its operations have ended, and how long these waited, all together.
+// The contents of the line of a rank: how many of its operations have ended, and the sum of their waits in nanoseconds.
 #[derive(Clone, Copy)]
 struct RankWaits {
     ended: u32,
@@ -35,7 +35,7 @@ struct RankWaits {
 }
 
 impl RankWaits {
-    // The same of these operations and one more; `wait` is how long it waited, if it has ended.
+    // The same with one more operation; `wait` is how long it waited, if it has ended.
     fn with(self, wait: Option<u64>) -> RankWaits
         requires count_fits { self.ended < 2 ^ 32 - 1 }
         requires total_fits { self.total < 2 ^ 127 }
@@ -53,7 +53,7 @@ impl RankWaits {
     }
 }
 
-// What the line of a rank tells.
+// Returns the contents of the line of a rank.
 fn rank_waits<C: Costs, H: History>(engine: &Engine<'_, C, H>, rank: u32) -> RankWaits
     requires { rank < length engine.now.plans }
     ensures ended { result.ended ≡ count_by (ended engine.now.plans (C.model engine.now.costs) engine.now.history)

@@ -1,4 +1,4 @@
-// The whole report.
+//! The whole report.
 ghost use Rattle.std.specs.Prelude.{◌≡◌, IfOk};
 ghost use Rattle.sim_waits.specs.WaitsText.{IsWaitsText};
 
@@ -14,13 +14,16 @@ use std::alloc::Global;
 use std::marker::Brand;
 use std::sync::ledger::Blank;
 
-/// The report on the waits of a run, in nanoseconds: a line `rank R ended N wait W` for each rank, with the number of its
-/// operations that have ended and the sum of their waits; up to ten lines `wait R I W`, with the greatest waits above 0,
-/// the greater first and of equal ones the lesser operation; and a line `oversize R I room C message B` for each receive
-/// that takes a message with more bytes than it has.
+/// Returns the report on the waits of a run, in nanoseconds:
 ///
-/// The wait of an operation that has ended is the time of its last action less its ready time. `NoMemory` where memory
-/// ran out.
+/// - a line `rank R ended N wait W` for each rank, with the number of its operations that have ended and the sum of
+///   their waits;
+/// - up to ten lines `wait R I W`, with the greatest waits above 0, the greater first and of equal ones the lesser
+///   operation;
+/// - a line `oversize R I room C message B` for each receive that takes a message larger than its room.
+///
+/// The wait of an operation that has ended is the time of its last action less its ready time. `Err` means out of
+/// memory.
 pub fn waits<C: Costs, H: History>(
     alloc: Global,
     sched: &Sched,

@@ -1,4 +1,4 @@
-// How long an operation waited.
+//! How long an operation waited.
 ghost use Rattle.std.specs.Prelude.{◌≡◌};
 ghost use Rattle.goal_graph.specs.Schedule.{kind_at};
 ghost use Rattle.goal_graph.specs.Fault.{IsOp};
@@ -13,7 +13,7 @@ use goal_graph::{Kind, OpId, When};
 use sim_events::{Engine, History};
 use sim_params::Costs;
 
-/// How long an operation waited, in nanoseconds, once it has ended: from when it was ready to its last action.
+/// Returns how long an operation waited, in nanoseconds, once it has ended: from its ready time to its last action.
 pub fn wait<C: Costs, H: History>(engine: &Engine<'_, C, H>, id: OpId) -> Option<u64>
     requires { IsOp engine.now.plans id }
     ensures { result ≡ wait_told engine.now.plans (C.model engine.now.costs) engine.now.history id }
@@ -25,7 +25,7 @@ pub fn wait<C: Costs, H: History>(engine: &Engine<'_, C, H>, id: OpId) -> Option
     Some(end - last_hold(engine, id) - ready)
 }
 
-// How long the last action of an operation holds its cpu.
+// How long the last action of an operation holds its cpu, in nanoseconds.
 fn last_hold<C: Costs, H: History>(engine: &Engine<'_, C, H>, id: OpId) -> u64
     requires { IsOp engine.now.plans id }
     ensures { result ≡ cpu_hold engine.now.plans (C.model engine.now.costs) engine.now.history
@@ -42,7 +42,7 @@ fn last_hold<C: Costs, H: History>(engine: &Engine<'_, C, H>, id: OpId) -> u64
     }
 }
 
-// How long the message of a send holds a cpu; 0 where the operation is none.
+// How long the message of a send holds a cpu; 0 for any other operation.
 fn over<C: Costs, H: History>(engine: &Engine<'_, C, H>, id: OpId) -> u64
     requires { IsOp engine.now.plans id }
     ensures { result ≡ over engine.now.plans (C.model engine.now.costs) id }
@@ -54,7 +54,7 @@ fn over<C: Costs, H: History>(engine: &Engine<'_, C, H>, id: OpId) -> u64
     }
 }
 
-// When all that an operation needs is there, once it is.
+// When all that an operation needs has happened, once it has.
 fn ready<C: Costs, H: History>(engine: &Engine<'_, C, H>, id: OpId) -> Option<u64>
     requires { IsOp engine.now.plans id }
     ensures { result ≡ ready_known engine.now.plans (C.model engine.now.costs) engine.now.history id }
@@ -73,7 +73,7 @@ fn ready<C: Costs, H: History>(engine: &Engine<'_, C, H>, id: OpId) -> Option<u6
     Some(ready)
 }
 
-// The moment of an operation that a dependency waits for, once it is there.
+// The start or end of an operation that a dependency waits for, once it has happened.
 fn moment<C: Costs, H: History>(engine: &Engine<'_, C, H>, when: When, id: OpId) -> Option<u64>
     requires { IsOp engine.now.plans id }
     ensures { result ≡ moment_known engine.now.plans (C.model engine.now.costs) engine.now.history when id }
