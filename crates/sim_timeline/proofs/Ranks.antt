@@ -66,7 +66,7 @@ module _ (plans : List Plan) where
   pub before_all : before_rank plans (length plans) ≡ length (operations plans)
   before_all = ap (λ (ps : List Plan). length (operations ps)) (take_all (length plans) plans (omega arith))
 
-  -- the place of an operation among all
+  -- the index of an operation among all
   pub at_place : (rank op : ℕ) (x : OpId) → op < length (ops_at plans rank) → get_or (operations plans) (before_rank plans rank + op) x ≡ record { rank = rank; op = op }
   at_place rank op x inside = place_from 0 plans rank op x inside ∙ ap (λ n. record { rank = n; op = op }) (zero-add rank)
 

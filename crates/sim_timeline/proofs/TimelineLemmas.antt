@@ -43,7 +43,7 @@ started : (b : Bool) (n : ℕ) → is_some (cond b (Some n) None) ≡ b
 started true n = refl
 started false n = refl
 
--- where two texts are none, the first is none
+-- if two texts together are empty, the first is empty
 no_front : {A : Type 0} (xs ys : List A) → xs ++ ys ≡ [] → xs ≡ []
 no_front [] ys none = refl
 no_front (x ∷ xs) ys none = absurd (cc)
@@ -74,18 +74,18 @@ module _ (plans : List Plan) (costs : CostModel) (h : List Timed) where
   unfolding first_line
   first_line_is stuck unread finish s = rw (s.stuck_is, s.unread_is, s.finish_is) refl
 
-  -- the line of an operation that is there
+  -- the line of an operation that exists
   pub line_is : (x : OpId) (o : Op) → op_at plans x ≡ Some o
       → operation_line x o.kind (start_known plans costs h x) (end_known plans costs h x) (partner (pairs plans (plain h)) x) ≡ line_of plans costs h x
   unfolding line_of
   line_is x o found = ap (line_by plans costs h x) (sym (at_kind plans x o found))
 
-  -- the line of an operation that is there is not empty
+  -- the line of an operation that exists is not empty
   line_not_empty : (x : OpId) (o : Option Op) → op_at plans x ≡ o → is_some o ≡ true → line_of plans costs h x ≡ [] → ⊥
   line_not_empty x None found there empty = cc
   line_not_empty x (Some o) found there empty = let line = line_is x o found ∙ empty in cc
 
-  -- where the first lines of operations are no text, there are no operations
+  -- if the lines of the first operations are empty, there are no operations
   pub no_line_left : (xs : List OpId) (count : ℕ) → (0 < length xs → 0 < count) → All (IsOp plans) xs
       → flat_map (line_of plans costs h) (take count xs) ≡ [] → flat_map (line_of plans costs h) xs ≡ []
   no_line_left [] count some exist empty = refl
@@ -94,7 +94,7 @@ module _ (plans : List Plan) (costs : CostModel) (h : List Timed) where
       absurd (line_not_empty x (op_at plans x) refl (All-head (IsOp plans) x xs exist)
       (no_front (line_of plans costs h x) (flat_map (line_of plans costs h) (take count xs)) empty))
 
--- a page, and then what is left
+-- a page, and what is left after it
 pub page_and_rest : {X A : Type 0} (f : X → List A) (xs : List X) (done count : ℕ)
     → flat_map f (drop done xs) ≡ flat_map f (take count (drop done xs)) ++ flat_map f (drop (done + count) xs)
 page_and_rest f xs done count =

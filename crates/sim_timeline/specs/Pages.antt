@@ -1,4 +1,4 @@
--- What is told of some of the operations, while the first line is made and the lines are printed.
+-- Summaries of some of the operations, and the lines that are left to print.
 use Rattle.std.specs.Prelude.{ℕ, ◌≡◌, ◌&&◌, Bool, not, List, length, Option, is_some, take, drop, count_by}
 use Rattle.std.specs.List.{flat_map}
 use Rattle.goal_graph.specs.declared.action.OpId.{OpId}
@@ -10,21 +10,21 @@ use Rattle.sim_params.specs.Times.{greatest}
 use Rattle.sim_params.specs.Stuck.{lacks_end}
 use Rattle.sim_timeline.specs.Timeline.{is_send, is_unread, end_or_zero, line_of}
 
--- a message that has begun and that no receive takes, by its kind, its start and its partner
+-- a send that has begun and is not paired, by its kind, its start and its partner
 abbrev pub is_unread_send : Option Kind → Option ℕ → Option OpId → Bool
 is_unread_send kind start partner = is_send kind && is_some start && not (is_some partner)
 
--- how many operations the ranks before this one have
+-- the number of operations of the ranks before this one
 abbrev pub before_rank : List Plan → ℕ → ℕ
 before_rank plans rank = length (operations (take rank plans))
 
 module _ (plans : List Plan) (costs : CostModel) (h : List Timed) where
-  -- what the first line tells of these operations
+  -- the numbers of the first line, if these were all the operations
   pub record IsSummary (ops : List OpId) (stuck unread finish : ℕ) : Type 0 where
     pub stuck_is : stuck ≡ count_by (lacks_end plans costs h) ops
     pub unread_is : unread ≡ count_by (is_unread plans costs h) ops
     pub finish_is : finish ≡ greatest (end_or_zero plans costs h) ops
 
-  -- the lines of all operations but so many, by rank and number
+  -- the lines of the operations from the index `done` on, in the order of all
   abbrev pub lines_from : ℕ → List ℕ
   lines_from done = flat_map (line_of plans costs h) (drop done (operations plans))

@@ -1,4 +1,4 @@
--- The printed run: a line on the whole, then a line for each operation. Every line ends with a line feed, and numbers
+-- The printed run: a line on the whole, then a line for each operation. Each line ends with a line feed, and numbers
 -- are decimal.
 use Rattle.std.specs.Prelude.{ℕ, ◌&&◌, Bool, true, false, not, List, [], ◌++◌, Option, Some, None, if◌then◌else◌, length, codes, decimal, count_by}
 use Rattle.std.specs.List.{flat_map}
@@ -38,7 +38,7 @@ operation_line x kind start end partner =
     codes "op " ++ id_text x ++ kind_text kind
     ++ time_text start ++ codes " end " ++ time_text end ++ partner_text kind partner ++ line_feed
 
--- the first line: how many ranks, operations, operations without an end, unread messages, and the last end
+-- the first line: the numbers of ranks, operations, operations without an end and unread messages, and the last end
 abbrev pub summary_line : ℕ → ℕ → ℕ → ℕ → ℕ → List ℕ
 summary_line ranks ops stuck unread finish =
     codes "ranks " ++ decimal ranks ++ codes " ops " ++ decimal ops ++ codes " stuck " ++ decimal stuck
@@ -51,12 +51,12 @@ is_send (Some (Recv bytes from tag)) = false
 is_send None = false
 
 module _ (plans : List Plan) (costs : CostModel) (h : List Timed) where
-  -- x is a message that has begun and that no receive takes
+  -- x is a send that has begun and is not paired
   abbrev pub is_unread : OpId → Bool
   is_unread x =
       is_send (kind_at plans x) && has_started plans x (plain h) && not (is_paired (pairs plans (plain h)) x)
 
-  -- the end of x, 0 where it has none
+  -- the end of x; 0 if it has none
   abbrev pub end_or_zero : OpId → ℕ
   end_or_zero x = if has_ended plans (is_eager plans costs) x (plain h) then end plans costs h x else 0
 
@@ -74,6 +74,6 @@ module _ (plans : List Plan) (costs : CostModel) (h : List Timed) where
   unfoldable pub line_of : OpId → List ℕ
   line_of x = line_by x (kind_at plans x)
 
-  -- the first line, and the lines of all operations by rank and number
+  -- the first line, and the lines of all operations, by rank and number
   unfoldable pub timeline : List ℕ
   timeline = first_line ++ flat_map line_of (operations plans)

@@ -1,4 +1,4 @@
-// The lines of the timeline.
+//! The lines of the timeline.
 ghost use Rattle.std.specs.Prelude.{◌≡◌, ◌+◌, ◌-◌, ◌++◌, ◌<◌, ◌≤◌, ◌^◌, length, take, OnOk, IfOk, Some, is_some, unwrap_or, max, count_by, if◌then◌else◌};
 ghost use Rattle.goal_limits.specs.declared.limits.TheConstants.{MAX_OPS};
 ghost use Rattle.goal_graph.specs.Schedule.{operations};
@@ -14,12 +14,12 @@ use sim_events::{Engine, History, Record};
 use sim_params::Costs;
 use std::alloc::Global;
 
-/// The line of an operation has at most so many bytes.
+/// The number of bytes that the line of an operation has at most.
 pub const LINE: usize = 112;
 
-/// The first line of the timeline of an engine whose run is over: `ranks P ops N stuck K unread U finish T`, how many
-/// operations there are, how many of them have no end, how many messages have begun and are taken by no receive, and the
-/// last end, in nanoseconds. `NoMemory` where memory ran out.
+/// Returns the first line of the timeline of an engine whose run is over: `ranks P ops N stuck K unread U finish T`.
+/// The P ranks have N operations, K of them have no end, U sends have begun and are not paired, and T is the last end,
+/// in nanoseconds. `Err` means out of memory.
 pub fn first_line<C: Costs, H: History>(
     alloc: Global,
     sched: &Sched,
@@ -33,7 +33,7 @@ pub fn first_line<C: Costs, H: History>(
     Ok(line)
 }
 
-/// The same, and how many operations have no end.
+/// Returns the same line, and the number of operations without an end.
 pub fn first_line_counted<C: Costs, H: History>(
     alloc: Global,
     sched: &Sched,
@@ -51,7 +51,7 @@ pub fn first_line_counted<C: Costs, H: History>(
     Ok((out.into_bytes(), summary.stuck))
 }
 
-/// Appends the first line.
+/// Appends the first line. `Err` means out of memory.
 pub fn put_first_line<C: Costs, H: History>(
     out: &mut TextOut,
     sched: &Sched,
@@ -64,7 +64,8 @@ pub fn put_first_line<C: Costs, H: History>(
     put_summary(out, sched, &sum_up(sched, engine))
 }
 
-// What the first line tells of operations: how many have no end, how many are unread messages, the last end.
+// The numbers of the first line that are of some operations: how many have no end, how many are unread messages, and
+// the last end in nanoseconds.
 #[derive(Clone, Copy)]
 struct Summary {
     stuck: u64,
@@ -73,7 +74,7 @@ struct Summary {
 }
 
 impl Summary {
-    // The same of these operations and one more.
+    // The same with one more operation.
     fn with(self, op: &Op, times: Record) -> Summary
         requires stuck_fits { self.stuck < 2 ^ 64 - 1 }
         requires unread_fits { self.unread < 2 ^ 64 - 1 }
@@ -90,7 +91,7 @@ impl Summary {
     }
 }
 
-// The summary of the operations of the ranks before one, with those of its own.
+// Adds the operations of a rank to the summary of those of the ranks before it.
 fn sum_rank<C: Costs, H: History>(
     summary: Summary,
     sched: &Sched,
@@ -117,8 +118,8 @@ fn sum_rank<C: Costs, H: History>(
     summary
 }
 
-// The summary of all operations, of an engine whose run is over. It goes from rank to rank: the operations of a rank, and what
-// is known of them, lie in order.
+// The summary of all operations, of an engine whose run is over. It goes from rank to rank, because the operations of a
+// rank and their times are in order in memory.
 fn sum_up<C: Costs, H: History>(sched: &Sched, engine: &Engine<'_, C, H>) -> Summary
     requires same { engine.now.plans ≡ sched.now }
     ensures { IsSummary sched.now (C.model engine.now.costs) engine.now.history (operations sched.now)
@@ -136,14 +137,14 @@ fn sum_up<C: Costs, H: History>(sched: &Sched, engine: &Engine<'_, C, H>) -> Sum
     summary
 }
 
-// A message that has begun and that no receive takes. The kind is read last, and only where the times leave it open.
+// Whether a send has begun and is not paired. The kind is read last, and only if the times leave it open.
 fn is_unread(op: &Op, times: Record) -> bool
     ensures { result ≡ is_unread_send (Some op.now.kind) times.start times.partner }
 {
     times.start.is_some() && times.partner.is_none() && matches!(op.kind, Kind::Send { .. })
 }
 
-// Appends the first line of a summary.
+// Appends the first line with the numbers of a summary.
 fn put_summary(out: &mut TextOut, sched: &Sched, summary: &Summary) -> Result<(), NoMemory>
     ensures { OnOk result (out.new ≡ out.old ++ summary_line (length sched.now) (length (operations sched.now))
         summary.now.stuck summary.now.unread summary.now.finish) }
@@ -161,7 +162,7 @@ fn put_summary(out: &mut TextOut, sched: &Sched, summary: &Summary) -> Result<()
     out.word("\n")
 }
 
-/// Writes the line of an operation, of an engine whose run is over, and says where it ends.
+/// Writes the line of an operation at `at`, of an engine whose run is over, and returns where it ends.
 #[inline(always)]
 pub fn put_operation<C: Costs, H: History>(
     line: &mut [u8],
@@ -187,7 +188,7 @@ pub fn put_operation<C: Costs, H: History>(
     put_word(line, at, "\n")
 }
 
-// Writes the word of a kind in the line of an operation, and what stands before its start.
+// Writes the word of a kind, and what comes before the start.
 #[inline(always)]
 fn put_kind(line: &mut [u8], at: usize, kind: Kind) -> usize
     requires room { at + 12 ≤ length line.old }
@@ -201,7 +202,7 @@ fn put_kind(line: &mut [u8], at: usize, kind: Kind) -> usize
     }
 }
 
-// Writes what the line of a kind tells of a partner: that of a calc nothing.
+// Writes the partner of an operation of this kind; nothing for a calc.
 #[inline(always)]
 fn put_partner(line: &mut [u8], at: usize, kind: Kind, partner: Option<OpId>) -> usize
     requires room { at + 28 ≤ length line.old }

@@ -1,4 +1,4 @@
-// The timeline, whole or page by page.
+//! The timeline, whole or page by page.
 ghost use Rattle.std.specs.Prelude.{◌≡◌, ◌++◌, [], All, IfOk, OnOk, OnErr};
 ghost use Rattle.std.specs.List.{flat_map};
 ghost use Rattle.goal_graph.specs.Schedule.{operations};
@@ -14,24 +14,25 @@ use sim_params::Costs;
 use std::alloc::Global;
 use std::marker::Model;
 
-// So many lines a page has at most: few, so that a page is still in the nearest cache when it is taken.
+// The number of lines that a page has at most. It is small, so that a page is still in the nearest cache when it is
+// taken.
 const PAGE: usize = 32;
 
-// So many bytes a line mostly has at most.
+// The number of bytes that most lines have at most.
 const ROOM: usize = 64;
 
-// So many bytes of lines are made before they are appended to a text.
+// The number of bytes of lines that are written before they are appended to a text.
 const LINES: usize = 1024;
 
-/// The lines of the operations, by rank and number, of an engine whose run is over, as far as they are still to come.
-/// Contracts see their text.
+/// The lines of the operations, by rank and number, of an engine whose run is over, that are left. Their value in
+/// contracts is their text.
 ///
-/// The line of an operation is `op R I calc start A end B`, `op R I send start A end B match Q J`, or the same with `recv`;
-/// times are in nanoseconds, and what is absent is a dash.
+/// The line of an operation is `op R I calc start A end B`, `op R I send start A end B match Q J`, or the same with
+/// `recv`. Times are in nanoseconds, and a dash means that there is none.
 #[derive(Drop)]
 pub struct Lines<'a, C: Costs, H: History = Kept> {
     engine: Engine<'a, C, H>,
-    // of how many operations the lines have come
+    // the number of operations whose lines have been taken
     done: usize,
 }
 
@@ -48,7 +49,7 @@ impl<'a, C: Costs, H: History> Model for Lines<'a, C, H> {
 }
 
 impl<'a, C: Costs, H: History> Lines<'a, C, H> {
-    /// The lines of all operations.
+    /// Returns the lines of all operations.
     pub fn new(engine: Engine<'a, C, H>) -> Lines<'a, C, H>
         ensures { result ≡ flat_map (line_of engine.entry.plans (C.model engine.entry.costs) engine.entry.history)
             (operations engine.entry.plans) }
@@ -56,11 +57,11 @@ impl<'a, C: Costs, H: History> Lines<'a, C, H> {
         Lines { engine, done: 0 }
     }
 
-    /// The next page of lines. It is empty where no line is left.
+    /// Returns the next page of lines. It is empty at the end.
     ///
     /// # Errors
     ///
-    /// Want of memory alone. The lines are then still to come.
+    /// Only `NoMemory`. The lines are then unchanged.
     pub fn next_page(&mut self, alloc: Global) -> Result<Vec<u8>, NoMemory>
         ensures page { IfOk result (λ page. self.old ≡ page.items ++ self.new) }
         ensures end { IfOk result (λ page. page.items ≡ [] → self.old ≡ []) }
@@ -108,8 +109,9 @@ fn put_lines<C: Costs, H: History>(
     out.piece(&lines[..end])
 }
 
-/// The timeline of an engine whose run is over, whole: the first line, and then the lines of all operations, by rank and
-/// number. `Lines` gives what follows the first line page by page. `NoMemory` where memory ran out.
+/// Returns the timeline of an engine whose run is over, as one text: the first line, and then the lines of all
+/// operations, by rank and number. `Lines` returns what follows the first line, page by page. `Err` means out of
+/// memory.
 pub fn timeline<C: Costs, H: History>(
     alloc: Global,
     sched: &Sched,

@@ -10,7 +10,7 @@ use Rattle.sim_timeline.proofs.Ranks.{before_more, at_place, place_within}
 use Rattle.sim_timeline.proofs.TimelineLemmas.{summary_more}
 use Rattle.sim_timeline.proofs.lines.sum_rank.Goals as goal
 
--- one more at most
+-- at most one more
 at_most_one : (b : Bool) (n i : ℕ) → n ≤ i → n + cond b 1 0 ≤ i + 1
 at_most_one true n i h = omega arith
 at_most_one false n i h = omega arith

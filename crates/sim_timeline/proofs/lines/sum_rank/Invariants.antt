@@ -3,7 +3,7 @@ use Rattle.goal_graph.specs.Schedule.{operations}
 use Rattle.sim_timeline.specs.Pages.{IsSummary, before_rank}
 use Rattle.sim_timeline.proofs.lines.sum_rank.Given as goal
 
--- what the operations so far tell
+-- the summary of the operations so far
 abbrev pub invariant-loop-op : goal.invariant-loop-op
 invariant-loop-op g l =
     let count = before_rank l.sched l.rank + l.op in

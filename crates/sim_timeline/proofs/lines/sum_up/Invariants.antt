@@ -3,7 +3,7 @@ use Rattle.goal_graph.specs.Schedule.{operations}
 use Rattle.sim_timeline.specs.Pages.{IsSummary, before_rank}
 use Rattle.sim_timeline.proofs.lines.sum_up.Given as goal
 
--- what the ranks so far tell
+-- the summary of the ranks so far
 abbrev pub invariant-loop-rank : goal.invariant-loop-rank
 invariant-loop-rank g l =
     let count = before_rank l.sched l.rank in
