@@ -1,4 +1,4 @@
--- The run on other ranks, seen from the ranks as they were, is the run in which ties are broken by the renamed ranks.
+-- The run on other ranks, renamed back, is the run in which ties are broken by the renamed ranks.
 use Rattle.std.proofs.Common.{ℕ, ◌≤◌, ◌≡◌, List, [], ◌∷◌, length, map, refl, sym, ap, ◌∙◌, subst}
 use Rattle.std.proofs.lemmas.List.Elements.{All-map}
 use Rattle.goal_graph.specs.declared.action.OpId.{OpId}
@@ -38,7 +38,7 @@ module _ (to back : ℕ → ℕ) (plans other : List Plan) (costs there : CostMo
       λ i. record { time = a.time; class = a.class; op = there_and_back (length plans) to back perm a.op i } ∷ timed_there g i
 
   module _ (newest : NewestIsLast) (apart : IsApart plans) (takes : TakesTime plans costs) (h g : List Timed) (run : IsCompleteRun plans costs h) (run_there : IsCompleteRun other there g) where
-    -- the other run on the ranks as they were
+    -- the other run, renamed back
     abbrev k : List Timed
     k = map (placed_timed back) g
 

@@ -1,4 +1,4 @@
--- When cpus and interfaces of a rank are free is told by the actions of the rank alone, where partners are fixed.
+-- Until when cpus and NICs of a rank are held depends on the actions of this rank alone, if partners are fixed.
 use Rattle.std.proofs.Common.{ℕ, ◌+◌, ◌≡◌, ◌==◌, ◌&&◌, ◌⊎◌, inl, inr, max, Bool, true, false, List, [], ◌∷◌, Option, Some, None, if◌then◌else◌, refl, sym, ap, ◌∙◌, subst, arith}
 use Rattle.std.proofs.lemmas.Bool.{cases_eq, ne_eqb, true≢false}
 use Rattle.goal_graph.specs.declared.action.OpId.{OpId}
@@ -37,12 +37,12 @@ module _ (plans : List Plan) (costs : CostModel) (apart : IsApart plans) (w : Li
   served p None e = absurd (true≢false (sym e))
   served p (Some m) e = (m, refl)
 
-  -- a served receive has the partner that it has in the whole
+  -- a served receive has the same partner as in the whole history
   same_mate : (p : List Timed) → Below p w → (x : OpId) → IsReceive plans x → is_served plans (is_eager plans costs) (plain p) (mate plans costs p x) ≡ true → mate plans costs p x ≡ mate plans costs w x
   same_mate p below x r e =
       let o = served p (mate plans costs p x) e in o.1 ∙ sym (mate_whole p below x o.0 r o.1)
 
-  -- so what an action holds is told by the whole
+  -- so what an action holds is the same as in the whole history
   pub hold_by : (p : List Timed) (c : Class) (x : OpId) (k : Option Kind) → kind_at plans x ≡ k → (c ≡ Serve → IsReceive plans x → mate plans costs p x ≡ mate plans costs w x) → (cpu_hold plans costs p c x k ≡ cpu_hold plans costs w c x k) × (rx_hold plans costs p c x k ≡ rx_hold plans costs w c x k)
   hold_by p Serve x (Some (Recv room from tag)) e mated =
       let same = mated refl (record { room = room; from = from; tag = tag; kind = e }) in
@@ -65,12 +65,12 @@ module _ (plans : List Plan) (costs : CostModel) (apart : IsApart plans) (w : Li
   possible_hold p below a possible =
       hold_by p a.class a.op (kind_at plans a.op) refl (λ e r. same_mate p below a.op r (allowed_serve plans (is_eager plans costs) (plain p) a.op (subst (λ (c : Class). allowed plans (is_eager plans costs) (plain p) c a.op ≡ true) e possible.allowed)).1)
 
-  -- and what one held that has happened
+  -- what an action holds that has happened
   pub happened_hold : (p : List Timed) → Each plans costs p → Below p w → (c : Class) (x : OpId) → hap c x p ≡ true → cpu_hold plans costs p c x (kind_at plans x) ≡ cpu_hold plans costs w c x (kind_at plans x)
   happened_hold p each below c x e =
       (hold_by p c x (kind_at plans x) refl (λ is r. same_mate p below x r (served_message plans (is_eager plans costs) (plain p) x (each_interleaving plans costs p each) (subst (λ (d : Class). hap d x p ≡ true) is e)))).0
 
-  -- by the actions of the rank
+  -- until when these actions hold what x uses
   cpu_of : List Timed → OpId → ℕ
   cpu_of [] x = 0
   cpu_of (a ∷ u) x = max (cpu_of u x) (if holds_cpu a.class && same_place (λ (o : Op). o.cpu) x (op_at plans x) a.op (op_at plans a.op) then a.time + cpu_hold plans costs w a.class a.op (kind_at plans a.op) else 0)

@@ -1,4 +1,4 @@
--- What has happened to the operations of a rank, and when, is told by its own actions.
+-- What has happened to the operations of a rank, and when, depends on its own actions.
 use Rattle.std.proofs.Common.{ℕ, ◌≤◌, ◌≡◌, ◌⊎◌, inl, inr, ⊎_elim, Bool, true, false, ◌||◌, List, [], ◌∷◌, All, refl, sym, ap, ◌∙◌, arith}
 use Rattle.std.proofs.lemmas.Bool.{both_ways, cases_Bool, cases_eq, false_from_ne_true}
 use Rattle.std.proofs.lemmas.List.Elements.{All-head, All-tail}
@@ -11,7 +11,7 @@ use Rattle.sim_params.specs.Times.{since}
 use Rattle.sim_params.proofs.ForCallers.{since_kept, since_new}
 use Rattle.sim_placed.proofs.Tails.{IsTail, whole, newer, on_rank, on_here, on_other, Below, Rises}
 
--- it has happened, and when
+-- whether it has happened, and when
 abbrev pub hap : Class → OpId → List Timed → Bool
 hap c x h = happened c x (plain h)
 
@@ -82,12 +82,12 @@ at_local c x (a ∷ h) e = go (at_local c x h) (cases_Bool (hap c x h))
     go rest (inl t) = old (rest t) t (cases_eq a.op.rank x.rank)
     go rest (inr f) = new f (hap_cases c x a h e)
 
--- what has happened in the older part has its time in the whole
+-- what has happened in the older part has the same time in the whole
 pub at_below : (c : Class) (x : OpId) (p q : List Timed) → Below p q → hap c x p ≡ true → at c x q ≡ at c x p
 at_below c x p q below e =
     at_local c x q (hap_below c x p q below e) ∙ (at_tail c x (on_rank x.rank p) (on_rank x.rank q) (below x.rank) (sym (hap_local c x p) ∙ e) ∙ sym (at_local c x p e))
 
--- in two histories with the same actions of a rank
+-- in two histories with the same actions of a rank, the same has happened to it
 pub hap_alike : (c : Class) (x : OpId) (p q : List Timed) → on_rank x.rank p ≡ on_rank x.rank q → hap c x p ≡ hap c x q
 hap_alike c x p q e = hap_local c x p ∙ (ap (hap c x) e ∙ sym (hap_local c x q))
 

@@ -1,5 +1,5 @@
--- Where a send fits at most one receive and a receive at most one send, partners are those that have met, and they are paired
--- when the later one of the two comes.
+-- If a send fits at most one receive and a receive at most one send, partners are those that have met, and they are
+-- paired when the later one of the two comes.
 use Rattle.std.proofs.Common.{◌≡◌, ◌⊎◌, inl, inr, ⊎_elim, max, true, false, List, [], ◌∷◌, Some, sym, ◌∙◌, subst, arith}
 use Rattle.std.proofs.lemmas.Bool.{both_ways, cases_Bool, false_from_ne_true}
 use Rattle.goal_graph.specs.declared.action.OpId.{OpId}
@@ -70,7 +70,7 @@ module _ (plans : List Plan) (costs : CostModel) where
         new f g =
             (since_new (λ l. is_paired (pairs plans l) m) a p f (is_some_from (mate plans costs (a ∷ p) m) x now.0), since_new (λ l. is_paired (pairs plans l) x) a p g (is_some_from (mate plans costs (a ∷ p) x) m now.1))
 
-        -- what would have been its partner had met it
+        -- a receive that no send has met is not paired
         free_receive : ((n : OpId) → Met p n x → ⊥) → is_paired (pairs plans (plain p)) x ≡ false
         free_receive none =
             false_from_ne_true _ (λ t. let o = cases_some (mate plans costs p x) t in none o.0 (met_of_receive p o.0 x (fits_receive plans x m met.fit) o.1))

@@ -1,5 +1,5 @@
--- What is possible for an operation is possible in every part of a history with the same actions of its rank, if what it needs of
--- other ranks is there, and at the same time.
+-- What is possible for an operation is possible in every part of a history with the same actions of its rank, at the
+-- same time, if what it needs of other ranks has happened.
 use Rattle.std.proofs.Common.{ℕ, ◌+◌, ◌≡◌, ◌⊎◌, inl, inr, ◌&&◌, ◌||◌, max, not, Bool, true, false, List, [], ◌∷◌, Option, Some, None, if◌then◌else◌, refl, sym, ap, ◌∙◌}
 use Rattle.std.specs.List.{list_all}
 use Rattle.std.proofs.lemmas.Bool.{and_parts, true≢false, or_cases, or_left, or_right}
@@ -94,7 +94,7 @@ module _ (plans : List Plan) (costs : CostModel) (apart : IsApart plans) (w : Li
     free_tx =
         sym (same_tx plans costs apart w each_w p q part_p.each part_q.each part_p.below part_q.below x same)
 
-    -- what an action of x needs of other ranks has happened in p where it has in q
+    -- what an action of x needs of other ranks has happened in p if it has in q
     pub record Crosses (c : Class) : Type 0 where
       pub posted : c ≡ Data → (y : OpId) → mate plans costs q x ≡ Some y → hap Post y p ≡ true
       pub arrived : c ≡ Serve → (m : OpId) → mate plans costs q x ≡ Some m → hap Arrive m p ≡ true
@@ -111,7 +111,7 @@ module _ (plans : List Plan) (costs : CostModel) (apart : IsApart plans) (w : Li
         let met = met_of_receive plans costs apart q m x r e in
         (met, record { arrived = crosses.arrived refl m e; posted = hap_alike Post x p q same ∙ met.posted; fit = met.fit })
 
-    -- both what may happen, and when
+    -- that it may happen, and when
     abbrev Moves : Class → Option Kind → Type 0
     Moves c k = (may plans eager (plain p) c x k ≡ true) × (time_of plans costs q c x k ≡ time_of plans costs p c x k)
 

@@ -98,7 +98,7 @@ module _ (ranks : ℕ) (to back : ℕ → ℕ) (perm : IsPermutation ranks to ba
   flight_placed : (m : OpId) → flight other there (placed_op to m) ≡ flight plans costs m
   flight_placed m = cost_placed costs.flight there.flight alike.flight m
 
-  -- what is eager is so by the ranks as they were
+  -- a send is eager if it is so on the ranks renamed back
   eager_is : (λ (y : OpId). is_eager other there (placed_op to y)) ≡ is_eager plans costs
   eager_is = λ i y. eager_placed y i
 
@@ -301,7 +301,7 @@ module _ (ranks : ℕ) (to back : ℕ → ℕ) (perm : IsPermutation ranks to ba
     time = p.time ∙ time_placed h a.class a.op;
   }
 
-  -- an action of the other schedule, by the ranks as they were
+  -- an action of the other schedule, renamed back
   abbrev timed_back : Timed → Timed
   timed_back b = record { time = b.time; class = b.class; op = placed_op back b.op }
 

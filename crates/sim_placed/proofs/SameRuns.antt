@@ -1,4 +1,5 @@
--- Runs of schedules without wildcards have the same times, however ties are broken, where messages to other ranks take time.
+-- Runs of schedules without wildcards have the same times, however ties are broken, if messages to other ranks take
+-- time.
 use Rattle.std.proofs.Common.{ℕ, ◌+◌, ◌<◌, ◌≤◌, ◌≡◌, ◌==◌, ◌&&◌, ◌⊎◌, inl, inr, ⊎_elim, Bool, true, false, List, [], ◌∷◌, length, All, Option, Some, None, if◌then◌else◌, refl, sym, ap, ◌∙◌, subst, arith}
 use Rattle.std.proofs.lemmas.Bool.{false_from_ne_true, or_cases, both_ways, cases_Bool, cases_eq, cases_lt, and_parts, eqb-true, true≢false}
 use Rattle.std.proofs.lemmas.List.Elements.{All-head}
@@ -41,7 +42,7 @@ newest_tail u (b ∷ v) (newer t) rises =
     below_newest [] all = omega arith
     below_newest (d ∷ l) all = All-head (λ (c : Timed). c.time ≤ b.time) d l all
 
--- a shorter tail is one of what is older
+-- a shorter tail is one of the older actions
 inner_tail : (s : List Timed) (f : Timed) (u : List Timed) → IsTail s (f ∷ u) → length s < length (f ∷ u) → IsTail s u
 inner_tail s f u whole less = absurd (omega (arith, less))
 inner_tail s f u (newer t) less = t
@@ -97,7 +98,7 @@ module _ (plans : List Plan) (costs : CostModel) (apart : IsApart plans) (takes 
   time_of_arrive p m s =
       ap (λ (k : Option Kind). time_of plans costs p Arrive m k) s.kind ∙ ap (λ (n : ℕ). n + way m) (start_of_send p m s)
 
-  -- a send has arrived so long after its begin
+  -- a send has arrived this long after its begin
   arrive_time : (p : List Timed) → Each plans costs p → (m : OpId) → IsSend plans m → hap Arrive m p ≡ true → at Arrive m p ≡ at Begin m p + way m
   arrive_time [] each m s e = absurd (hap_nothing Arrive m e)
   arrive_time (a ∷ p) each m s e = go (λ t. arrive_time p each.0 m s t) (cases_Bool (hap Arrive m p))
@@ -119,7 +120,7 @@ module _ (plans : List Plan) (costs : CostModel) (apart : IsApart plans) (takes 
           since_kept (happened Arrive m) a p t ∙ (rest t ∙ ap (λ (n : ℕ). n + way m) (sym (begun (arrived_begun plans eager (plain p) m (each_interleaving plans costs p each.0) t))))
       go rest (inr f) = new f (hap_cases Arrive m a p e)
 
-  -- and hands over no sooner than it has arrived
+  -- a send transfers its data no sooner than its request has arrived
   data_arrived : (p : List Timed) → Each plans costs p → (m : OpId) → IsSend plans m → hap Data m p ≡ true → hap Arrive m p ≡ true
   data_arrived p each m s e =
       let o = cases_some (mate plans costs p m) (data_paired plans eager (plain p) m (each_interleaving plans costs p each) e) in
@@ -196,7 +197,7 @@ module _ (plans : List Plan) (costs : CostModel) (apart : IsApart plans) (takes 
           time = when ∙ (ap (λ (k : ℕ). k + way m) (sym same) ∙ sym (time_of_arrive p m s));
         }
 
-    -- what an action needs of other ranks has happened in p, but for an arrival at the last moment
+    -- what an action needs of other ranks has happened in p, except an arrival at the same time
     crosses_by : (p q : List Timed) (n : ℕ) (part_p : Part p) (part_q : Part q) (x : OpId) (same : on_rank x.rank p ≡ on_rank x.rank q) (c : Class) (t : ℕ) → Older p n → t ≤ n → Possible plans costs q (record { time = t; class = c; op = x })
         → ((m : OpId) → c ≡ Serve → IsSend plans m → fits plans x m ≡ true → (m.rank ≡ x.rank → ⊥) → hap Arrive m q ≡ true → at Arrive m q ≡ n → t ≡ n → hap Arrive m p ≡ false → ⊥)
         → Crosses plans costs apart h each_h p q part_p part_q x same c
@@ -289,7 +290,7 @@ module _ (plans : List Plan) (costs : CostModel) (apart : IsApart plans) (takes 
       next_tail : (a : Timed) (p : List Timed) → IsTail (a ∷ p) h → IsNext plans costs p a
       next_tail a p t = (run_tail (a ∷ p) h t run.run).1
 
-      -- in what is above q everything is there that an action possible after q needs of other ranks
+      -- in a history above q, all has happened that an action possible after q needs of other ranks
       crosses_up : (p q : List Timed) (part_p : Part p) (part_q : Part q) → Below q p → (x : OpId) (same : on_rank x.rank p ≡ on_rank x.rank q) (c : Class) (t : ℕ) → Possible plans costs q (record { time = t; class = c; op = x }) → Crosses plans costs apart h each_h p q part_p part_q x same c
       crosses_up p q part_p part_q below x same c t possible = record {
         posted = λ e y m. let s = (allowed_data plans eager (plain q) x (subst (λ (b : Class). allowed plans eager (plain q) b x ≡ true) e possible.allowed)).0 in hap_below Post y q p below (met_of_send plans costs apart q part_q.each x y s m).posted;
@@ -315,7 +316,7 @@ module _ (plans : List Plan) (costs : CostModel) (apart : IsApart plans) (takes 
         op_least e p t c r =
             ⊎_elim (λ less. absurd (next.least e p (inr (t, inr (c, inr (ap to r, inl less)))))) (λ le. le) (cases_lt e.op.op b.op.op)
 
-        -- it is not over for its rank
+        -- the run is not over for its rank
         none_gone : on_rank b.op.rank h ≡ on_rank b.op.rank q → ⊥
         none_gone e =
             run.finished b (moved_up h q whole_part part_q part_q.below b e next.possible)
@@ -452,7 +453,7 @@ module _ (plans : List Plan) (costs : CostModel) (apart : IsApart plans) (takes 
             below = step to q part b r.1;
           }
 
-      -- and the whole of it, if it is complete
+      -- it is the whole run if it is complete
       pub same_actions : (to : ℕ → ℕ) (k : List Timed) → Rises k → IsCompleteRunBy to plans costs k → (r : ℕ) → on_rank r h ≡ on_rank r k
       same_actions to k rises c = below_both h k under (run_part to k rises c.run).below
         where

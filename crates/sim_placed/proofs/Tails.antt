@@ -3,7 +3,7 @@ use Rattle.std.proofs.Common.{ℕ, ◌≤◌, ◌≡◌, ◌==◌, ◌⊎◌, in
 use Rattle.std.proofs.lemmas.Bool.{cases_eq, cases_lt, ne_eqb}
 use Rattle.goal_graph.specs.declared.action.Timed.{Timed}
 
--- v is u with newer actions, or none, before it
+-- v is u with newer actions before it, or u itself
 pub data IsTail : List Timed → List Timed → Type 0 where
   whole : {u : List Timed} → IsTail u u
   newer : {b : Timed} {u v : List Timed} → IsTail u v → IsTail u (b ∷ v)
@@ -59,7 +59,7 @@ tail_below u v t r = rank_tail r u v t
 pub below_below : (p q s : List Timed) → Below p q → Below q s → Below p s
 below_below p q s a b r = tail_of_tail (on_rank r p) (on_rank r q) (on_rank r s) (a r) (b r)
 
--- where what is known of a rank ends in h
+-- the action of the rank r in h that is next after its actions s
 abbrev pub Next : ℕ → List Timed → List Timed → Type 0
 Next r s h = (a : Timed) × (p : List Timed) × IsTail (a ∷ p) h × (a.op.rank ≡ r) × (on_rank r p ≡ s)
 
@@ -78,7 +78,7 @@ next_of_rank r s (b ∷ h) t = ⊎_elim (here (next_of_rank r s h)) (there (next
     there rest ne =
         ⊎_elim (λ e. inl (e ∙ sym (on_other r b h ne))) (λ n. inr (n.0, n.1, newer n.2, n.3, n.4)) (rest (subst (λ (l : List Timed). IsTail s l) (on_other r b h ne) t))
 
--- the oldest action of h that is not in q, and all that is older is
+-- f is the oldest action of h that is not in q, and all older ones are in q
 abbrev pub Frontier : List Timed → List Timed → Type 0
 Frontier h q = (f : Timed) × (p : List Timed) × IsTail (f ∷ p) h × Below p q × (on_rank f.op.rank p ≡ on_rank f.op.rank q)
 

@@ -1,4 +1,4 @@
--- Runs of a schedule on other ranks, with costs that are renamed along.
+-- Runs of a schedule on other ranks, with costs that are renamed in the same way.
 use Rattle.std.specs.Prelude.{ℕ, ◌≡◌, ◌≢◌, ◌≤◌, ◌↔◌, List, [], ◌∷◌, length, map}
 use Rattle.goal_graph.specs.declared.action.OpId.{OpId}
 use Rattle.goal_graph.specs.declared.action.Timed.{Timed}
@@ -12,11 +12,11 @@ use Rattle.sim_params.specs.Costs.{CostModel, Numbers, log_gops, flight, flight_
 use Rattle.sim_params.specs.Times.{start, end, time, Possible}
 use Rattle.sim_params.specs.Run.{IsFinished, IsCompleteRun}
 
--- an action of the renamed rank, at the same time
+-- the same action on the renamed rank, at the same time
 abbrev pub placed_timed : (ℕ → ℕ) → Timed → Timed
 placed_timed to a = record { time = a.time; class = a.class; op = placed_op to a.op }
 
--- between renamed ranks the other costs are what these are between the ranks
+-- the costs `there` between renamed ranks are `costs` between the ranks
 pub record AreAlike (to : ℕ → ℕ) (costs there : CostModel) : Type 0 where
   pub over : (from target bytes : ℕ) → there.over (to from) (to target) bytes ≡ costs.over from target bytes
   pub gap : (from target bytes : ℕ) → there.gap (to from) (to target) bytes ≡ costs.gap from target bytes
@@ -24,13 +24,13 @@ pub record AreAlike (to : ℕ → ℕ) (costs there : CostModel) : Type 0 where
   pub latency : (from target : ℕ) → there.latency (to from) (to target) ≡ costs.latency from target
   pub eager : (from target bytes : ℕ) → there.eager (to from) (to target) bytes ≡ costs.eager from target bytes
 
--- after the renamed actions of a history, the times of the renamed operations
+-- the renamed operations have the same times after the renamed actions of h
 pub record HasSameTimes (to : ℕ → ℕ) (plans other : List Plan) (costs there : CostModel) (h : List Timed) : Type 0 where
   pub times : (class : Class) (x : OpId) → time other there (map (placed_timed to) h) class (placed_op to x) ≡ time plans costs h class x
   pub starts : (x : OpId) → start other there (map (placed_timed to) h) (placed_op to x) ≡ start plans costs h x
   pub ends : (x : OpId) → end other there (map (placed_timed to) h) (placed_op to x) ≡ end plans costs h x
 
--- Runs in which ties are broken by renamed ranks.
+-- Runs in which ties are broken by the renamed ranks.
 abbrev pub key_by : (ℕ → ℕ) → Timed → List ℕ
 key_by to a = a.time ∷ place a.class ∷ to a.op.rank ∷ a.op.op ∷ []
 
@@ -65,13 +65,13 @@ RunsAreAlike = (to back : ℕ → ℕ) (plans other : List Plan) (costs there : 
     → AreAlike to costs there
     → IsCompleteRun other there (map (placed_timed to) h) ↔ IsCompleteRunBy to plans costs h
 
--- a message to another rank takes some time, and so does a clearance
+-- a message to another rank takes some time, and so does its clear to send
 abbrev pub TakesTime : List Plan → CostModel → Type 0
 TakesTime plans costs =
     (m : OpId) (s : IsSend plans m) → m.rank ≢ s.to → (1 ≤ flight plans costs m) × (1 ≤ flight_one plans costs m) × (1 ≤ latency plans costs m)
 
--- where a send fits at most one receive and a receive at most one send, and messages to other ranks take time, the complete
--- runs on the ranks and on the renamed ranks have the same times, however ties are broken
+-- if a send fits at most one receive and a receive at most one send, and messages to other ranks take time, the
+-- complete runs on the ranks and on the renamed ranks have the same times, however ties are broken
 abbrev pub ApartRunsAreAlike : Type 0
 ApartRunsAreAlike = (to back : ℕ → ℕ) (plans other : List Plan) (costs there : CostModel) (h g : List Timed)
     → IsPermutation (length plans) to back

@@ -5,14 +5,16 @@ ghost use Rattle.sim_placed.specs.PlacedRuns.{TimesAreAlike, RunsAreAlike, Apart
 
 use sim_params::laws_of_runs;
 
-/// The laws of runs on other ranks, where the costs are renamed along. The function does nothing: a proof cites a law by a
-/// call.
+/// The laws of runs on other ranks, with costs that are renamed in the same way. The function does nothing: a proof
+/// cites a law by a call.
 ///
-/// - `times_are_alike`: after renamed actions, each time of a renamed operation is that of the operation, for every history.
-/// - `runs_are_alike`: the complete runs on the renamed ranks are the renamed complete runs in which ties are broken by the
-///   renamed ranks, wildcards or not.
-/// - `apart_runs_are_alike`: where a send fits at most one receive and a receive at most one send, and messages to other ranks
-///   and clearances take some time, each operation starts and ends on the renamed ranks when it does on the ranks.
+/// - `times_are_alike`: after renamed actions, each time of a renamed operation is that of the operation, for every
+///   history.
+/// - `runs_are_alike`: the complete runs on the renamed ranks are the renamed complete runs in which ties are broken by
+///   the renamed ranks, with wildcards or without.
+/// - `apart_runs_are_alike`: if a send fits at most one receive and a receive at most one send, and messages to other
+///   ranks and clears to send take some time, each operation starts and ends at the same times on the renamed ranks as
+///   on the ranks.
 /// - `log_gops_is_alike`: the costs of LogGOPS are the same for all ranks.
 pub fn laws_of_placed_runs()
     ensures times_are_alike { TimesAreAlike }
