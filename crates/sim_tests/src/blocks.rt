@@ -1,4 +1,4 @@
-// What no clause says: that the calls succeed. The values are worked by hand.
+//! What the contracts do not say: that the calls succeed. The values are computed by hand.
 ghost use Rattle.std.specs.Prelude.{◌≡◌, ◌<◌, ◌≤◌, IfOk};
 
 use crate::plans::{noted_plan, op};
@@ -8,7 +8,7 @@ use goal_graph::{Kind, Note, Sched};
 use std::alloc::Global;
 use std::test::Fail;
 
-// Rank 0 sends its slots 1, 2 and 0 to rank 1, which takes them into its slot 0 and then 4 and 5, and adds 4 to 0.
+// Rank 0 sends its slots 1, 2 and 0 to rank 1, which receives them into its slot 0 and then 4 and 5, and adds 4 to 0.
 fn two_ranks(alloc: Global) -> Result<Sched, Fail> {
     let send = op(Kind::Send {
         bytes: 8,
@@ -153,7 +153,7 @@ fn first_wrong_slots(rt: HostRuntime) -> Result<(), Fail> {
     Ok(())
 }
 
-// Rank 1 takes what rank 0 has sent.
+// Rank 1 receives what rank 0 has sent.
 fn hand_over(alloc: Global, values: &mut Store, sched: &Sched) -> Result<(), Fail>
     requires { values.old.ranks ≡ 2 }
     ensures { values.new.ranks ≡ 2 }

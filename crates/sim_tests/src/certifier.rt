@@ -1,4 +1,4 @@
-// Small schedules of two ranks, each with the fault that it has first.
+//! Small schedules of two ranks, each with its first fault.
 ghost use Rattle.std.specs.Prelude.{◌<◌};
 
 use crate::plans::noted_plan;
@@ -46,13 +46,13 @@ fn two(alloc: Global, first: RankPlan, second: RankPlan) -> Result<Sched, PlanFa
     Sched::build(alloc, plans)
 }
 
-// The first fault of the schedule of two ranks, as a scatter of the first.
+// The first fault of a schedule of two ranks, as a scatter from rank 0.
 fn fault(alloc: Global, first: RankPlan, second: RankPlan) -> Result<Option<CertFault>, PlanFault> {
     let sched = two(alloc, first, second)?;
     Ok(certify(alloc, &sched, Collective::Scatter { root: 0 }).err())
 }
 
-// The first fault of a message of that many bytes and slots, with its receive of so many slots.
+// The first fault of a message of `bytes` bytes and `sent` slots, with a receive of `received` slots.
 fn message(
     alloc: Global,
     bytes: u64,
@@ -106,7 +106,7 @@ fn tells_the_least_unpaired_operation(rt: HostRuntime) -> Result<(), Fail> {
     Ok(())
 }
 
-// Slots count, and not bytes.
+// The numbers of slots must be equal, whatever the bytes.
 #[test]
 fn tells_lengths_that_differ(rt: HostRuntime) -> Result<(), Fail> {
     let alike = message(rt.alloc(), 100, 3, 3)?;
@@ -118,7 +118,7 @@ fn tells_lengths_that_differ(rt: HostRuntime) -> Result<(), Fail> {
     Ok(())
 }
 
-// The fault of a message of slot 0 from rank 0 to rank 1, as that collective.
+// The fault of a message of slot 0 from rank 0 to rank 1, as this collective.
 fn verdict(alloc: Global, what: Collective) -> Result<Option<CertFault>, PlanFault> {
     let sends = noted_plan(alloc, &[send(8, 1, 7)], &[moves(0, 0)])?;
     let receives = noted_plan(alloc, &[receive(Some(0), Some(7))], &[moves(0, 0)])?;
@@ -140,7 +140,7 @@ fn certifies_a_broadcast_of_two_from_its_root_alone(rt: HostRuntime) -> Result<(
     Ok(())
 }
 
-// Rank 0 sends each of its slots from `lo` up to `hi` on its own, and rank 1 takes them into the slots from `into` on.
+// Rank 0 sends each of its slots from `lo` to `hi` alone, and rank 1 receives them into the slots from `into` on.
 fn slot_by_slot(alloc: Global, lo: u32, hi: u32, into: u32) -> Result<Sched, PlanFault>
     requires within { hi < 100 }
     requires low { into < 100 }
@@ -187,7 +187,7 @@ fn certifies_segments_of_a_broadcast(rt: HostRuntime) -> Result<(), Fail> {
     Ok(())
 }
 
-// Four segments, of which each comes one slot too late.
+// Four segments, each of which is received into the slot after its own.
 #[test]
 fn tells_segments_that_are_one_too_late(rt: HostRuntime) -> Result<(), Fail> {
     let late = slot_by_slot(rt.alloc(), 0, 3, 1)?;
@@ -197,7 +197,7 @@ fn tells_segments_that_are_one_too_late(rt: HostRuntime) -> Result<(), Fail> {
     Ok(())
 }
 
-// Two segments of two slots each: rank 0 has the slots 0 and 1 of a scatter, and gives rank 1 the second.
+// Two segments of two slots each: rank 0 has the slots 0 and 1 of a scatter, and sends the second to rank 1.
 #[test]
 fn certifies_blocks_of_slots(rt: HostRuntime) -> Result<(), Fail> {
     let what = Collective::Scatter { root: 0 };
@@ -225,7 +225,7 @@ fn certifies_blocks_of_slots(rt: HostRuntime) -> Result<(), Fail> {
     Ok(())
 }
 
-// A schedule whose notes are exchanged is certified as the schedule is in the block.
+// The notes are exchanged for block 2, and then the schedule is certified as a whole.
 #[test]
 fn certifies_exchanged_notes(rt: HostRuntime) -> Result<(), Fail> {
     let what = Collective::Bcast { root: 0 };

@@ -1,4 +1,4 @@
-// Machines, and texts that are none.
+//! Machines, and texts that are not machines.
 use crate::same::same;
 use sim_classes::{Machine, MachineFault, read_machine};
 use sim_params::Costs;

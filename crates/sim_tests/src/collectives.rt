@@ -1,4 +1,5 @@
-// What no clause says: that the calls succeed. The counts are worked by hand from the rounds, the draws by another program.
+//! What the contracts do not say: that the calls succeed. The counts are computed by hand, and the draws by another
+//! program.
 use crate::same::same;
 use goal_blocks::Collective;
 use goal_collectives::{GenFault, generate, probe_plan};
@@ -6,7 +7,7 @@ use goal_graph::{Kind, Sched};
 use std::alloc::Global;
 use std::test::Fail;
 
-// How many operations the schedule has, with messages of eight bytes.
+// The number of operations of the schedule, with messages of eight bytes.
 fn count(rt: &HostRuntime, what: Collective, ranks: u32) -> Result<u32, Fail> {
     if !what.is_made_by_generate() {
         return Err(Fail::from("none of the five"));
@@ -68,7 +69,7 @@ fn probe_rounds(rt: HostRuntime) -> Result<(), Fail> {
     Ok(())
 }
 
-// The eighth, (17, 32, 607, 87538), has a receive from any source.
+// The eighth round, (17, 32, 607, 87538), has a receive from any source.
 #[test]
 fn a_receive_of_a_probe(rt: HostRuntime) -> Result<(), Fail> {
     let sched = probe(rt.alloc())?;

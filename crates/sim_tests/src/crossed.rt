@@ -1,5 +1,5 @@
-// Messages whose tags fall in the order in which they arrive, while the tags of the receives rise. A matcher that scans its lists
-// does not end within the minute that a test has.
+//! Messages that arrive in the order of falling tags, and receives that are posted in the order of rising ones. A
+//! matcher that scans its lists does not end within the minute that a test may take.
 ghost use Rattle.std.specs.Prelude.{◌≡◌, Some, IfSome};
 ghost use Rattle.goal_graph.specs.Schedule.{kind_at};
 
@@ -44,7 +44,7 @@ fn kind_of(sched: &Sched, id: OpId) -> Option<Kind>
     Some(sched.op(id).kind)
 }
 
-// Whether no receive finds a message where all are posted first, and each message that arrives then finds its receive.
+// Whether no receive finds a message if all are posted first, and each message that arrives then finds its receive.
 fn find_their_receives(alloc: Global, sched: &Sched) -> Result<bool, NoMemory> {
     let mut matcher = Matcher::new(alloc, sched)?;
     'posts: for op in 0..COUNT {

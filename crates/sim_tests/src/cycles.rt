@@ -1,10 +1,10 @@
-// The lines of knots.
+//! The lines of knots.
 use crate::same::{same, same_list};
 use goal_graph::OpId;
 use sim_cycles::{Knot, OpList, knots, knots_text};
 use std::test::Fail;
 
-// One operation that holds up two more, and a ring of two ranks.
+// One operation that holds up two others, and a ring of two ranks.
 #[test]
 fn alone_and_ring(rt: HostRuntime) -> Result<(), Fail> {
     let id = |rank, op| OpId { rank, op };
@@ -27,7 +27,7 @@ fn alone_and_ring(rt: HostRuntime) -> Result<(), Fail> {
     Ok(())
 }
 
-// Where nothing is stuck there is no knot.
+// If nothing is stuck, there is no knot.
 #[test]
 fn nothing_stuck(rt: HostRuntime) -> Result<(), Fail> {
     let found = knots(rt.alloc(), &[])?;

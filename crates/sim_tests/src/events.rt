@@ -1,4 +1,4 @@
-// A run with times worked by hand, and the engine beside a plain evaluator of the rules.
+//! A run with times computed by hand, and the engine compared with a plain evaluator of the rules.
 use crate::plans::plan;
 use crate::same::{same, same_list};
 use goal_graph::{Class, Kind, OpId, Sched, Timed};
@@ -61,7 +61,7 @@ fn at(time: u64, class: Class, rank: u32, op: u32) -> Timed {
     }
 }
 
-// A message of one byte more than may be sent at once.
+// A message one byte larger than an eager one may be.
 fn large_message(alloc: Global) -> Result<Sched, Fail> {
     let sends = plan(alloc, &[send(65_536, 1)], &[])?;
     let receives = plan(alloc, &[recv(65_536, Some(0))], &[])?;
@@ -103,7 +103,7 @@ fn a_large_message(rt: HostRuntime) -> Result<(), Fail> {
     Ok(())
 }
 
-// The same where no action is kept.
+// The same with an engine that keeps no actions.
 #[test]
 fn a_large_message_unkept(rt: HostRuntime) -> Result<(), Fail> {
     let sched = large_message(rt.alloc())?;
@@ -114,7 +114,7 @@ fn a_large_message_unkept(rt: HostRuntime) -> Result<(), Fail> {
     Ok(())
 }
 
-// The most bytes of a message.
+// The largest size of a message, in bytes.
 const LARGEST: u64 = (1 << 40) - 1;
 
 fn greatest_costs() -> Result<LogGops, Fail> {
@@ -123,7 +123,7 @@ fn greatest_costs() -> Result<LogGops, Fail> {
     })
 }
 
-// Two messages of the largest size at the greatest costs of a byte.
+// Two messages of the largest size at the largest costs of a byte.
 #[test]
 fn a_budget_that_is_over(rt: HostRuntime) -> Result<(), Fail> {
     let kinds = [send(LARGEST, 1), send(LARGEST, 1)];

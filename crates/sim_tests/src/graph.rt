@@ -1,4 +1,4 @@
-// Plans with one fault each, and the lists that a schedule keeps.
+//! Plans with one fault each, and the lists that a schedule keeps.
 use crate::plans::{CALC, dep, one_rank};
 use crate::same::{same, same_list};
 use goal_graph::{Need, Note, Op, OpId, PlanFault, Sched, When};

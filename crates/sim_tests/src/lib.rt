@@ -1,4 +1,5 @@
-//! Tests of the simulator, the certifier and the schedules of collectives, by their public calls. Nothing stands on this crate.
+//! Tests of the simulator, the certifier and the schedules of collectives, by their public calls. No other crate uses
+//! this one.
 #![tactic(auto)]
 
 #[cfg(test)]

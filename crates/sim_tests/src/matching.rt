@@ -1,4 +1,4 @@
-// Messages that wait for their receives, and receives that wait for their messages.
+//! Messages that wait for their receives, and receives that wait for their messages.
 ghost use Rattle.std.specs.Prelude.{◌≡◌, ◌<◌, ℕ};
 ghost use Rattle.goal_graph.specs.Schedule.{IsSend, IsReceive};
 
@@ -47,7 +47,8 @@ fn recv(from: Option<u32>, tag: Option<u32>) -> Op
     }
 }
 
-// The answers where rank 1 posts two receives, the four messages of rank 0 arrive, and rank 1 posts a third receive.
+// What the matcher returns if rank 1 posts two receives, the four messages of rank 0 arrive, and rank 1 posts a third
+// receive.
 fn answers(alloc: Global, sched: &Sched) -> Result<[Option<OpId>; 7], NoMemory>
     requires sends { (i : ℕ) → i < 4 → IsSend sched.now (record { rank = 0; op = i }) }
     requires receives { (i : ℕ) → i < 3 → IsReceive sched.now (record { rank = 1; op = i }) }
@@ -80,7 +81,7 @@ fn pairs_by_order_of_posts_and_arrivals(rt: HostRuntime) -> Result<(), Fail> {
             Some(OpId { rank: 1, op: 0 }),
             None,
             None,
-            // the second receive is passed by the messages of other tags
+            // the second receive does not take messages of other tags
             Some(OpId { rank: 1, op: 1 }),
             // of the messages that wait, tag 7 arrived first
             Some(OpId { rank: 0, op: 3 }),

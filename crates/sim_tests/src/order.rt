@@ -1,4 +1,4 @@
-// Events are ordered by time, at one time by class, then by rank and number.
+//! Events are ordered by time, at one time by class, then by rank and number.
 ghost use Rattle.std.specs.Prelude.{◌≡◌, ◌<◌};
 
 use crate::same::same;

@@ -1,13 +1,15 @@
-// Plans and schedules as several tests make them.
+//! Plans and schedules for several tests.
 use goal_graph::{Dep, Kind, Note, Op, PlanFault, RankPlan, Sched, When};
 use std::alloc::{AllocError, Global};
 
+/// A calc of one nanosecond, on cpu 0 and NIC 0.
 pub const CALC: Op = Op {
     kind: Kind::Calc { nanos: 1 },
     cpu: 0,
     nic: 0,
 };
 
+/// The dependency of an operation on an earlier one, by their numbers.
 pub fn dep(later: u32, earlier: u32, when: When) -> Dep {
     Dep {
         later,
@@ -16,7 +18,7 @@ pub fn dep(later: u32, earlier: u32, when: When) -> Dep {
     }
 }
 
-/// An operation on the first cpu and the first interface.
+/// An operation on cpu 0 and NIC 0.
 pub fn op(kind: Kind) -> Op {
     Op {
         kind,
@@ -25,7 +27,7 @@ pub fn op(kind: Kind) -> Op {
     }
 }
 
-/// What a rank does, all of it on one cpu and one interface.
+/// The plan of a rank with these operations, all on cpu 0 and NIC 0. `Err` means out of memory.
 pub fn plan(alloc: Global, kinds: &[Kind], deps: &[Dep]) -> Result<RankPlan, AllocError> {
     let mut ops = Vec::new(alloc);
     for kind in kinds {
@@ -38,7 +40,7 @@ pub fn plan(alloc: Global, kinds: &[Kind], deps: &[Dep]) -> Result<RankPlan, All
     })
 }
 
-/// A plan without dependencies.
+/// A plan without dependencies. `Err` means out of memory.
 pub fn noted_plan(alloc: Global, ops: &[Op], notes: &[Note]) -> Result<RankPlan, AllocError> {
     Ok(RankPlan {
         ops: ops.to_vec(alloc)?,

@@ -1,4 +1,4 @@
-// Twelve slots are put, four of them dropped. In a heap whose keys go from the top, three are put and one is taken.
+//! Twelve slots are put, and four of them removed. In a `TopHeap`, three are put and one is taken.
 ghost use Rattle.std.specs.Prelude.{◌≡◌, ◌<◌, None, length, replicate};
 ghost use Rattle.goal_graph.specs.declared.action.Class.TheVariants.{Begin};
 
@@ -14,7 +14,7 @@ use std::test::Fail;
 
 const KEYS: [u64; 12] = [1, 10, 2, 11, 12, 3, 21, 13, 14, 15, 16, 5];
 
-// The least of a queue of twelve slots, after twelve were put and four dropped.
+// The least of a queue of twelve slots, after twelve were put and four removed.
 fn least_of<Q: EventQueue<Counted<u64>>, L: Ledger>(
     queue: &mut Q,
     blank: Blank,
@@ -66,7 +66,7 @@ fn the_least_of_a_heap(rt: HostRuntime) -> Result<(), Fail> {
     Ok(())
 }
 
-// The plan of a rank that has so many calcs.
+// The plan of a rank with `count` calcs.
 fn calcs(alloc: Global, count: usize) -> Result<RankPlan, AllocError> {
     let calc = Op {
         kind: Kind::Calc { nanos: 1 },
@@ -130,7 +130,7 @@ fn the_least_of_a_top_heap(rt: HostRuntime) -> Result<(), Fail> {
     Ok(())
 }
 
-// The least of the heap that is given twelve keys as it is made.
+// The least of a heap that is created with twelve keys.
 fn least_of_twelve<L: Ledger>(
     alloc: Global,
     blank: Blank,

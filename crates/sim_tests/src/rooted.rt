@@ -1,10 +1,10 @@
-// What no clause says: that the calls succeed. The counts are worked by hand from the rounds.
+//! What the contracts do not say: that the calls succeed. The counts are computed by hand from the rounds.
 use crate::same::same;
 use goal_blocks::Collective;
 use goal_rooted::{RootedFault, generate_rooted};
 use std::test::Fail;
 
-// How many operations the schedule has, with messages of eight bytes.
+// The number of operations of the schedule, with messages of eight bytes.
 fn count(rt: &HostRuntime, what: Collective, ranks: u32) -> Result<u32, Fail> {
     if what.is_made_by_generate() {
         return Err(Fail::from("none of the five"));

@@ -1,4 +1,4 @@
-// Runs that get stuck, with their lines.
+//! Runs that get stuck, with their lines.
 use crate::plans::{dep, plan};
 use crate::same::same_list;
 use goal_graph::{Dep, Kind, Sched, Stuck, When};
@@ -9,7 +9,7 @@ use std::alloc::Global;
 use std::process::Abort;
 use std::test::Fail;
 
-// The stuck operations of a whole run.
+// The stuck operations of a complete run.
 fn stuck(alloc: Global, sched: &Sched) -> Result<Vec<Stuck>, Fail> {
     let costs = LogGops {
         params: Params::new(2500, 1500, 1000, 6, 0, 65535)?,
@@ -19,14 +19,14 @@ fn stuck(alloc: Global, sched: &Sched) -> Result<Vec<Stuck>, Fail> {
     Ok(explain(alloc, sched, &engine)?)
 }
 
-// The schedule of two ranks with these dependencies each.
+// The schedule of two ranks, each with these dependencies.
 fn two_ranks(alloc: Global, first: &[Kind], second: &[Kind], deps: &[Dep]) -> Result<Sched, Fail> {
     let first = plan(alloc, first, deps)?;
     let second = plan(alloc, second, deps)?;
     Ok(Sched::build(alloc, vec![in alloc; first, second]?)?)
 }
 
-// That a whole run leaves stuck what these lines say.
+// Checks that the stuck operations of a complete run have these lines.
 fn leaves(rt: &impl Abort, alloc: Global, sched: &Sched, lines: &str) -> Result<(), Fail> {
     let list = stuck(alloc, sched)?;
     let text = stuck_text(alloc, &list)?;
@@ -34,7 +34,7 @@ fn leaves(rt: &impl Abort, alloc: Global, sched: &Sched, lines: &str) -> Result<
     Ok(())
 }
 
-// A receive whose message another one took.
+// A receive whose message another one has taken.
 #[test]
 fn a_message_that_is_taken(rt: HostRuntime) -> Result<(), Fail> {
     let send = Kind::Send {
@@ -56,7 +56,7 @@ fn a_message_that_is_taken(rt: HostRuntime) -> Result<(), Fail> {
     leaves(&rt, rt.alloc(), &sched, "stuck 1 1 alone\n")
 }
 
-// Two large sends that each wait for a receive after the other's send.
+// Two rendezvous sends, each of which waits for a receive after the other's send.
 #[test]
 fn large_sends_face_to_face(rt: HostRuntime) -> Result<(), Fail> {
     let send = |to| Kind::Send {

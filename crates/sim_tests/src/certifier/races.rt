@@ -1,4 +1,4 @@
-// Races of schedules of one rank.
+//! Races of schedules of one rank.
 use crate::plans::{CALC, dep, one_rank};
 use crate::same::same;
 use goal_blocks::{CertFault, Collective};
@@ -11,7 +11,8 @@ fn adds(op: u32, from: u32, to: u32) -> Note {
     Note::Adds { op, from, to }
 }
 
-// What is found in a schedule of one rank of three calcs, as a barrier: none of them touches slot 0, which it wants.
+// The fault of a schedule of one rank with three calcs, as a barrier. None of them touches slot 0, which a barrier
+// needs.
 fn fault_of(alloc: Global, deps: &[Dep], notes: &[Note]) -> Result<Option<CertFault>, PlanFault> {
     let sched = one_rank(alloc, &[CALC, CALC, CALC], deps, notes)?;
     Ok(certify(alloc, &sched, Collective::Barrier).err())

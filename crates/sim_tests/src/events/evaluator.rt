@@ -1,4 +1,4 @@
-// The event rules as they stand in words. Nothing is kept but what has happened so far: each answer searches it whole.
+//! The rules of events, word for word. It keeps only the actions so far, and searches all of them for each result.
 use goal_graph::{Class, Kind, Op, OpId, RankPlan, Timed, When};
 use sim_params::Params;
 use std::alloc::{AllocError, Global};
@@ -15,7 +15,7 @@ const CLASSES: [Class; 5] = [
 // More actions than a small schedule has.
 const ENOUGH: u32 = 200;
 
-// A send and the receive that takes it, since a time.
+// A send and the receive that takes it, and when they were paired.
 #[derive(Clone, Copy)]
 struct Pair {
     send: OpId,
@@ -30,17 +30,17 @@ enum Resource {
     Rx,
 }
 
-// What the rules say after a history, oldest first.
+/// What the rules say after a history, whose oldest action is the first.
 #[derive(Drop)]
 pub struct Past<'a> {
     plans: &'a [RankPlan],
     params: Params,
     history: &'a [Timed],
-    // read off the history
+    // computed from the history
     pairs: Vec<Pair>,
 }
 
-// All that happens, oldest first.
+/// All actions of a run, the oldest first. `Err` means out of memory.
 pub fn run(alloc: Global, plans: &[RankPlan], params: Params) -> Result<Vec<Timed>, AllocError> {
     let mut history = Vec::new(alloc);
     for _ in 0..ENOUGH {
@@ -54,6 +54,7 @@ pub fn run(alloc: Global, plans: &[RankPlan], params: Params) -> Result<Vec<Time
 }
 
 impl<'a> Past<'a> {
+    /// Reads a history, whose oldest action is the first. `Err` means out of memory.
     pub fn of(
         alloc: Global,
         plans: &'a [RankPlan],
@@ -75,7 +76,7 @@ impl<'a> Past<'a> {
         Ok(past)
     }
 
-    // The pair that an action makes after earlier ones: with the first that is open and fits.
+    // The pair that an action makes after earlier ones: with the first operation that is not paired and fits.
     fn new_pair(&self, earlier: &[Timed], action: Timed) -> Option<Pair> {
         for other in earlier {
             let (send, recv) = match (action.class, other.class) {
@@ -176,7 +177,7 @@ impl<'a> Past<'a> {
         None
     }
 
-    // How long an action holds a resource, where it does.
+    // How long an action holds a resource, if it does.
     fn hold(&self, resource: Resource, class: Class, x: OpId) -> Option<u64> {
         let bytes = match (class, self.kind(x)?) {
             (Class::Begin, Kind::Calc { nanos }) => {
@@ -201,7 +202,7 @@ impl<'a> Past<'a> {
         }
     }
 
-    // Whether two operations use the same one.
+    // Whether two operations use the same resource.
     fn share(&self, resource: Resource, x: OpId, y: OpId) -> bool {
         let (Some(first), Some(second)) = (self.op(x), self.op(y)) else {
             return false;
@@ -227,10 +228,12 @@ impl<'a> Past<'a> {
         free
     }
 
+    /// When an operation started, in nanoseconds, if it has.
     pub fn start(&self, x: OpId) -> Option<u64> {
         self.at(Class::Begin, x).or(self.at(Class::Post, x))
     }
 
+    /// When an operation ends, in nanoseconds, once this is known.
     pub fn end(&self, x: OpId) -> Option<u64> {
         let last = match self.kind(x)? {
             Kind::Calc { .. } => Class::Begin,
@@ -247,12 +250,13 @@ impl<'a> Past<'a> {
         Some(self.at(last, x)?.saturating_add(hold))
     }
 
+    /// The operation with which this one is paired, if any.
     pub fn partner(&self, x: OpId) -> Option<OpId> {
         let pair = self.pair(x)?;
         Some(if pair.send == x { pair.recv } else { pair.send })
     }
 
-    // The greatest of the ends and starts that an operation waits for, once all are there.
+    // The greatest of the starts and ends that an operation waits for, once all have happened.
     fn ready(&self, x: OpId) -> Option<u64> {
         let mut ready: u64 = 0;
         for dep in &self.plans.get(x.rank as usize)?.deps {
@@ -272,7 +276,7 @@ impl<'a> Past<'a> {
         Some(ready)
     }
 
-    // When an action happens, where it may.
+    // When an action is possible, if it is.
     fn time(&self, class: Class, x: OpId) -> Option<u64> {
         if self.at(class, x).is_some() {
             return None;
@@ -297,7 +301,7 @@ impl<'a> Past<'a> {
         }
     }
 
-    // When the message of a pair is there for its receive.
+    // When the message of a pair is available to its receive.
     fn there(&self, pair: Pair) -> Option<u64> {
         let bytes = self.bytes(pair.send)?;
         if self.is_eager(bytes) {
@@ -307,7 +311,7 @@ impl<'a> Past<'a> {
         Some(handed_over.saturating_add(self.flight(bytes)))
     }
 
-    // The possible action of the least key.
+    /// The possible action with the least key, if any.
     pub fn next(&self) -> Option<Timed> {
         let mut next: Option<Timed> = None;
         for (rank, plan) in (0..).zip(self.plans) {

@@ -1,4 +1,4 @@
-// The engine and the plain evaluator of the rules do the same on small schedules, made by a seeded rule.
+//! The engine and the plain evaluator of the rules do the same on small schedules, which are drawn from a seed.
 ghost use Rattle.std.specs.Prelude.{◌<◌};
 
 use super::evaluator::{Past, run};
@@ -36,7 +36,7 @@ impl Seeded {
         self.below(n) == 0
     }
 
-    // A dependency, which may stand several times.
+    // Adds a dependency, sometimes three times.
     fn depend(&mut self, plan: &mut RankPlan, dep: Dep) -> Result<(), AllocError> {
         let times = if self.is_one_in(4) { 3 } else { 1 };
         for _ in 0..times {
@@ -63,7 +63,7 @@ impl Seeded {
         Ok(())
     }
 
-    // One more operation of a rank, which may need earlier ones.
+    // Adds an operation of a rank, which may need earlier ones.
     fn add(&mut self, plan: &mut RankPlan, kind: Kind) -> Result<(), AllocError> {
         let later = u32::try_from(plan.ops.len()).unwrap_or(0);
         let nic = match kind {
@@ -96,7 +96,7 @@ impl Seeded {
         }
     }
 
-    // A calc, a send, a receive, or mostly a message with both.
+    // Adds a calc, a send, a receive, or mostly a message with both.
     fn add_some(&mut self, plans: &mut [RankPlan], ranks: u32, sync: u64) -> Result<(), AllocError>
         requires { 0 < ranks }
     {
@@ -148,7 +148,7 @@ impl Seeded {
     }
 }
 
-// That an engine has done what the evaluator did, in the same order; whether an operation is stuck.
+// Checks that an engine has done what the evaluator did, in the same order. Returns whether an operation is stuck.
 fn compared(
     rt: &impl Abort,
     engine: &Engine<'_, LogGops>,
@@ -165,7 +165,7 @@ fn compared(
     stuck
 }
 
-// Runs one schedule both ways, and answers whether an operation is stuck.
+// Runs one schedule in both ways, and returns whether an operation is stuck.
 fn is_stuck(rt: &impl Abort, alloc: Global, params: Params, seed: u64) -> Result<bool, Fail> {
     let plans = Seeded { state: seed }.plans(alloc, params.sync)?;
     let sched = Sched::build(alloc, plans)?;

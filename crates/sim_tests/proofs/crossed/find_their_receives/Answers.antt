@@ -1,4 +1,4 @@
--- What is posted or arrives has not happened before.
+-- An operation is posted or arrives for the first time.
 use Rattle.std.proofs.Common.{◌≡◌, ℕ, ◌<◌, false, List, ◌∷◌, refl, ap, ◌∙◌, arith}
 use Rattle.std.proofs.lemmas.Bool.{false_from_ne_true}
 use Rattle.goal_graph.specs.declared.action.OpId.{OpId}
@@ -9,7 +9,7 @@ use Rattle.goal_graph.proofs.ForCallers.{happened_none, happened_not, is_act_op}
 use Rattle.sim_match.specs.PostsAndArrivals.{PostsAndArrivals}
 use Rattle.sim_tests.proofs.crossed.find_their_receives.Goals as goal
 
--- an operation of a lesser number leaves those of greater numbers as they were
+-- an operation of a lesser number does not change those of greater numbers
 later_fresh : (class other : Class) (rank op i : ℕ) (h : List Act) → op < i → happened class (record { rank = rank; op = i }) h ≡ false → happened class (record { rank = rank; op = i }) (record { class = other; op = record { rank = rank; op = op } } ∷ h) ≡ false
 later_fresh class other rank op i h below fresh =
     happened_not class (record { rank = rank; op = i }) (record { class = other; op = record { rank = rank; op = op } }) h fresh

@@ -1,4 +1,4 @@
--- What is posted or arrives has not happened before.
+-- An operation is posted or arrives for the first time.
 use Rattle.std.proofs.Common.{◌≡◌, List, [], ap, ◌∙◌, false}
 use Rattle.goal_graph.specs.declared.action.OpId.{OpId}
 use Rattle.goal_graph.specs.declared.action.Class.TheVariants.{Arrive, Post}
@@ -8,7 +8,7 @@ use Rattle.sim_match.specs.PostsAndArrivals.{PostsAndArrivals, with_post, with_a
 use Rattle.sim_tests.proofs.matching.answers.Goals as goal
 
 module _ (plans : List Plan) where
-  -- what the matcher knows before each call
+  -- the posts and arrivals before each call
   abbrev before_a : PostsAndArrivals
   before_a = record { plans = plans; actions = [] }
 
@@ -58,7 +58,7 @@ module _ (plans : List Plan) where
   unfolding happened
   fresh_g m e = ap (λ (m : PostsAndArrivals). happened Post (record { rank = 1; op = 2 }) m.actions) e
 
--- one more post, one more arrival
+-- another post, another arrival
 posted : (x : OpId) (m n s : PostsAndArrivals) → n ≡ with_post m x → m ≡ s → n ≡ with_post s x
 posted x m n s e f = e ∙ ap (λ (m : PostsAndArrivals). with_post m x) f
 
