@@ -1,4 +1,4 @@
-// Calls of `goal` on a host and sinks in memory.
+//! Calls of `goal` on a host and sinks in memory.
 ghost use Rattle.std.specs.Prelude.{◌<◌};
 
 use goal_base::{MemHost, MemSink};
@@ -11,7 +11,7 @@ use std::test::Fail;
 const MESSAGE: &[u8] =
     b"num_ranks 2 rank 0 { l1: send 10b to 1 tag 0 cpu 0 nic 0 } rank 1 { l1: recv 10b from 0 tag 0 cpu 0 nic 0 }";
 
-// The printed run of the message, of 121 bytes.
+// The output of `sim` for the message, of 121 bytes.
 const RUN: &[u8] =
     b"ranks 2 ops 2 stuck 0 unread 0 finish 5554\nop 0 0 send start 0 end 1500 match 1 0\nop 1 0 recv start 0 end 5554 match 0 0\n";
 
@@ -48,10 +48,10 @@ l2 adds 1 to 0
 const MACHINE: &[u8] =
     b"classes 2 class 2500 1500 1000 6 0 0 0 65535 class 500 300 200 1 0 0 0 65535 inside 1 default 0 ranks 2 0 0 pairs 0";
 
-// How many bytes a device moves per call, where it moves all that it is handed here.
+// The number of bytes that a device moves per call at most, if it is to take everything.
 const ALL: usize = 4096;
 
-// A call of `goal` on a host whose file "a" is the text and whose file "m" is the machine, and what it is to leave.
+// A call of `goal` on a host whose file "a" is the text and whose file "m" is the machine, and what it must leave.
 #[derive(Clone, Copy)]
 struct Row<'a> {
     text: &'a [u8],
@@ -85,7 +85,7 @@ const SIM: Row<'static> = Row {
     made: None,
 };
 
-// That two values are equal. It stands in one place, since the prover takes long over an `assert_eq!`.
+// Checks that two values are equal. It is a function, because the prover takes long over an `assert_eq!`.
 fn same<T: PartialEq + Debug>(rt: &impl Abort, found: &T, wanted: &T) {
     assert_eq!(rt; found, wanted);
 }
@@ -98,7 +98,7 @@ fn words_of(alloc: Global, line: &[&str]) -> Result<Vec<String>, AllocError> {
     Ok(words)
 }
 
-// That the call of a row leaves what it is to leave.
+// Checks that the call of a row leaves what it must.
 fn leaves(rt: &impl Abort, alloc: Global, row: &Row<'_>) -> Result<(), Fail> {
     assert!(rt; row.host_most > 0);
     assert!(rt; row.out_most > 0);
@@ -235,7 +235,7 @@ fn each_command(rt: HostRuntime) -> Result<(), Fail> {
     Ok(())
 }
 
-// The output takes ten bytes a call: each of its calls fails in turn, and then none.
+// The output takes ten bytes per call. Each of its calls fails in turn, and then none.
 #[test]
 fn output_cut_at_each_call(rt: HostRuntime) -> Result<(), Fail> {
     for number in 1..14usize {
@@ -265,7 +265,7 @@ const COMPILE: Row<'static> = Row {
     ..SIM
 };
 
-// The same where call `number` of the host fails.
+// The same, with a failure of the call `number` of the host.
 fn fails(rt: &impl Abort, alloc: Global, row: Row<'static>, number: u64) -> Result<(), Fail> {
     let row = Row {
         host_fails: &[number],
@@ -274,7 +274,8 @@ fn fails(rt: &impl Abort, alloc: Global, row: Row<'static>, number: u64) -> Resu
     leaves(rt, alloc, &row)
 }
 
-// A host that moves at most `most` bytes a call opens the message and reads it to its end in `reads` calls. Then its file is created, written in one call and finished.
+// A host that moves at most `most` bytes per call opens the message and reads it to its end in `reads` calls. Then it
+// creates its file, writes it in one call and finishes it.
 fn compiles_but_for_each_call(
     rt: &impl Abort,
     alloc: Global,

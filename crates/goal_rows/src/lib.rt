@@ -1,4 +1,4 @@
-//! Tests of the top call on devices in memory that fail or move little. Nothing stands on this crate.
+//! Tests of the top call on devices in memory that fail or move few bytes. No other crate uses this one.
 #![tactic(auto)]
 
 #[cfg(test)]
