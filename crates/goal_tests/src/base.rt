@@ -1,3 +1,4 @@
+//! Hosts and sinks in memory: what a file or a sink has after calls that fail or move few bytes.
 ghost use Rattle.std.specs.Prelude.{◌<◌};
 
 use crate::same::{same, same_list};
@@ -11,7 +12,7 @@ use std::test::Fail;
 // A line, of which a sink below takes the first 20 bytes.
 const TEXT: &[u8] = b"ranks 2 ops 2 stuck 0 unread 0 finish 5554\n";
 
-// A host with a file "a", which moves at most so many bytes a call and fails at these calls.
+// A host with a file "a". It moves at most `most` bytes per call and fails at the calls `fails`.
 fn host_of(alloc: Global, most: usize, fails: &[u64]) -> Result<MemHost, Fail>
     requires { 0 < most }
 {
@@ -20,7 +21,7 @@ fn host_of(alloc: Global, most: usize, fails: &[u64]) -> Result<MemHost, Fail>
     Ok(host)
 }
 
-// That a file is read as these bytes.
+// Checks that a file is read as these bytes.
 fn reads(
     rt: &impl Abort,
     alloc: Global,
@@ -33,7 +34,7 @@ fn reads(
     Ok(())
 }
 
-// That a file is not read.
+// Checks that reading a file fails.
 fn fails(rt: &impl Abort, alloc: Global, host: &mut MemHost, name: &str) {
     same(
         rt,
@@ -42,7 +43,7 @@ fn fails(rt: &impl Abort, alloc: Global, host: &mut MemHost, name: &str) {
     );
 }
 
-// That the file "a" was made of these bytes.
+// Checks that the file "a" has these bytes.
 fn holds(rt: &impl Abort, host: &MemHost, wanted: &[u8]) -> Result<(), Fail> {
     let file = host.file("a").ok_or("no file")?;
     same(rt, &file, &wanted);
@@ -65,7 +66,7 @@ fn faults_of_a_host(rt: HostRuntime) -> Result<(), Fail> {
     reads(&rt, rt.alloc(), &mut host, "a", TEXT)
 }
 
-// Makes the file "a" anew, of which the host takes four bytes a call.
+// Creates the file "a" again, on a host that takes four bytes per call.
 fn make(rt: &impl Abort, host: &mut MemHost) -> Result<(), Fail> {
     host.create("a")?;
     same(rt, &host.write(b"number")?, &4);
@@ -81,7 +82,7 @@ fn a_file_is_made(rt: HostRuntime) -> Result<(), Fail> {
     holds(&rt, &host, b"numbs")
 }
 
-// That a sink takes these bytes, and has these then.
+// Checks what a sink returns for these bytes, and which bytes it has then.
 fn takes(
     rt: &impl Abort,
     sink: &mut MemSink,

@@ -1,4 +1,4 @@
-//! What no clause says: that the calls succeed, and the faults of files that are written out.
+//! What the contracts do not say: that the calls succeed, and the faults of files that are written out here.
 ghost use Rattle.std.specs.Prelude.{◌≡◌, IfOk, IsOkUnless};
 
 use crate::same::{same, same_list};
@@ -37,7 +37,7 @@ const OLD_MESSAGE: [u8; 88] = [
     0x0A, 0x00, 0x00, 0x00, 0x00, 0x00, 0x00, 0x00,
 ];
 
-/// A rank with this operation alone, on cpu 0 and interface 0.
+/// A rank with this operation alone, on cpu 0 and NIC 0. `Err` means out of memory.
 pub fn plan_of(alloc: Global, kind: Kind) -> Result<RankPlan, AllocError> {
     Ok(RankPlan {
         ops: vec![in alloc;
@@ -68,7 +68,7 @@ pub fn message(alloc: Global) -> Result<Sched, PlanFault> {
     Sched::build(alloc, plans)
 }
 
-// That the files of a schedule are those of the message.
+// Checks that the files of a schedule are those of the message.
 fn is_message(rt: &impl Abort, alloc: Global, sched: &Sched) -> Result<(), Fail> {
     let bytes = encode(alloc, sched)?;
     same_list(rt, bytes.as_slice(), MESSAGE.as_slice());
@@ -89,7 +89,8 @@ fn text_of_the_message(rt: HostRuntime) -> Result<(), Fail> {
     is_message(&rt, rt.alloc(), &sched)
 }
 
-/// The schedule, written in both versions and read again: the contracts of the calls give that it is the same.
+/// Writes the schedule in the current version and reads it again. The contracts of the calls ensure that it is the
+/// same.
 fn written_and_read(alloc: Global, sched: &Sched) -> Result<Sched, FileFault>
     ensures same { IfOk result (λ again. again ≡ sched.now) }
     ensures only { IsOkUnless result FileFault.NoMemory }
@@ -101,6 +102,7 @@ fn written_and_read(alloc: Global, sched: &Sched) -> Result<Sched, FileFault>
     }
 }
 
+/// The same in version 1.
 fn written_as_before_and_read(alloc: Global, sched: &Sched) -> Result<Sched, FileFault>
     ensures same { IfOk result (λ again. again ≡ sched.now) }
     ensures only { IsOkUnless result FileFault.NoMemory }
@@ -112,7 +114,7 @@ fn written_as_before_and_read(alloc: Global, sched: &Sched) -> Result<Sched, Fil
     }
 }
 
-// The kinds of all operations.
+/// The kinds of all operations. `Err` means out of memory.
 pub fn kinds_of(alloc: Global, sched: &Sched) -> Result<Vec<Kind>, AllocError> {
     let mut kinds = Vec::new(alloc);
     for id in sched.operations() {
@@ -121,7 +123,7 @@ pub fn kinds_of(alloc: Global, sched: &Sched) -> Result<Vec<Kind>, AllocError> {
     Ok(kinds)
 }
 
-// That the schedule has these kinds, also when it was written in both versions and read again.
+// Checks that the schedule has these kinds, also after it was written in both versions and read again.
 fn stays(rt: &impl Abort, alloc: Global, sched: &Sched, wanted: &[Kind]) -> Result<(), Fail> {
     let kinds = kinds_of(alloc, sched)?;
     same_list(rt, &kinds, wanted);
@@ -163,14 +165,14 @@ fn a_cut_file_is_short(rt: HostRuntime) -> Result<(), Fail> {
     Ok(())
 }
 
-/// Puts a byte at a place, where there is one.
+/// Puts a byte at an index, if it exists.
 fn put(bytes: &mut [u8], place: usize, byte: u8) {
     if let Some(old) = bytes.get_mut(place) {
         *old = byte;
     }
 }
 
-/// The fault of a file of which one byte is another.
+/// The fault of a file in which one byte is replaced.
 fn damaged(
     alloc: Global,
     file: &[u8],
@@ -289,7 +291,7 @@ fn faults_of_version_1(rt: HostRuntime) -> Result<(), Fail> {
     Ok(())
 }
 
-/// The next number of a sequence that a seed begins.
+/// The next number of a sequence that begins with a seed.
 fn next(state: u64) -> u64 {
     state
         .wrapping_mul(6_364_136_223_846_793_005)
@@ -331,7 +333,7 @@ fn drawn_op(state: u64, rank: u32) -> (Op, u64) {
     (Op { kind, cpu, nic }, any_state)
 }
 
-/// A drawn rank of two operations, the second after the first, with a note on a receive where there is one.
+/// A drawn rank of two operations, the second after the first, with a note on a receive if there is one.
 fn drawn_plan(alloc: Global, seed: u64, rank: u32) -> Result<RankPlan, AllocError> {
     let mut ops = Vec::new(alloc);
     let mut deps = Vec::new(alloc);
@@ -364,7 +366,7 @@ fn drawn_plan(alloc: Global, seed: u64, rank: u32) -> Result<RankPlan, AllocErro
     Ok(RankPlan { ops, deps, notes })
 }
 
-/// Whether bytes are at fault, or say a schedule of which they are the file.
+/// Whether bytes have a fault, or are the file of the schedule that is read from them.
 fn is_fault_or_file(alloc: Global, bytes: &[u8]) -> Result<bool, NoMemory> {
     let Ok(sched) = decode(alloc, bytes) else {
         return Ok(true);
@@ -374,7 +376,7 @@ fn is_fault_or_file(alloc: Global, bytes: &[u8]) -> Result<bool, NoMemory> {
     Ok(file.as_slice() == bytes || old.as_slice() == bytes)
 }
 
-// That the file with any byte replaced by another is at fault or a file, and nothing else.
+// Checks that the file with any byte replaced has a fault or is a file.
 fn is_whole(rt: &impl Abort, alloc: Global, file: &[u8]) -> Result<(), Fail> {
     let mut bytes = Vec::from_slice(alloc, file)?;
     let mut neighbour = 0;

@@ -1,4 +1,4 @@
-// Inputs that come in pieces, cut at each place.
+//! Inputs that come in pieces, cut at each index.
 ghost use Rattle.std.specs.Prelude.{◌<◌};
 
 use super::binary::MESSAGE_TEXT;
@@ -16,14 +16,14 @@ use std::test::Fail;
 
 const FILE: &[u8] = b"\x89GOAL\r\n\x1a\x02\0\0\0\x02\x01\0\0\x01\x01\0\n\x01\0\0\x02\0\0\n";
 
-// The second fault stands behind the first.
+// The second fault is after the first.
 const TWO_FAULTS: &[u8] = b"num_ranks 2 rank 0 { send 10x to 1 } rank 5 {";
 
 const REPEATED: &[u8] = b"num_ranks 2 rank 0 { send 10b to 1 } rank 0 { }";
 
 const CYCLE: &[u8] = b"num_ranks 2 rank 1 { calc 5 l1: calc 5 l1 requires l1 }";
 
-// An input, and what is printed of its schedule, or why it is not read.
+// An input, and what is printed of its schedule, or why there is none.
 #[derive(Clone, Copy)]
 struct Row<'a> {
     input: &'a [u8],
@@ -79,7 +79,7 @@ fn print_by(
     }
 }
 
-// That what was printed, or why nothing was read, is as wanted.
+// Checks what was printed, or why there is no schedule.
 fn is_printed(rt: &impl Abort, found: Result<Vec<u8>, Unread>, wanted: Result<&[u8], Unread>) {
     match (found, wanted) {
         (Ok(found), Ok(wanted)) => same_list(rt, found.as_slice(), wanted),
@@ -98,7 +98,7 @@ fn cut_at_each_place(rt: HostRuntime) -> Result<(), Fail> {
     Ok(())
 }
 
-// The host fails after the fault of the text was read: its failure is what is answered.
+// The host fails after the fault of the text was read. The failure is returned.
 #[test]
 fn failure_before_fault(rt: HostRuntime) -> Result<(), Fail> {
     let found = print_by(rt.alloc(), TWO_FAULTS, 1, &[40])?;

@@ -1,11 +1,12 @@
-//! What no clause says: the words and signs as they are written, and that each call can succeed.
+//! What the contracts do not say: the words and signs, and that each call can succeed.
 ghost use Rattle.std.specs.Prelude.{◌≡◌, ◌+◌, ◌<◌, ◌≤◌, ◌^◌, length, false, None, IfOk};
 
 use goal_lexer::{Label, LexFault, Lexer, Token, TokenKind};
 use std::alloc::{AllocError, Global};
 use std::test::Fail;
 
-/// Takes a whole piece, and adds its tokens to the list. `Ok(Some(at))` is a fault.
+/// Reads a whole piece, and appends its tokens to the list. Returns the place of a fault, or `None` if the piece has
+/// none.
 fn feed(lexer: &mut Lexer, piece: &[u8], tokens: &mut Vec<Token>) -> Result<Option<u64>, AllocError>
     requires room { lexer.old.place + length piece.now < 2 ^ 64 }
     requires apart { lexer.old.ends_run ≡ false }
@@ -27,7 +28,7 @@ fn feed(lexer: &mut Lexer, piece: &[u8], tokens: &mut Vec<Token>) -> Result<Opti
     Ok(None)
 }
 
-/// The tokens of a text that is handed over in two pieces, and its fault, if it has one.
+/// The tokens of a text that is read in two pieces, and its fault, if it has one.
 fn lexed(alloc: Global, text: &[u8], cut: usize) -> Result<(Vec<Token>, Option<u64>), AllocError>
     requires within { cut ≤ length text.now }
     requires short { length text.now < 2 ^ 32 }
@@ -50,7 +51,7 @@ fn lexed(alloc: Global, text: &[u8], cut: usize) -> Result<(Vec<Token>, Option<u
     }
 }
 
-/// The kind of the one token that a text is.
+/// The kind of the first token of a text; `None` if it has none.
 fn only_kind(text: &[u8]) -> Result<Option<TokenKind>, LexFault>
     requires { length text.now < 2 ^ 32 }
 {

@@ -1,4 +1,5 @@
-//! The tests of the crates that carry the inputs of `goal` and what it writes: a module a crate. Nothing stands on this crate.
+//! Tests of the crates that read the inputs of `goal` and write its outputs: one module per crate. No other crate uses
+//! this one.
 #![tactic(auto)]
 
 #[cfg(test)]

@@ -1,4 +1,4 @@
-//! What no clause says: the faults of texts that are written out.
+//! What the contracts do not say: the faults of texts that are written out here.
 ghost use Rattle.std.specs.Prelude.{◌≤◌, length};
 
 use crate::same::same_list;
@@ -26,7 +26,7 @@ l3 requires l2
 }
 ";
 
-/// What is printed of it.
+/// The canonical text of its schedule.
 const LONGER_PRINTED: &str = "num_ranks 2
 rank 0 {
 l1: calc 100 cpu 0
@@ -105,7 +105,7 @@ fn faults(rt: HostRuntime) -> Result<(), Fail> {
     Ok(())
 }
 
-/// What is read of a text that is handed over in two pieces.
+/// The schedule of a text that is read in two pieces, or its fault.
 fn read_cut(alloc: Global, text: &[u8], cut: usize) -> Result<Sched, TextFault>
     requires { cut ≤ length text.now }
 {
@@ -115,7 +115,7 @@ fn read_cut(alloc: Global, text: &[u8], cut: usize) -> Result<Sched, TextFault>
     reader.finish()
 }
 
-/// What is read of a text that is handed over byte by byte.
+/// The schedule of a text that is read byte by byte, or its fault.
 fn read_by_bytes(alloc: Global, text: &[u8]) -> Result<Sched, TextFault> {
     let mut reader = TextReader::new(alloc);
     for (place, _) in text.iter().enumerate() {
@@ -124,7 +124,7 @@ fn read_by_bytes(alloc: Global, text: &[u8]) -> Result<Sched, TextFault> {
     reader.finish()
 }
 
-// That a schedule is the one that the longer text says.
+// Checks that a schedule is that of the longer text.
 fn is_longer(rt: &impl Abort, alloc: Global, sched: &Sched) -> Result<(), Fail> {
     let text = print_text(alloc, sched)?;
     same_list(rt, text.as_slice(), LONGER_PRINTED.as_bytes());

@@ -1,10 +1,11 @@
+//! Canonical text: what is printed and read again is the same schedule.
 use super::binary::{kinds_of, message, plan_of};
 use crate::same::same_list;
 use goal_graph::{Kind, Sched};
 use goal_print::{print_text, read_printed};
 use std::test::Fail;
 
-/// What is printed of the message.
+/// The canonical text of the message's schedule.
 pub const MESSAGE_PRINTED: &[u8] =
     b"num_ranks 2\nrank 0 {\nl1: send 10b to 1 tag 0 cpu 0 nic 0\n}\nrank 1 {\nl1: recv 10b from 0 tag 0 cpu 0 nic 0\n}\n";
 

@@ -10,6 +10,6 @@ invariant-loop-at l = record {
   left : l.lexer.ends_run ≡ true → l.at < length l.piece;
 }
 
--- the bytes left, and whether the run before them was handed out
+-- the number of bytes left, and whether the token before them was returned
 abbrev pub decreases-loop-at : goal.decreases-loop-at
 decreases-loop-at l = 2 * (length l.piece - l.at) + (if l.lexer.ends_run then 0 else 1)

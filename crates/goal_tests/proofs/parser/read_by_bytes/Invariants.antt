@@ -1,4 +1,4 @@
--- The bytes handed over so far were read.
+-- The bytes so far were read.
 use Rattle.std.proofs.Common.{◌≡◌}
 use Rattle.goal_parser.specs.TextRead.{bytes_read}
 use Rattle.goal_tests.proofs.parser.read_by_bytes.Given as goal
