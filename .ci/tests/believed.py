@@ -130,6 +130,10 @@ class Believed(unittest.TestCase):
         self.assertIn("there is no call `laws_of_posts_and_arrivals` in sim_match, sim_resources", said)
         self.assertIn("`laws_of_lines` has no clause `options_join`", said)
 
+    def test_a_row_apart_from_its_table_is_told(self) -> None:
+        self.change("docs/PROVED.md", "\n| `Sentence::of` |", "\n\n| `Sentence::of` |")
+        self.assertRegex(self.called()[1], r"docs/PROVED.md:\d+: this row has no table")
+
     def test_a_row_for_a_contract_without_names_is_told_where_it_has_them(self) -> None:
         self.change("docs/PROVED.md", "| `Sentence::of` | `sentence`, `priced` |", "| `Sentence::of` | — |")
         self.assertIn("`Sentence::of` has no clause without a name", self.called()[1])
