@@ -13,7 +13,7 @@ import re
 import stat
 import subprocess
 import sys
-from typing import Dict, List, NoReturn, Optional, Sequence, Tuple
+from typing import Dict, List, Mapping, NamedTuple, NoReturn, Optional, Sequence, Tuple
 
 TOP = os.path.dirname(os.path.dirname(os.path.abspath(__file__)))
 # The file of an installation that says what it was installed from.
@@ -46,6 +46,9 @@ NUMBERS: Dict[str, Tuple[int, int, str]] = {
 KINDS = ("bcast", "barrier", "allgather", "allreduce", "alltoall", "reduce", "gather", "scatter", "reduce_scatter", "scan")
 ROOTED = ("bcast", "reduce", "gather", "scatter")
 READ = ("NAME", "MACHINE")
+STANDARD_INPUT = "/dev/stdin"
+# By the number of a word, the file that has what the device of this name gave.
+Copies = Mapping[int, str]
 # How files begin that are something else.
 MARKS = ((b"\xef\xbb\xbf", "begins with a byte-order mark: save it as UTF-8 without one"), (b"\xff\xfe", "is UTF-16: save it as UTF-8"),
          (b"\xfe\xff", "is UTF-16: save it as UTF-8"), (b"\x1f\x8b", "is packed by gzip: unpack it first"),
@@ -181,34 +184,52 @@ def root_fault(plain: Sequence[Tuple[int, str]], root: Optional[int]) -> Optiona
     return None
 
 
-def files_of(words: Sequence[str]) -> List[Tuple[str, str]]:
-    """The files that a command line reads, each with what it is: NAME or MACHINE."""
-    plain = [word for at, word in enumerate(words) if at and not word.startswith("-") and (not words[at - 1].startswith("-") or "=" in words[at - 1])]
-    return [(what, name) for what, name in zip(COMMANDS[words[0]][0], plain) if what in READ]
+class File(NamedTuple):
+    """A file that a command line reads: what it is (NAME or MACHINE), its name there, and where its bytes are."""
+
+    what: str
+    name: str
+    path: str
 
 
-def reading_fault(words: Sequence[str]) -> Optional[str]:
+def files_of(words: Sequence[str], copies: Copies) -> List[File]:
+    """The files that a command line reads."""
+    plain = [at for at, word in enumerate(words) if at and not word.startswith("-") and (not words[at - 1].startswith("-") or "=" in words[at - 1])]
+    return [File(what, words[at], copies.get(at, words[at])) for what, at in zip(COMMANDS[words[0]][0], plain) if what in READ]
+
+
+def reading_fault(files: Sequence[File]) -> Optional[str]:
     """Why a file can not be read."""
-    for _, name in files_of(words):
+    for _, name, path in files:
         try:
-            with open(os.open(name, os.O_RDONLY | os.O_NONBLOCK), "rb") as file:
+            with open(os.open(path, os.O_RDONLY | os.O_NONBLOCK), "rb") as file:
                 if stat.S_ISDIR(os.fstat(file.fileno()).st_mode):
                     return f"{shown(name)} is a folder"
         except OSError as why:
             reasons = {errno.ENOENT: "is not there", errno.EACCES: "may not be read", errno.EISDIR: "is a folder", errno.ENOTDIR: "lies below a file"}
+            if path == STANDARD_INPUT:
+                return "standard input is closed"
             return f"{shown(name)} {reasons.get(why.errno or 0, f'can not be read: {why.strerror}')}"
         except ValueError:
             return f"{name!r} is no name of a file"
     return None
 
 
-def content_of(name: str) -> Optional[bytes]:
+def is_read_once(file: File) -> bool:
+    """Whether the file is there, and gave its bytes once."""
+    try:
+        return not stat.S_ISREG(os.stat(file.path).st_mode)
+    except OSError:
+        return False
+
+
+def content_of(file: File) -> Optional[bytes]:
     """The bytes of a file that can be read again, else None."""
     try:
-        if not stat.S_ISREG(os.stat(name).st_mode) or name.startswith(("/dev/", "/proc/")):
+        if is_read_once(file):
             return None
-        with open(name, "rb") as file:
-            return file.read(2**27 + 1)
+        with open(file.path, "rb") as opened:
+            return opened.read(2**27 + 1)
     except OSError:
         return None
 
@@ -242,8 +263,12 @@ def odd_content(what: str, name: str, text: bytes) -> Optional[str]:
     return None
 
 
-def refusal_fault(words: Sequence[str], said: str) -> Optional[str]:
+def refusal_fault(files: Sequence[File], said: str) -> Optional[str]:
     """What more is known of a refusal, which the program said in that line."""
+    gone = next((file for file in files if is_read_once(file)), None)
+    if gone:
+        how = "came through a pipe" if stat.S_ISFIFO(os.stat(gone.path).st_mode) else "is a device"
+        return f"{shown(gone.name)} {how} and can not be read again: save it in a file, and the place of the fault is told"
     found = re.search(r"refused: (text|file|plan|machine|generator|budget)\b:? ?(.*)", said)
     if not found:
         return None
@@ -254,10 +279,11 @@ def refusal_fault(words: Sequence[str], said: str) -> Optional[str]:
     if kind == "budget":
         return "the times, sizes and costs are so large that a run could last 2^63 ns or more"
     what = "MACHINE" if kind == "machine" else "NAME"
-    name = next((name for kind_of_file, name in files_of(words) if kind_of_file == what), None)
-    text = content_of(name) if name is not None else None
-    if name is None or text is None:
+    file = next((file for file in files if file.what == what), None)
+    text = content_of(file) if file is not None else None
+    if file is None or text is None:
         return None
+    name = file.name
     if kind == "plan":
         return operation_of(name, text, rest)
     if kind == "machine" and rest.startswith("ranks"):
@@ -282,7 +308,7 @@ def operation_of(name: str, text: bytes, rest: str) -> Optional[str]:
     return Places(name, text).told(int(found[2]), int(found[3]), kind)
 
 
-def explain(words: Sequence[str], status: int, said: str = "") -> List[str]:
+def explain(words: Sequence[str], status: int, said: str = "", copies: Copies = {}) -> List[str]:
     """The lines that are added where the program has ended with this status, and said this line for a refusal."""
     if status == BAD_LINE and (not words or words[0] in ("--help", "-h", "help")):
         return commands()
@@ -292,9 +318,9 @@ def explain(words: Sequence[str], status: int, said: str = "") -> List[str]:
     if status == BAD_LINE:
         fault = line_fault(words)
     elif status == READ_FAULT:
-        fault = reading_fault(words)
+        fault = reading_fault(files_of(words, copies))
     elif status == REFUSED:
-        fault = refusal_fault(words, said)
+        fault = refusal_fault(files_of(words, copies), said)
     return [fault] if fault else []
 
 
@@ -311,27 +337,33 @@ def say(lines: Sequence[str]) -> None:
         pass
 
 
-def said_again(program: str, words: Sequence[str]) -> str:
+def said_again(program: str, words: Sequence[str], copies: Copies) -> str:
     """The line of a refusal, which the program says again where all that it reads can be read again."""
-    if any(content_of(name) is None for _, name in files_of(words)):
+    if any(is_read_once(file) for file in files_of(words, copies)):
         return ""
-    ended = subprocess.run([program, *words], stdin=subprocess.DEVNULL, stdout=subprocess.DEVNULL, stderr=subprocess.PIPE, check=False)
+    how = None if STANDARD_INPUT in words else subprocess.DEVNULL
+    ended = subprocess.run(called(program, words, copies), stdin=how, stdout=subprocess.DEVNULL, stderr=subprocess.PIPE, check=False, close_fds=False)
     return ended.stderr.decode("utf-8", "replace").strip()
 
 
-def explain_ended(program: str, words: Sequence[str], status: int) -> None:
+def called(program: str, words: Sequence[str], copies: Copies) -> List[str]:
+    """The call of the program, with the copies of devices in their places."""
+    return [program, *(copies.get(at, word) for at, word in enumerate(words))]
+
+
+def explain_ended(program: str, words: Sequence[str], status: int, copies: Copies = {}) -> None:
     """Says what is added where the program has ended."""
-    said = said_again(program, words) if status == REFUSED and words and words[0] in COMMANDS else ""
-    say(explain(words, status, said))
+    said = said_again(program, words, copies) if status == REFUSED and words and words[0] in COMMANDS else ""
+    say(explain(words, status, said, copies))
 
 
-def become(program: str, words: Sequence[str]) -> NoReturn:
+def become(program: str, words: Sequence[str], copies: Copies = {}) -> NoReturn:
     """Becomes the program; where a person reads, runs it and adds what is known of a failure."""
     if not is_wanted():
-        os.execv(program, [program, *words])
-    status = subprocess.run([program, *words], check=False).returncode
+        os.execv(program, called(program, words, copies))
+    status = subprocess.run(called(program, words, copies), check=False, close_fds=False).returncode
     if status in EXPLAINED:
-        explain_ended(program, words, status)
+        explain_ended(program, words, status, copies)
     sys.exit(status if status >= 0 else 128 - status)
 
 

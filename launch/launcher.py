@@ -133,13 +133,20 @@ class Call:
 
     def run_program(self) -> None:
         """Becomes the proved program. A device that was read is read from its copy."""
-        words = list(self.words)
+        copies = {}
         for number, path in self.trial.copies.items() if self.trial else ():
             given = os.open(path, os.O_RDONLY)
             os.set_inheritable(given, True)
-            words[number] = f"/proc/self/fd/{given}"
+            copies[number] = f"/proc/self/fd/{given}"
         self.end()
-        become(words)
+        become(self.words, copies)
+
+    def explain(self, status: int) -> None:
+        """Adds what is known of a failure of the answer from the sources, where a person reads."""
+        import explain
+
+        if self.trial and status in explain.EXPLAINED and explain.is_wanted():
+            explain.say(explain.explain(self.words, status, self.trial.said, self.trial.copies))
 
     def status_from_sources(self, proof: Proof) -> int | None:
         """The status of an answer from the sources, or None where the proof is done first, or where there is none."""
@@ -166,15 +173,15 @@ class Call:
         return None
 
 
-def become(words: list[str]) -> None:
-    """Becomes the proved program."""
+def become(words: list[str], copies: dict[int, str] | None = None) -> None:
+    """Becomes the proved program, with the copies of devices by the numbers of the words that name them."""
     for number in (signal.SIGPIPE, *SIGNALS):
         signal.signal(number, signal.SIG_DFL)
     # (large pages, as `goal` asks for them)
     os.environ.setdefault("GLIBC_TUNABLES", "glibc.malloc.hugetlb=1")
     import explain
 
-    explain.become(PROGRAM, words)
+    explain.become(PROGRAM, words, copies or {})
 
 
 def wait_for(proof: Proof) -> None:
@@ -198,6 +205,7 @@ def answer(words: list[str]) -> int:
                 return NO_TEXT
             status = None if waits else call.status_from_sources(proof)
             if status is not None:
+                call.explain(status)
                 return status
             if not proof.is_done():
                 wait_for(proof)

@@ -63,6 +63,8 @@ class Trial:
     def __init__(self, words: list[str], folder: str) -> None:
         self.folder, self.ran, self.out = folder, None, None  # type: str, subprocess.Popen[bytes] | None, str | None
         self.copies: dict[int, str] = {}
+        # what the program said on standard error, once it is over
+        self.said = ""
         self.named = list(words)
         reads, writes = names_in(words)
         for number in (it for it in reads + writes if words[it]):
@@ -125,6 +127,7 @@ class Trial:
         except OSError:
             status, told = WRITE_FAULT, b"goal: writing failed\n"
         tell(told)
+        self.said = told.decode("utf-8", "replace").strip()
         return status
 
     def hand_over(self) -> None:

@@ -133,7 +133,20 @@ class Files(unittest.TestCase):
 
     def test_what_came_through_a_pipe_is_gone(self) -> None:
         status, _, lines = explained(["sim", "/dev/stdin"], input=b"num_ranks")
-        self.assertEqual((status, lines), (3, ["goal: refused: text: syntax at 9"]))
+        self.assertEqual((status, lines), (3, ["goal: refused: text: syntax at 9", "goal: /dev/stdin came through a pipe and can not be read again: "
+                                               "save it in a file, and the place of the fault is told"]))
+
+    def test_standard_input_that_is_a_file(self) -> None:
+        with open(self.file(b"num_ranks 1\n rank"), "rb") as file:
+            status, _, lines = explained(["sim", "/dev/stdin"], stdin=file)
+        self.assertEqual((status, lines), (3, ["goal: refused: text: syntax at 17", "goal: /dev/stdin:2:6: here is the end"]))
+        status, _, lines = explained(["sim", "/dev/stdin"], preexec_fn=lambda: os.close(0))
+        self.assertEqual((status, lines), (4, ["goal: reading failed", "goal: standard input is closed"]))
+
+    def test_the_copy_of_a_device(self) -> None:
+        copy = self.file(b"num_ranks 1 rank x")
+        told = explain.explain(["sim", "--L", "5", "/dev/stdin"], 3, "goal: refused: text: syntax at 17", {3: copy})
+        self.assertEqual(told, ["/dev/stdin:1:18: here is x"])
 
 
 class Help(unittest.TestCase):
