@@ -76,8 +76,12 @@ class Certified(unittest.TestCase):
         for algorithm in ALGORITHMS:
             for wish in wishes(algorithm):
                 with self.subTest(f"{algorithm.name} {wish}"):
-                    text = "".join(algorithm.make(wish).text())
+                    made, counts = algorithm.make(wish), algorithm.counts(wish)
+                    text = "".join(made.text())
                     self.assertEqual(verdict(algorithm, wish, text), f"certified {algorithm.kind()} ranks {wish.ranks}")
+                    self.assertEqual((counts.operations, counts.adds), (made.operations, text.count(" adds ")))
+                    moved = sum(int(high) - int(low) + 1 for low, high in re.findall(r"moves (\d+) to (\d+)", text))
+                    self.assertLessEqual(2 * counts.slots, moved)
                     for options in ((), ["--S", "0"]):
                         ended = program.call(GOAL, ["sim", "/dev/stdin", *options], text)
                         self.assertRegex(ended.out, r"^ranks \d+ ops \d+ stuck 0 unread 0 finish ")
@@ -222,6 +226,13 @@ class Table(unittest.TestCase):
         for most, what in (("MOST_OPERATIONS", "operations"), ("MOST_NEEDS", "dependencies"), ("MOST_NOTES", "notes")):
             with mock.patch.object(plan, most, 5), self.assertRaisesRegex(command.Fault, f"^more than 5 {what}: "):
                 ALGORITHMS[0].make(Wish(9, 8, segments=2))
+
+    def test_too_much_is_a_fault_before_it_is_made(self) -> None:
+        for name, wish, what in (("allreduce-ring", Wish(2048, 8), "1048576 operations"), ("allreduce-halving-doubling", Wish(1024, 8), "1048576 notes"),
+                                 ("allgather-doubling", Wish(32768, 8), "67108864 slots in messages")):
+            algorithm = next(algorithm for algorithm in ALGORITHMS if algorithm.name == name)
+            with mock.patch.object(plan.Plan, "exchange", self.fail), self.assertRaisesRegex(command.Fault, f"^more than {what}: take fewer ranks"):
+                algorithm.make(wish)
 
     def test_the_documents_have_it(self) -> None:
         with open(os.path.join(TOP, "docs", "COLLECTIVES.md"), encoding="utf-8") as file:

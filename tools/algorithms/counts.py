@@ -1,0 +1,113 @@
+"""How much each algorithm makes, from the wishes of the user, so that too much is refused before it is made. Nothing of it is
+proved."""
+from dataclasses import dataclass
+from typing import TYPE_CHECKING
+
+from algorithms.parts import power
+from algorithms.plan import MOST_NOTES, MOST_OPERATIONS
+from common.command import Fault
+
+if TYPE_CHECKING:
+    from algorithms.collectives import Wish
+
+# Of so many slots, the messages of a plan take some gigabytes to make.
+MOST_SLOTS = 1 << 26
+
+
+@dataclass(frozen=True)
+class Counts:
+    """The messages and the calcs of a plan; how many notes `adds` and how many slots in messages it has, or a few more."""
+
+    messages: int
+    calcs: int = 0
+    adds: int = 0
+    slots: int = 0
+
+    @property
+    def operations(self) -> int:
+        return 2 * self.messages + self.calcs
+
+    def check(self) -> None:
+        """Refuses what a schedule has no room for."""
+        for count, most, what in ((self.operations, MOST_OPERATIONS, "operations"), (2 * self.messages + self.adds, MOST_NOTES, "notes"),
+                                  (2 * self.slots, MOST_SLOTS, "slots in messages")):
+            if count > most:
+                raise Fault(f"more than {most} {what}: take fewer ranks or segments")
+
+
+def rounds(count: int) -> int:
+    """How often 1 doubles until it is no less than the count."""
+    return (count - 1).bit_length()
+
+
+def tree(wish: "Wish") -> Counts:
+    messages = (wish.ranks - 1) * wish.segments
+    return Counts(messages, slots=messages)
+
+
+def there_and_back(wish: "Wish") -> Counts:
+    """A reduce and a broadcast by a tree."""
+    messages = (wish.ranks - 1) * wish.segments
+    return Counts(2 * messages, messages, messages, 2 * messages)
+
+
+def scatter_allgather(wish: "Wish") -> Counts:
+    return Counts((wish.ranks - 1) * (wish.ranks + 1), slots=wish.ranks * (wish.ranks - 1))
+
+
+def ring(wish: "Wish") -> Counts:
+    each = wish.ranks * (wish.ranks - 1) * wish.segments
+    return Counts(2 * each, each, each, 2 * each)
+
+
+def halving(wish: "Wish") -> Counts:
+    inside = power(wish.ranks)
+    outside = wish.ranks - inside
+    each = inside * rounds(inside) + outside
+    slots = inside * (inside - 1) + outside * inside
+    return Counts(2 * each, each, slots, 2 * slots)
+
+
+def two_level(wish: "Wish") -> Counts:
+    nodes = len(wish.nodes())
+    each = wish.ranks - nodes + nodes * (nodes - 1)
+    slots = (wish.ranks - nodes) * nodes + nodes * (nodes - 1)
+    return Counts(2 * each, each, slots, 2 * slots)
+
+
+def hierarchical(wish: "Wish") -> Counts:
+    sizes = [len(node) for node in wish.nodes()]
+    count, width = sizes[0], len(sizes)
+    each = sum(part(size, count) for size in sizes) + count * part(width, width)
+    slots = count * width * (wish.ranks - 1)
+    return Counts(2 * each, each, slots, 2 * slots)
+
+
+def part(members: int, pieces: int) -> int:
+    """The messages of a half of an allreduce among so many members: by halving, or else around a ring."""
+    is_halved = power(members) == members and pieces % members == 0
+    return members * (rounds(members) if is_halved else members - 1)
+
+
+def doubling(wish: "Wish") -> Counts:
+    return Counts(wish.ranks * rounds(wish.ranks), slots=wish.ranks * (wish.ranks - 1))
+
+
+def neighbour(wish: "Wish") -> Counts:
+    return Counts(wish.ranks * (wish.ranks // 2), slots=wish.ranks * (wish.ranks - 1))
+
+
+def alltoall_bruck(wish: "Wish") -> Counts:
+    """An item is sent once for each binary digit 1 of how far it goes."""
+    ranks = wish.ranks
+    digits = sum(bin(ahead).count("1") for ahead in range(ranks))
+    return Counts(ranks * rounds(ranks), ranks, ranks, ranks * digits)
+
+
+def pairwise(wish: "Wish") -> Counts:
+    each = wish.ranks * (wish.ranks - 1)
+    return Counts(each, wish.ranks, wish.ranks, each)
+
+
+def to_or_from_root(wish: "Wish") -> Counts:
+    return Counts(wish.ranks - 1, slots=wish.ranks - 1)
