@@ -6,7 +6,7 @@ from dataclasses import dataclass
 from typing import Dict, Iterator, List, Optional, Set, Tuple
 
 from common import program
-from common.canonical import Key, Schedule, read_canonical
+from common.canonical import Key, Schedule, rank_count, read_canonical
 from common.order import order_of, senders_of
 
 NOTE = re.compile(r"^(l\d+) (moves|adds) (\d+) to (\d+)$", re.MULTILINE)
@@ -118,7 +118,7 @@ class Segments:
     def __init__(self, goal: str, kind: str, text: str, root: int = 0) -> None:
         self.goal, self.kind, self.text, self.root = goal, kind, text, root
         self.words = ["certify", kind, "/dev/stdin", *(["--root", str(root)] if kind in program.ROOTED else [])]
-        self.ranks = int(text.split(None, 2)[1])
+        self.ranks = rank_count(text)
         self.width = width_of(kind, self.ranks)
         fault = self._certify(text)
         self.fault = None if fault is None or fault.startswith(OF_ONE) else fault

@@ -177,20 +177,14 @@ class Pictures(unittest.TestCase):
             picture = self.drawn(file.name, "--ranks", "0-3", "--to", "50000")
             self.assertLess(float(picture.attrib["height"]), 400)
 
-    def test_the_limit_is_kept_before_the_run_is_printed(self) -> None:
-        with tempfile.TemporaryDirectory() as folder:
-            schedule, logging, log = (os.path.join(folder, name) for name in ("schedule", "goal", "log"))
-            with open(schedule, "w") as file:
-                file.write(goal("gen", "alltoall", "8", "8"))
-            with open(logging, "w") as file:
-                file.write(f"#!/bin/sh\necho $1 >>{log}\nexec {os.path.abspath(program.chosen())} \"$@\"\n")
-            os.chmod(logging, 0o755)
-            for words, count in ((["--limit", "100"], "120 operations"), (["--limit", "20", "--ranks", "0-1"], "30 operations")):
-                done = timeline(schedule, "--goal", logging, *words)
-                self.assertEqual((done.returncode, done.stdout), (2, ""))
-                self.assertIn(f"{count}, and the limit is", done.stderr)
-            with open(log) as file:
-                self.assertEqual(file.read().split(), ["waits", "waits"])
+    def test_in_a_window_what_ends_there_is_enough(self) -> None:
+        done = timeline(os.path.join(EXAMPLES, "exchange"), "--from", "1", "--limit", "2")
+        self.assertEqual((done.returncode, done.stderr), (2, "timeline: 6 operations or more, and the limit is 2: choose some by --ranks, --from and --to, or raise --limit\n"))
+
+    def test_what_never_begins_counts(self) -> None:
+        done = timeline(os.path.join(EXAMPLES, "both_send_first"), "--limit", "3")
+        self.assertEqual((done.returncode, done.stdout), (2, ""))
+        self.assertIn("4 operations, and the limit is 3", done.stderr)
 
     def test_faults_are_one_line(self) -> None:
         name = os.path.join(EXAMPLES, "exchange")

@@ -1,11 +1,15 @@
 """Reads the canonical text of a schedule, which `goal show` prints. Nothing of it is proved."""
 from __future__ import annotations
 
+import re
 from dataclasses import dataclass, field
 from typing import Container, Dict, Iterable, List, Optional, Set, Tuple
 
 # an operation by its rank and its number there
 Key = Tuple[int, int]
+BLOCK = re.compile(r"^rank (\d+) \{$", re.MULTILINE)
+# what each line of an operation has once, and no other line
+AFTER_LABEL = ": "
 
 
 @dataclass
@@ -39,6 +43,18 @@ class Schedule:
     ranks: int
     ops: Dict[Key, Op]
     sizes: Dict[Key, int]
+
+
+def operation_counts(text: str) -> Dict[int, int]:
+    """How many operations each rank has, of a canonical text; those that have none are left out."""
+    blocks = [(int(found[1]), found.end()) for found in BLOCK.finditer(text)]
+    ends = [start for _, start in blocks[1:]] + [len(text)]
+    return {rank: text.count(AFTER_LABEL, start, end) for (rank, start), end in zip(blocks, ends)}
+
+
+def rank_count(text: str) -> int:
+    """How many ranks there are, of a canonical text."""
+    return int(text.split(None, 2)[1])
 
 
 def read_canonical(lines: Iterable[str], wanted: Optional[Container[int]] = None) -> Schedule:

@@ -9,13 +9,13 @@ from dataclasses import dataclass
 from typing import Dict, List, Optional, Set, Tuple
 
 from common import command, folding, program
-from common.canonical import Key, read_canonical
+from common.canonical import Key, operation_counts, rank_count, read_canonical
 from common.command import Fault
 from common.description import cluster_of, is_description
-from common.parameters import Alike, Costs, add_options, given_options, parameters_of, words_of
+from common.parameters import Alike, Costs, Machine, add_options, given_options, parameters_of, words_of
 from common.phases import Story, Window, stories_of
 from common.places import COMPILED, decoded, operations
-from common.printed_run import Run, first_line, read_run
+from common.printed_run import Run, read_run
 
 MOST_TIME = 2**63 - 1
 
@@ -63,9 +63,9 @@ def add_run_words(parser: argparse.ArgumentParser, limit: int) -> None:
     window = parser.add_argument_group("a part of the run")
     window.add_argument("--ranks", metavar="A-B", help="these ranks alone, as 0-7 or 0,4-5,9")
     window.add_argument("--from", metavar="T", dest="since", type=time, default=0, help="from this time on, in ns")
-    window.add_argument("--to", metavar="T", dest="until", type=time, help="up to this time")
+    window.add_argument("--to", metavar="T", dest="until", type=time, help="up to this time, in ns")
     count = command.number(0, MOST_TIME, "operations")
-    window.add_argument("--limit", metavar="N", type=count, default=limit, help="at most so many operations (%(default)s)")
+    window.add_argument("--limit", metavar="N", type=count, default=limit, help="at most so many operations; all of the ranks count where no time is chosen (%(default)s)")
     add_options(parser)
     program.add_option(parser)
 
@@ -93,15 +93,16 @@ def load(arguments: argparse.Namespace) -> Loaded:
         check_words(arguments, options)
         costs = costs_of(arguments, options)
         name, text = schedule_of(arguments.name, program.chosen(arguments.goal))
-        check_ended(arguments, options, name, text)
-        lines = run_lines(arguments, options, name, text)
-        run = first_line(lines[0] if lines else "")
-        window = Window(ranks_of(arguments.ranks, run.ranks), arguments.since, arguments.until)
-        if is_whole(arguments) and arguments.ranks is None:
-            check_limit(arguments, run.ops - run.stuck)
-        run = read_run(lines, window.ranks)
-        schedule = read_canonical(output_of(arguments, text, "show", name), window.ranks)
-        stories = stories_of(schedule, run, costs, window)
+        shown = canonical_of(arguments, text, name)
+        check_machine(costs, rank_count(shown))
+        window = Window(ranks_of(arguments.ranks, rank_count(shown)), arguments.since, arguments.until)
+        if is_whole(arguments):
+            counts = operation_counts(shown)
+            check_limit(arguments, sum(counts.get(rank, 0) for rank in window.ranks))
+        run = read_run(run_lines(arguments, options, name, text), window.ranks)
+        # (what ends in the window is seen there: so many runs are refused before their stories are made)
+        check_limit(arguments, sum(it.end is not None and window.meets(it.end, it.end) for it in run.timed.values()), " or more")
+        stories = stories_of(read_canonical(shown.splitlines(), window.ranks), run, costs, window)
     except ValueError as why:
         raise Fault(str(why)) from None
     check_limit(arguments, sum(window.sees(story) for story in stories.values()))
@@ -129,16 +130,16 @@ def is_whole(arguments: argparse.Namespace) -> bool:
     return arguments.since == 0 and arguments.until is None
 
 
-def check_limit(arguments: argparse.Namespace, seen: int) -> None:
+def check_limit(arguments: argparse.Namespace, seen: int, more: str = "") -> None:
+    """Keeps the limit, where so many operations are to be seen, or `more`."""
     if seen > arguments.limit:
-        raise Fault(f"{seen} operations, and the limit is {arguments.limit}: choose some by --ranks, --from and --to, or raise --limit")
+        raise Fault(f"{seen} operations{more}, and the limit is {arguments.limit}: choose some by --ranks, --from and --to, or raise --limit")
 
 
-def check_ended(arguments: argparse.Namespace, options: Dict[str, int], name: str, text: Optional[str]) -> None:
-    """Keeps the limit before the run is printed and read, by the operations of each rank that end, where these are soon known."""
-    if arguments.run is None and arguments.machine is None and is_whole(arguments):
-        lines = [line.split() for line in output_of(arguments, text, "waits", name, *words_of(options)) if line.startswith("rank ")]
-        check_limit(arguments, sum(int(lines[rank][3]) for rank in ranks_of(arguments.ranks, len(lines))))
+def check_machine(costs: Costs, ranks: int) -> None:
+    """The machine, if there is one, has as many ranks as the schedule."""
+    if isinstance(costs, Machine) and len(costs.nodes) != ranks:
+        raise Fault(f"the machine has {len(costs.nodes)} ranks, and the schedule has {ranks}")
 
 
 def labels_of(name: str) -> Dict[Key, str]:
@@ -171,6 +172,11 @@ def output_of(arguments: argparse.Namespace, text: Optional[str], *words: str) -
     """The lines that the program prints."""
     answer = program.call(program.chosen(arguments.goal), words, text)
     return program.expect(answer, program.DONE, program.STUCK).out.splitlines()
+
+
+def canonical_of(arguments: argparse.Namespace, text: Optional[str], name: str) -> str:
+    """The canonical text of the schedule."""
+    return program.expect(program.call(program.chosen(arguments.goal), ["show", name], text), program.DONE).out
 
 
 def run_lines(arguments: argparse.Namespace, options: Dict[str, int], name: str, text: Optional[str]) -> List[str]:

@@ -149,7 +149,9 @@ class Window:
         return self.meets(story.begin, story.timed.end)
 
     def sees(self, story: Story) -> bool:
-        """Whether the operation does something in the window, or is stuck there: it does not only wait."""
+        """Whether the operation does something in the window, is stuck there, or never begins: it does not only wait."""
+        if story.never:
+            return self.until is None
         stuck = story.stuck_from is not None and self.meets(story.stuck_from, None)
         return stuck or any(self.meets(begin, end) for begin, end in story.busy)
 

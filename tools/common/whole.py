@@ -7,12 +7,12 @@ from functools import cached_property
 from typing import Dict, List, Optional, Tuple
 
 from common import folding, program
-from common.canonical import Key, Schedule, read_canonical
+from common.canonical import Key, Schedule, operation_counts, rank_count, read_canonical
 from common.causes import Causes
 from common.chain import chain_to, end_of, last_end
 from common.command import STANDARD_INPUT, Fault
 from common.description import cluster_of
-from common.loading import check_sources, costs_of, output_of, run_lines, schedule_of, text_of
+from common.loading import canonical_of, check_machine, check_sources, costs_of, output_of, run_lines, schedule_of, text_of
 from common.parameters import Costs, add_options, given_options
 from common.phases import Misfit, Story, Window, stories_of
 from common.printed_run import Run, Timed, read_run
@@ -54,7 +54,7 @@ class Whole:
     @property
     def ranks(self) -> int:
         """The ranks of the schedule of the user."""
-        return int(self.shown[0].split()[1])
+        return rank_count(self.shown[0])
 
     def named(self, key: Key) -> Key:
         """The rank and the number of an operation in the schedule of the user."""
@@ -62,22 +62,24 @@ class Whole:
 
     def key_of(self, name: Key) -> Key:
         """The operation that has this rank and number there."""
-        found = {old: new for new, old in self.names.items()}.get(name, name)
-        if found not in self.schedule.ops:
-            raise Fault(f"rank {name[0]} has no operation {name[1]}")
-        return found
+        return {old: new for new, old in self.names.items()}.get(name, name)
 
 
-def load_whole(arguments: argparse.Namespace) -> Whole:
-    """The run that the words ask for."""
+def load_whole(arguments: argparse.Namespace, wanted: Optional[Key] = None) -> Whole:
+    """The run that the words ask for. What is wrong with the words beside the schedule is found before it begins, so that there is no
+    operation that is wanted."""
     try:
         options = given_options(arguments)
         check_sources(arguments, options)
         costs, goal = costs_of(arguments, options), program.chosen(arguments.goal)
         source, text = schedule_of(arguments.name, goal)
-        run = read_run(run_lines(arguments, options, source, text))
-        shown = output_of(arguments, text, "show", source)
+        canonical = canonical_of(arguments, text, source)
+        check_machine(costs, rank_count(canonical))
+        if wanted is not None and wanted[1] >= operation_counts(canonical).get(wanted[0], 0):
+            raise Fault(f"rank {wanted[0]} has no operation {wanted[1]}")
+        shown = canonical.splitlines()
         folded = fold_of(arguments, shown)
+        run = read_run(run_lines(arguments, options, source, text))
         if folded is None:
             return Whole(goal, source, text, options, *told(read_canonical(shown), run, costs), {}, shown)
         text = "".join(folded.text())
