@@ -42,7 +42,3 @@ param_limit = 1099511627775
 -- the largest gap and overhead for each byte, in nanoseconds: 2^20-1
 abbrev pub per_byte_limit : ℕ
 per_byte_limit = 1048575
-
--- the largest time budget of a schedule, in nanoseconds: 2^63-1
-abbrev pub budget_limit : ℕ
-budget_limit = 9223372036854775807

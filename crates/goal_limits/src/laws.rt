@@ -1,6 +1,6 @@
 // The law of the limits. Its function does nothing: a proof cites a law by a call.
-ghost use Rattle.std.specs.Prelude.{◌≡◌};
-ghost use Rattle.goal_limits.specs.Limits.{rank_limit, op_limit, dep_limit, note_limit, round_limit, input_limit, size_limit, calc_limit, param_limit, per_byte_limit, budget_limit};
+ghost use Rattle.std.specs.Prelude.{◌≡◌, ◌+◌, ◌^◌};
+ghost use Rattle.goal_limits.specs.Limits.{rank_limit, op_limit, dep_limit, note_limit, round_limit, input_limit, size_limit, calc_limit, param_limit, per_byte_limit};
 
 use crate::limits::{
     MAX_BUDGET, MAX_BYTES, MAX_DEPS, MAX_INPUT, MAX_NANOS, MAX_NOTES, MAX_OPS, MAX_PARAM,
@@ -19,5 +19,5 @@ pub fn laws_of_limits()
     ensures nanos { MAX_NANOS ≡ calc_limit }
     ensures param { MAX_PARAM ≡ param_limit }
     ensures per_byte { MAX_PER_BYTE ≡ per_byte_limit }
-    ensures budget { MAX_BUDGET ≡ budget_limit }
+    ensures budget { MAX_BUDGET + 1 ≡ 2 ^ 63 }
 {}
