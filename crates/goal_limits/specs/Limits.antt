@@ -1,5 +1,5 @@
--- How large a schedule, its parts, its input and its parameters may be. The constants of the code are these numbers:
--- `laws_of_limits` says so.
+-- The limits of a schedule, its parts, its input and its parameters. Each constant of the code is the number
+-- here: `laws_of_limits` ensures it.
 use Rattle.std.specs.Prelude.{ℕ}
 
 -- the most ranks of a schedule

@@ -1,4 +1,4 @@
-// The law of the limits. Its function does nothing: a proof cites a law by a call.
+//! The law of the limits. Its function does nothing: a proof cites a law by a call.
 ghost use Rattle.std.specs.Prelude.{◌≡◌, ◌+◌, ◌^◌};
 ghost use Rattle.goal_limits.specs.Limits.{rank_limit, op_limit, dep_limit, note_limit, round_limit, input_limit, size_limit, calc_limit, param_limit, per_byte_limit};
 
@@ -7,7 +7,7 @@ use crate::limits::{
     MAX_PER_BYTE, MAX_RANKS, MAX_ROUNDS,
 };
 
-/// Each constant of this crate is the number that the definitions name.
+/// Each constant of this crate is its number in `specs/Limits`.
 pub fn laws_of_limits()
     ensures ranks { MAX_RANKS ≡ rank_limit }
     ensures ops { MAX_OPS ≡ op_limit }

@@ -1,4 +1,4 @@
-//! How large a schedule, its parts and its input may be, and the fault of want of memory.
+//! The limits of a schedule, its parts, its input and its parameters, and the fault of memory that ran out.
 #![tactic(auto)]
 
 mod laws;

@@ -1,35 +1,35 @@
-//! How large a schedule, its parts and its input may be.
+//! The limits of a schedule, its parts, its input and its parameters. `specs/Limits` has the same numbers.
 
-/// The most ranks of a schedule. It has at least one.
+/// The most ranks of a schedule: 2^16. A schedule has at least one.
 pub const MAX_RANKS: u32 = 65_536;
 
-/// The most operations of a schedule, all ranks together.
+/// The most operations of a schedule, all ranks together: 2^20.
 pub const MAX_OPS: u32 = 1_048_576;
 
-/// The most dependencies of a schedule, all ranks together.
+/// The most dependencies of a schedule, all ranks together: 2^22.
 pub const MAX_DEPS: u32 = 4_194_304;
 
-/// The most notes of a schedule, all ranks together.
+/// The most notes of a schedule, all ranks together: 2^20.
 pub const MAX_NOTES: u32 = 1_048_576;
 
 /// The most rounds of a probe.
 pub const MAX_ROUNDS: u32 = 300_000;
 
-/// The most bytes of an input.
+/// The most bytes of an input: 2^27.
 pub const MAX_INPUT: usize = 134_217_728;
 
-/// The largest size of a message and of a receive, in bytes.
+/// The largest size of a message and of a receive, in bytes: 2^40-1.
 pub const MAX_BYTES: u64 = 1_099_511_627_775;
 
-/// The longest calculation, in nanoseconds.
+/// The longest calculation, in nanoseconds: 2^48-1.
 pub const MAX_NANOS: u64 = 281_474_976_710_655;
 
-/// The largest latency, overhead and gap of a message, in nanoseconds, and the largest size that may be sent
-/// eagerly, in bytes.
+/// The largest latency, overhead and gap of a message, in nanoseconds, and the largest size that may be sent eagerly,
+/// in bytes: 2^40-1.
 pub const MAX_PARAM: u64 = 1_099_511_627_775;
 
-/// The largest gap and overhead for each byte, in nanoseconds.
+/// The largest gap and overhead for each byte, in nanoseconds: 2^20-1.
 pub const MAX_PER_BYTE: u64 = 1_048_575;
 
-/// The largest time budget of a schedule, in nanoseconds.
+/// The largest time budget of a schedule, in nanoseconds: 2^63-1.
 pub const MAX_BUDGET: u64 = 9_223_372_036_854_775_807;

@@ -1,8 +1,8 @@
-// The fault of want of memory.
+//! The fault of memory that ran out.
 
 use std::alloc::{AllocError, AllocFailed};
 
-/// There was no memory left.
+/// Memory ran out.
 #[derive(Clone, Copy, Debug, PartialEq, Eq)]
 pub struct NoMemory;
 
