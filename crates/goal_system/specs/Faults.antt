@@ -1,4 +1,4 @@
--- As what an error of the system is told.
+-- How errors of the system are reported.
 use Rattle.std.specs.declared.io.ErrorKind.{ErrorKind}
 use Rattle.std.specs.declared.io.ErrorKind.TheVariants.{OutOfMemory, NotFound}
 use Rattle.goal_base.specs.declared.device.IoFault.{IoFault}
@@ -6,7 +6,7 @@ use Rattle.goal_base.specs.declared.device.IoFault.TheVariants as io
 use Rattle.goal_base.specs.declared.device.OpenFault.{OpenFault}
 use Rattle.goal_base.specs.declared.device.OpenFault.TheVariants as opening
 
--- an error of a file that is open, or of a stream, by its kind: want of memory is that of memory alone
+-- an error of an open file or of a stream, by its kind: `NoMemory` only if memory ran out
 abbrev pub fault_of : ErrorKind → IoFault
 fault_of OutOfMemory = io.NoMemory
 fault_of _ = io.Failed

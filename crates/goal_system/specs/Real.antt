@@ -1,9 +1,9 @@
--- What is known of the files and streams of the system: what is open, and the counts, which stop at 2^64-1.
+-- What contracts know of the files and streams of the system: what is open, and the counts, which stop at 2^64-1.
 use Rattle.std.specs.Prelude.{ℕ, Bool, true, false, [], None}
 use Rattle.std.specs.FinMap.{empty}
 use Rattle.goal_base.specs.Device.{HostState, SinkState}
 
--- a host that tells nothing of its contents
+-- a host whose contents are not known
 abbrev pub untold_host : Bool → Bool → ℕ → ℕ → ℕ → HostState
 untold_host reading writing reads absent writes = record {
   tells = false;
@@ -18,6 +18,6 @@ untold_host reading writing reads absent writes = record {
   stops = true;
 }
 
--- a sink that tells nothing of its bytes
+-- a sink whose bytes are not known
 abbrev pub untold_sink : ℕ → SinkState
 untold_sink faults = record { tells = false; bytes = []; count = faults; stops = true }

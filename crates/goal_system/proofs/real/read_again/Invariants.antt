@@ -1,4 +1,4 @@
--- The interrupted tries took nothing.
+-- The interrupted tries read nothing.
 use Rattle.std.specs.Io.KnownBytes.{Keeps}
 use Rattle.goal_system.proofs.real.read_again.Given as goal
 
