@@ -1,4 +1,4 @@
--- Cursors go on as needs are met, and stay as more happens.
+-- Cursors advance as needs are met, and stay valid as more happens.
 use Rattle.std.proofs.Common.{◌≡◌, ℕ, ◌<◌, ◌≤◌, Bool, true, false, ◌&&◌, List, [], ◌∷◌, length, take, get_or, replicate, slice_get, Some, inl, inr, refl, sym, ap, ap₂, ◌∙◌, subst, arith}
 use Rattle.std.specs.List.{list_all}
 use Rattle.std.proofs.lemmas.List.Folds.{list_all_at}
@@ -32,14 +32,14 @@ module _ (plans : List Plan) (eager : OpId → Bool) (h : List Act) (x : OpId) w
     unmet_unready k d l absent =
         subst (λ ds. list_all (is_there plans eager h x) ds ≡ false) are (list_all_at (is_there plans eager h x) items k d l absent)
 
-    -- past all needs
+    -- after all needs
     pub cursor_ready : (c : Cursor) → IsCursorOf plans eager h x c → length items ≤ c.at → is_ready plans eager h x ≡ true
     unfolding is_ready
     cursor_ready c cur l =
         let all : take c.at (needs plans x) ≡ needs plans x = take_all c.at (needs plans x) (omega (arith, l, ap length are)) in
         sym (ap (list_all (is_there plans eager h x)) all) ∙ cur.met
 
-  -- the operations' cursors after one of them has gone on
+  -- the cursors after one of them has advanced
   pub cursors_put : (read : List Plan) (cursors : List Cursor) (c : Cursor) → AreCursors plans eager h cursors → read ≡ plans → IsCursorOf plans eager h x c → AreCursors plans eager h (put_entry (operations read) x c cursors)
   cursors_put read cursors c cur same new =
       subst (λ (ps : List Plan). AreCursors plans eager h (put_entry (operations ps) x c cursors)) (sym same) (record {
@@ -47,7 +47,7 @@ module _ (plans : List Plan) (eager : OpId → Bool) (h : List Act) (x : OpId) w
         are = λ slot y d at here. elim (put_at (operations plans) x c cursors slot y d at here) [ inl p ↦ subst (λ (z : OpId). IsCursorOf plans eager h z d) (sym p.0) (subst (λ (k : Cursor). IsCursorOf plans eager h x k) (sym p.1) new) | inr was ↦ cur.are slot y d at was ];
       })
 
-  -- the cursor that stands at the operation's place
+  -- the cursor at the operation's index
   pub cursor_read : (read : List Plan) (cursors : List Cursor) (c : Cursor) → AreCursors plans eager h cursors → read ≡ plans → IsEntryOf read cursors x c → IsCursorOf plans eager h x c
   cursor_read read cursors c cur same entry =
       cur.are entry.slot x c (ap (λ (ps : List Plan). slice_get (operations ps) entry.slot) (sym same) ∙ entry.is_slot) entry.is_entry
@@ -58,7 +58,7 @@ module _ (plans : List Plan) (eager : OpId → Bool) (h : List Act) (x : OpId) w
       let within : i < length cursors = omega (arith, slice_get_within (operations plans) i x at, cur.each) in
       cur.are i x (get_or cursors i d) at (slice_get-get_or cursors i d within)
 
--- before anything has been looked at
+-- before any need has been tested
 pub cursors_start : (plans : List Plan) (eager : OpId → Bool) (h : List Act) (n : ℕ) (cursors : List Cursor) → n ≡ length (operations plans) → cursors ≡ replicate n start → AreCursors plans eager h cursors
 cursors_start plans eager h n cursors count made = record {
   each = ap length made ∙ length-replicate n start ∙ count;
@@ -72,7 +72,7 @@ cursors_start plans eager h n cursors count made = record {
         sym (get_or-replicate n slot start start within) ∙ get_or_from_slice_get (replicate n start) slot c start there
 
 module _ (plans : List Plan) (eager : OpId → Bool) (a : Act) (h : List Act) where
-  -- a moment that is there stays
+  -- a start or end that has happened stays
   met_kept : (w : When) (y : OpId) → is_met plans eager h w y ≡ true → is_met plans eager (a ∷ h) w y ≡ true
   met_kept AfterEnd y e = ended_stays plans eager a h y e
   met_kept AfterStart y e = started_stays plans a h y e

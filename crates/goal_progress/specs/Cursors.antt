@@ -1,4 +1,4 @@
--- How far the needs of operations have been looked at, while a schedule is under way.
+-- How many needs of each operation have been found to be met, during a run or a walk.
 use Rattle.std.specs.Prelude.{ℕ, ◌≡◌, ◌≤◌, Bool, true, List, length, take, Some, slice_get}
 use Rattle.std.specs.List.{list_all}
 use Rattle.goal_graph.specs.declared.action.OpId.{OpId}
@@ -9,7 +9,7 @@ use Rattle.goal_graph.specs.Allowed.{is_met}
 use Rattle.goal_progress.specs.declared.cursor.Cursor.{Cursor}
 
 module _ (plans : List Plan) (eager : OpId → Bool) (h : List Act) where
-  -- whether the moment that x waits for by this need is there
+  -- whether the start or end that x waits for by this need has happened
   abbrev pub is_there : OpId → Need → Bool
   is_there x d = is_met plans eager h d.when (needed x d)
 

@@ -1,4 +1,4 @@
-// A table with an entry for each operation, in the order of all.
+//! A table with an entry for each operation, in the order of all.
 ghost use Rattle.std.specs.Prelude.{◌≡◌, length, map};
 ghost use Rattle.std.specs.Borrow.{sem};
 ghost use Rattle.goal_graph.specs.declared.action.OpId.{OpId};
@@ -8,7 +8,7 @@ ghost use Rattle.goal_progress.specs.Entries.{IsEntryOf, LendsEntry};
 
 use goal_graph::{OpId, Sched};
 
-/// The entry of an operation.
+/// Returns the entry of an operation.
 pub fn entry_of<'e, T>(entries: &'e [T], sched: &Sched, id: OpId) -> &'e T
     requires exists { IsOp sched.now id }
     requires each { length entries.now ≡ length (operations sched.now) }
@@ -18,7 +18,7 @@ pub fn entry_of<'e, T>(entries: &'e [T], sched: &Sched, id: OpId) -> &'e T
     &entries[sched.index(id) as usize]
 }
 
-/// The entry of an operation, to be written.
+/// Borrows the entry of an operation, to be written.
 pub fn entry_of_mut<'e, T>(entries: &'e mut [T], sched: &Sched, id: OpId) -> &'e mut T
     requires exists { IsOp sched.now id }
     requires each { length entries.old ≡ length (operations sched.now) }

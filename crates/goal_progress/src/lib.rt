@@ -1,5 +1,5 @@
-//! What steps through a schedule, with times or without: a table with an entry for each operation, and how far the needs
-//! of each have been looked at.
+//! What an engine and a walk share: a table with an entry for each operation, and how many needs of each have been
+//! found to be met.
 #![tactic(auto)]
 
 mod cursor;
