@@ -1,4 +1,4 @@
--- What callers may use: a view shows one text of the run of a schedule with given costs.
+-- For callers: a view shows one text of the run of a schedule with given costs.
 use Rattle.std.proofs.Common.{◌≡◌, Bool, List, ℕ, sym, ap, ◌∙◌, subst}
 use Rattle.goal_graph.specs.declared.action.Timed.{Timed}
 use Rattle.goal_graph.specs.Schedule.{Plan}

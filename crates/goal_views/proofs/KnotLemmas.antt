@@ -1,4 +1,4 @@
--- What the search for knots asks of stuck operations.
+-- What the search for knots requires of stuck operations.
 use Rattle.std.proofs.Common.{◌≡◌, ◌≤◌, ◌⊎◌, inl, inr, List, [], ◌∷◌, length, filter, count_by, Some, refl, ap, ◌∙◌, arith}
 use Rattle.std.proofs.lemmas.List.{length-map}
 use Rattle.std.proofs.lemmas.List.Sums.{length-filter, count_by-le-length}
@@ -22,7 +22,7 @@ unfolding stuck_list
 few_stuck plans costs h =
     omega (arith, length-map (filter (lacks_end plans costs h) (operations plans)) (with_reason plans costs h), length-filter (lacks_end plans costs h) (operations plans), count_by-le-length (lacks_end plans costs h) (operations plans))
 
--- so many are stuck as have no end
+-- the number of stuck operations is that of operations without an end
 pub count_stuck : (plans : List Plan) (costs : CostModel) (h : List Timed)
     → length (stuck_list plans costs h) ≡ count_by (lacks_end plans costs h) (operations plans)
 unfolding stuck_list
@@ -35,12 +35,12 @@ unfolding stuck_text
 no_line [] is = refl
 no_line (s ∷ list) is = absurd (omega (arith, is))
 
--- where no operation lacks its end, there is no line of a stuck one
+-- if each operation has an end, there is no line of a stuck one
 pub no_stuck_line : (plans : List Plan) (costs : CostModel) (h : List Timed) → count_by (lacks_end plans costs h) (operations plans) ≡ 0
     → [] ≡ stuck_text (stuck_list plans costs h)
 no_stuck_line plans costs h none = no_line (stuck_list plans costs h) (count_stuck plans costs h ∙ none)
 
--- an operation that a reason names is one of those that it names as one or the other
+-- an operation that a reason names is a need or a partner
 named_cases : (w : Why) (y : OpId) → named w ≡ Some y → (w ≡ Op y) ⊎ (w ≡ Partner y)
 named_cases (Op x) y e = let same : x ≡ y = cc in inl (ap Op same)
 named_cases (Partner x) y e = let same : x ≡ y = cc in inr (ap Partner same)

@@ -6,7 +6,7 @@ use Rattle.sim_params.specs.Costs.{CostModel}
 use Rattle.sim_params.specs.Run.{IsCompleteRun}
 use Rattle.sim_events.specs.Engine.{View}
 
--- its run is that of this schedule with these costs
+-- its run is the one complete run of this schedule with these costs
 pub record IsRunOf {C : Type 0} (costs : CostModel) (sched : List Plan) (engine : View C) : Type 0 where
   pub plans : engine.plans ≡ sched
   pub complete : IsCompleteRun sched costs engine.history

@@ -1,4 +1,4 @@
--- What the run of a schedule is shown as.
+-- What a view shows of the run of a schedule.
 use Rattle.std.specs.Prelude.{ℕ, ◌≡◌, ◌++◌, Bool, List, codes, decimal}
 use Rattle.std.specs.List.{sum_by}
 use Rattle.goal_base.specs.Text.{line_feed}
@@ -28,20 +28,20 @@ knots_shown sched costs history = first_line sched costs history ++ knots_text (
 abbrev pub sum_of_ends : List Plan → CostModel → List Timed → ℕ
 sum_of_ends sched costs history = sum_by (end_or_zero sched costs history) (operations sched)
 
--- the first line of the timeline, and that sum
+-- the first line of the timeline, and the sum of the ends
 abbrev pub probe_text : List Plan → CostModel → List Timed → List ℕ
 probe_text sched costs history =
     first_line sched costs history ++ (codes "ends " ++ decimal (sum_of_ends sched costs history) ++ line_feed)
 
--- what a view shows of a run, a row for each
+-- what a view shows of a run, one line for each view
 abbrev pub Shows : RunView → List Plan → CostModel → List Timed → List ℕ → Type 0
 Shows view.Printed sched costs history output = output ≡ run_text sched costs history
 Shows view.Waits sched costs history output = IsWaitsText sched costs history output
 Shows view.Knots sched costs history output = output ≡ knots_shown sched costs history
 Shows view.Sum sched costs history output = output ≡ probe_text sched costs history
 
--- The output is what a view shows of the run of a schedule: that of its one complete run with these costs, in which at each step
--- the least possible action by time and tie rule happens next. Whether an operation has no end in it is told besides.
+-- The output is what a view shows of the one complete run of a schedule with these costs, in which at each step the
+-- least possible action by time and tie rule happens next. `stuck` says whether an operation of the run has no end.
 pub record IsShownRun (how : RunView) (costs : CostModel) (sched : List Plan) (output : List ℕ) (stuck : Bool) : Type 0 where
   pub history : List Timed
   pub complete : IsCompleteRun sched costs history

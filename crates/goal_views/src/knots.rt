@@ -1,4 +1,4 @@
-// The knots of a run.
+//! The knots of a run.
 ghost use Rattle.std.specs.Prelude.{◌≡◌, IfOk};
 ghost use Rattle.sim_params.specs.Run.{IsFinished};
 ghost use Rattle.goal_views.specs.Views.{knots_shown};
@@ -12,7 +12,8 @@ use sim_stuck::explain;
 use sim_timeline::first_line;
 use std::alloc::Global;
 
-// The first line of the timeline of a run that is over, and the lines of the knots of its stuck operations.
+/// Returns the first line of the timeline of a run that is over, and the lines of the knots of its stuck operations.
+/// `Err` means out of memory.
 pub fn show_knots<C: Costs, H: History>(
     alloc: Global,
     sched: &Sched,

@@ -1,4 +1,4 @@
-//! What the run of a schedule is shown as: printed, as a report on its waits, by its knots, or summed up.
+//! What is shown of the run of a schedule: all of it, a report on its waits, its knots, or its sum.
 #![tactic(auto)]
 
 mod knots;

@@ -1,4 +1,4 @@
-// The printed run.
+//! The printed run.
 ghost use Rattle.std.specs.Prelude.{◌≡◌, ◌++◌, [], unwrap_or, IfOk, count_by};
 ghost use Rattle.goal_graph.specs.Schedule.{operations};
 ghost use Rattle.sim_params.specs.Run.{IsFinished};
@@ -16,8 +16,8 @@ use sim_stuck::{explain, stuck_text};
 use sim_timeline::{Lines, first_line_counted};
 use std::alloc::Global;
 
-// The printed run of an engine whose run is over: its first line, the lines of its operations, which are made as they are asked for,
-// and those of its stuck operations.
+/// Returns the printed run of an engine whose run is over: its first line, the lines of its operations, which are
+/// written when they are asked for, and those of its stuck operations. `Err` means out of memory.
 pub fn print_run<'a, C: Costs + Drop>(
     alloc: Global,
     sched: &'a Sched,
@@ -40,7 +40,8 @@ pub fn print_run<'a, C: Costs + Drop>(
     })
 }
 
-// The lines of the stuck operations of a run that is over, where so many are stuck. Where none is, no operation is looked at.
+// The lines of the stuck operations of a run that is over; `stuck` is how many there are. If there are none, no
+// operation is searched.
 fn tail_of<C: Costs>(
     alloc: Global,
     sched: &Sched,
