@@ -195,7 +195,7 @@ module _ (plans : List Plan) (costs : CostModel) (h : List Timed) (a : Timed) wh
       let now : is_paired (pairs plans (plain (a ∷ h))) x ≡ true = ap is_some f in
       ap₂ (λ (n : ℕ) (o : Option OpId). option_map (λ (y : OpId). n) o) (since_new (λ l. is_paired (pairs plans l) x) a h before now) f
 
-  -- what has started and keeps its partner awaits what it did, unless it begins, arrives or hands over its bytes
+  -- what has started and keeps its partner awaits what it did, unless it begins, arrives or transfers its data
   pub awaited_same : (x : OpId) → mate plans costs (a ∷ h) x ≡ mate plans costs h x → is_act Arrive x (plain_act a) ≡ false → is_act Begin x (plain_act a) ≡ false → is_act Data x (plain_act a) ≡ false → has_started plans x (plain h) ≡ true → awaited_known plans costs (a ∷ h) x ≡ awaited_known plans costs h x
   awaited_same x m e f g s =
       awaited_started (a ∷ h) x (started_still x s) ∙ (λ i. option_or (arriving_same x e f i) (option_or (there_same x g i) (since_same x m i))) ∙ sym (awaited_started h x s)

@@ -94,7 +94,7 @@ module _ (plans : List Plan) (costs : CostModel) (h : List Timed) (a : Timed) (r
     pub arrival_told : (n : PostsAndArrivals) → n ≡ with_arrival m a.op → KnowsPostsAndArrivals plans costs (a ∷ h) n
     arrival_told n e = arrival_known plans costs h a m knows n is e
 
-  -- a large send hands over its bytes
+  -- a rendezvous send transfers its data
   module _ (is : a.class ≡ Data) (w : Work) (does : w ≡ work_of plans costs a.op) where
     send : IsSend plans a.op
     send = (sends plans costs h a run p is).0

@@ -110,7 +110,7 @@ module _ (plans : List Plan) (costs : CostModel) (h : List Timed) (x : OpId) whe
   end_told e told =
       sym (is_known (has_ended plans (is_eager plans costs) x (plain h)) _) ∙ sym (ap (λ (e : Entry). is_some e.times.end) told)
 
-  -- a large send ends as it hands over its bytes
+  -- a rendezvous send ends as it transfers its data
   large_end : IsSend plans x → is_eager plans costs x ≡ false → (e : Entry) → e ≡ entry_known plans costs h x → happened Data x (plain h) ≡ is_some e.times.end
   large_end k large e told =
       sym (ap (λ (c : Class). happened c x (plain h)) (last_of_large plans (is_eager plans costs) x k large)) ∙ end_told e told
@@ -195,7 +195,8 @@ module _ (plans : List Plan) (costs : CostModel) (h : List Timed) (x : OpId) whe
         elim (cases_Bool (is_eager plans costs x)) [ inl eager ↦ eager_data eager | inr large ↦ past_not_enabled Data (large_end k large e told ∙ s) ]
 
     module _ (s : is_some e.times.end ≡ false) where
-      -- one that has not ended is large, since an eager one that is paired has begun, and has not handed over its bytes
+      -- one that has not ended is a rendezvous send, since an eager one that is paired has begun, and has not
+      -- transferred its data
       unended_large : is_eager plans costs x ≡ false
       unended_large =
           false_from_ne_true _ (λ eager. both_ways _ (sym (ap (λ (c : Class). happened c x (plain h)) (last_of_eager plans (is_eager plans costs) x k eager)) ∙ end_told e told ∙ s) (arrived_begun plans (is_eager plans costs) (plain h) x (run_interleaving plans costs h run) (paired_arrived plans costs h x k paired)))
@@ -229,7 +230,7 @@ module _ (plans : List Plan) (costs : CostModel) (h : List Timed) (x : OpId) whe
           let can = allowed_from plans (is_eager plans costs) (plain h) Data x unended_fresh may_data in
           omega (arith, possible_budget plans costs h (at_its_time plans costs h Data x) (run_each plans costs h run) (possible_at plans costs h Data x can), data_time k)
 
-  -- the message of a large send is there, once it has ended, as its bytes are delivered
+  -- the message of a rendezvous send is available once it has ended, when its data reach the receive
   pub ended_message : IsRun plans costs h → IsSend plans x → is_eager plans costs x ≡ false → (at : ℕ) (e : Entry) → e ≡ entry_known plans costs h x → is_some e.times.end ≡ true → e.times.awaited ≡ message_known plans costs h (record { with = x; at = at })
   ended_message run k large at e told s =
       ap (λ (e : Entry). e.times.awaited) told ∙ awaited_handed plans costs h x run (large_end k large e told ∙ s) ∙ sym (cond-false _ _ _ large)
@@ -286,7 +287,7 @@ module _ (plans : List Plan) (costs : CostModel) (h : List Timed) (x : OpId) whe
   serve_enabled k e told s n t there at =
       comes_enabled Serve t (ended k e told ∙ s) (ap (may plans (is_eager plans costs) (plain h) Serve x) k.kind ∙ there.served) at
 
--- whether a send is eager, as it is read
+-- whether a send is eager, as the code reads it
 pub eager_read : (plans : List Plan) (costs : CostModel) (m : OpId) (bytes to tag : ℕ) → kind_at plans m ≡ Some (Send bytes to tag) → costs.eager m.rank to bytes ≡ is_eager plans costs m
 unfolding is_eager
 eager_read plans costs m bytes to tag k = sym (ap (eager_of costs.eager m.rank) k)

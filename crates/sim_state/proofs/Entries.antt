@@ -142,7 +142,7 @@ module _ (plans : List Plan) (costs : CostModel) (h : List Timed) (a : Timed) (r
         let never : paired_since plans costs (a ∷ h) a.op ≡ None = since_none plans costs (a ∷ h) a.op (m ∙ not_arrived plans (plain h) a.op k not_before) in
         awaited_started plans costs h a (a ∷ h) a.op (started_still plans costs h a a.op (arrive_started plans costs h a.op (allowed_as Arrive c))) ∙ (λ i. option_or (arriving_arrived plans costs h a c i) (option_or (none i) (never i)))
 
-    -- and what one that hands over its bytes awaits: that these are delivered
+    -- and what one that transfers its data awaits: that these are delivered
     awaited_there : a.class ≡ Data → awaited_known plans costs (a ∷ h) a.op ≡ Some (a.time + flight plans costs a.op)
     awaited_there c =
         let sent = allowed_data plans (is_eager plans costs) (plain h) a.op (allowed_as Data c) in
@@ -186,7 +186,7 @@ module _ (plans : List Plan) (costs : CostModel) (h : List Timed) (a : Timed) (r
           let mates = unpaired Begin c refl in
           one_written _ mates (same_entry _ _ work_was (start_new plans costs h a possible (c ∙ sym (first_of_send plans a.op k))) (end_now (c ∙ sym (last_of_eager plans (is_eager plans costs) a.op k eager))) (awaited_now Begin c refl (sym (first_of_send plans a.op k)) (mates a.op) ∙ arriving_begun plans costs h a run possible c k ∙ ap (λ (b : Bool). Some (a.time + (if b then flight plans costs a.op else flight_one plans costs a.op))) eager ∙ ap Some (sym at)) (link_was (mates a.op)))
 
-      -- a large send hands over its bytes
+      -- a rendezvous send transfers its data
       pub data_sent : (there : ℕ) → a.class ≡ Data → IsSend plans a.op → is_eager plans costs a.op ≡ false → there ≡ a.time + flight plans costs a.op → Becomes (record e { times = record e.times { end = Some until; awaited = Some there } })
       data_sent there c k large at =
           let mates = unpaired Data c refl in
@@ -204,7 +204,7 @@ module _ (plans : List Plan) (costs : CostModel) (h : List Timed) (a : Timed) (r
           differ : Serve ≡ Post → ⊥
           differ f = cc
 
-    -- a large send begins
+    -- a rendezvous send begins
     pub request_begun : (arrive : ℕ) → a.class ≡ Begin → IsSend plans a.op → is_eager plans costs a.op ≡ false → arrive ≡ a.time + flight_one plans costs a.op → Becomes (record e { times = record e.times { start = Some a.time; awaited = Some arrive } })
     request_begun arrive c k large at =
         let mates = unpaired Begin c refl in

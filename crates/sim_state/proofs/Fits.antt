@@ -19,7 +19,7 @@ use Rattle.sim_params.proofs.ForCallers.{possible_budget, start_now, since_new, 
 use Rattle.sim_state.proofs.After.{happened_same, happened_this, fresh, other_class}
 
 module _ (plans : List Plan) (costs : CostModel) (h : List Timed) (a : Timed) (run : IsRun plans costs h) (p : Possible plans costs h a) where
-  -- the action lets go of what it holds within the budget
+  -- the action releases what it holds within the budget
   pub cpu_fits : a.time + cpu_hold plans costs h a.class a.op (kind_at plans a.op) ≤ budget plans costs
   cpu_fits = omega (arith, possible_budget plans costs h a (run_each plans costs h run) p)
 
@@ -53,7 +53,7 @@ module _ (plans : List Plan) (costs : CostModel) (h : List Timed) (a : Timed) (r
   pub flight_of_request : a.class ≡ Begin → IsSend plans a.op → is_eager plans costs a.op ≡ false → a.time + flight_one plans costs a.op ≤ budget plans costs
   flight_of_request e s large = subst (λ (b : Bool). a.time + (if b then flight plans costs a.op else flight_one plans costs a.op) ≤ budget plans costs) large (flight_fits e s)
 
-  -- Data is of a large send
+  -- Data is of a rendezvous send
   pub sends : a.class ≡ Data → IsSend plans a.op × (is_eager plans costs a.op ≡ false) × (is_paired (pairs plans (plain h)) a.op ≡ true)
   sends e = allowed_data plans (is_eager plans costs) (plain h) a.op (subst (λ (c : Class). allowed plans (is_eager plans costs) (plain h) c a.op ≡ true) e p.allowed)
 
@@ -68,7 +68,7 @@ module _ (plans : List Plan) (costs : CostModel) (h : List Timed) (a : Timed) (r
   pub serves : a.class ≡ Serve → IsReceive plans a.op × (is_served plans (is_eager plans costs) (plain h) (mate plans costs h a.op) ≡ true)
   serves e = allowed_serve plans (is_eager plans costs) (plain h) a.op (subst (λ (c : Class). allowed plans (is_eager plans costs) (plain h) c a.op ≡ true) e p.allowed)
 
-  -- the bytes of a large send are at its receive within the budget
+  -- the bytes of a rendezvous send are at its receive within the budget
   pub bytes_fit : a.class ≡ Data → a.time + flight plans costs a.op ≤ budget plans costs
   unfolding time
   bytes_fit e = go (sends e)

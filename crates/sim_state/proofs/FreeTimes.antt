@@ -1,4 +1,4 @@
--- When cpus and interfaces are free after one more action.
+-- When cpus and NICs are free after one more action.
 use Rattle.std.proofs.Common.{◌≡◌, ◌&&◌, ◌+◌, ℕ, max, Bool, true, false, List, ◌∷◌, Option, Some, None, if◌then◌else◌, refl, ap, ap₂, ◌∙◌, arith}
 use Rattle.goal_graph.specs.declared.action.OpId.{OpId}
 use Rattle.goal_graph.specs.declared.action.Timed.{Timed}
@@ -9,13 +9,13 @@ use Rattle.sim_params.specs.Times.{same_place, holds_cpu, holds_tx, holds_rx, cp
 use Rattle.sim_resources.specs.FreeTimes.{Hold, Holds, shares_place, shares, free_at, hold, hold_cpu, hold_tx, hold_rx, SameFreeTimes}
 use Rattle.sim_state.specs.Represents.{AreFreeTimes}
 
--- the two words for operations that use one cpu, or one interface, say the same
+-- the two words for operations that use one cpu, or one NIC, say the same
 shares_same : (place : Op → ℕ) (x y : OpId) (o p : Option Op) → shares_place place x o y p ≡ same_place place x o y p
 shares_same place x y (Some o) (Some p) = refl
 shares_same place x y (Some o) None = refl
 shares_same place x y None p = refl
 
--- one hold more
+-- another hold
 one_more : (place : Op → ℕ) (plans old : List Plan) (hs : List Hold) (y x : OpId) (was until : ℕ) → old ≡ plans → free_at place old hs x ≡ was → free_at place old (hold y until ∷ hs) x ≡ max was (if same_place place x (op_at plans x) y (op_at plans y) then until else 0)
 unfolding free_at
 one_more place plans old hs y x was until e f =
@@ -79,7 +79,7 @@ module _ (plans : List Plan) (costs : CostModel) (h : List Timed) (a : Timed) wh
         receivers = λ x. after.rx x ∙ before.receivers x ∙ rx_same g x;
       }
 
-      -- that of a send, and its Data, holds the sending side of its interface too
+      -- that of a send, and its Data, holds the sending side of its NIC too
       pub free_send : (sent : ℕ) → SameFreeTimes s (hold_tx (hold_cpu r a.op busy) a.op sent) → holds_tx a.class (kind_at plans a.op) ≡ true → sent ≡ a.time + tx_hold plans costs a.class a.op (kind_at plans a.op) → holds_rx a.class ≡ false → AreFreeTimes plans costs (a ∷ h) s
       free_send sent after f t g = record {
         same_plans = after.plans ∙ before.same_plans;

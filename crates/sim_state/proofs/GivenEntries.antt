@@ -54,7 +54,7 @@ module _ (plans : List Plan) (costs : CostModel) (h : List Timed) (a : Timed) wh
   abbrev pub given_last : List Need → OpId → ℕ
   given_last ns y = greatest (given_to plans costs h a y) ns
 
-  -- that entry, which is given so late a moment, and waits for so many then
+  -- this entry, which gets a moment this late, and how many it waits for then
   abbrev given_entry : ℕ → ℕ → Entry → Entry
   given_entry n left e = record e { times = given_times n e.times; link = record e.link { unmet = left } }
 
@@ -67,7 +67,7 @@ module _ (plans : List Plan) (costs : CostModel) (h : List Timed) (a : Timed) wh
   abbrev awaited_then : OpId → Option ℕ
   awaited_then x = if has_started plans x (plain h) then awaited_known plans costs (a ∷ h) x else awaited_known plans costs h x
 
-  -- what is known of x since, but for what it awaits and how many moments it waits for
+  -- what is known of x since, except for what it awaits and how many moments it waits for
   abbrev entry_with : OpId → Option ℕ → ℕ → Entry
   entry_with x o n =
       record (entry_known plans costs (a ∷ h) x) { times = record (times_known plans costs (a ∷ h) x) { awaited = o }; link = record (link_known plans costs (a ∷ h) x) { unmet = n } }

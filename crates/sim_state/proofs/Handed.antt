@@ -1,5 +1,5 @@
 -- What an operation awaits once it has started: a send its arrival, before it is paired; then since when it is paired, and where it has
--- handed over its bytes, that these are delivered.
+-- transferred its data, that these are delivered.
 use Rattle.std.proofs.Common.{◌≡◌, ℕ, true, false, not, List, [], ◌∷◌, Option, None, Some, is_some, inl, inr, refl, sym, ap, ◌∙◌, subst}
 use Rattle.std.specs.Option.{option_map, option_or}
 use Rattle.std.proofs.lemmas.Bool.{and_left, both_ways, cond-true, cond-false, false_from_ne_true, true_from_ne_false}
@@ -23,7 +23,7 @@ or_none None = refl
 or_none (Some x) = refl
 
 module _ (plans : List Plan) (costs : CostModel) where
-  -- only sends hand over their bytes
+  -- only sends transfer their data
   handed_send : (h : List Timed) (x : OpId) → IsRun plans costs h → happened Data x (plain h) ≡ true → IsSend plans x
   unfolding plain
   handed_send [] x run e = absurd (both_ways _ (happened_none Data x) e)
@@ -70,7 +70,7 @@ module _ (plans : List Plan) (costs : CostModel) where
       arrived_started send e =
           started_send plans (plain h) x send ∙ arrived_begun plans (is_eager plans costs) (plain h) x (run_interleaving plans costs h run) e
 
-      -- what has not started, what has not arrived and what is not paired has not handed over its bytes
+      -- what has not started, what has not arrived and what is not paired has not transferred its data
       pub unstarted_unhanded : has_started plans x (plain h) ≡ false → happened Data x (plain h) ≡ false
       unstarted_unhanded f =
           false_from_ne_true _ (λ t. both_ways _ f (arrived_started (handed_send h x run t) (handed_arrived t)))
@@ -91,7 +91,7 @@ module _ (plans : List Plan) (costs : CostModel) where
       awaited_unpaired s e =
           cond-true _ _ _ s ∙ ap (option_or (time_known plans costs h Arrive x)) (ap (λ o. option_or o (paired_since plans costs h x)) (undelivered (unpaired_unhanded e)) ∙ ap (option_map since_then) e) ∙ or_none (time_known plans costs h Arrive x)
 
-      -- and once it is paired, while it has not handed over its bytes
+      -- and once it is paired, while it has not transferred its data
       paired_waits : has_started plans x (plain h) ≡ true → time_known plans costs h Arrive x ≡ None → happened Data x (plain h) ≡ false → (m : OpId) → mate plans costs h x ≡ Some m → awaited_known plans costs h x ≡ Some (paired_at plans costs h x)
       paired_waits s a d m e =
           cond-true _ _ _ s ∙ ap (λ o. option_or o (option_or (delivered_known plans costs h x) (paired_since plans costs h x))) a ∙ ap (λ o. option_or o (paired_since plans costs h x)) (undelivered d) ∙ ap (option_map since_then) e
@@ -106,7 +106,7 @@ module _ (plans : List Plan) (costs : CostModel) where
       pub receive_waits : IsReceive plans x → (m : OpId) → mate plans costs h x ≡ Some m → awaited_known plans costs h x ≡ Some (paired_at plans costs h x)
       receive_waits recv m e = paired_waits (paired_posted recv (ap is_some e)) (no_arrival recv) (no_bytes recv) m e
 
-      -- one that has handed over its bytes awaits that they are delivered
+      -- one that has transferred its data awaits that they are delivered
       pub awaited_handed : happened Data x (plain h) ≡ true → awaited_known plans costs h x ≡ delivered_known plans costs h x
       awaited_handed d =
           let arrived = handed_arrived d in

@@ -13,7 +13,7 @@ use Rattle.goal_graph.proofs.ForCallers.{listed_op, kind_listed, allowed_listed}
 use Rattle.sim_params.specs.Costs.{CostModel, is_eager}
 use Rattle.sim_params.specs.Times.{Possible}
 
--- what stands in the list of operations exists
+-- an operation in the list of operations exists
 pub listed_exists : (plans : List Plan) (i : ℕ) (x : OpId) → slice_get (operations plans) i ≡ Some x → IsOp plans x
 listed_exists plans i x e =
     let a = listed_op plans x (i, slice_get_within (operations plans) i x e, get_or_from_slice_get (operations plans) i x x e) in

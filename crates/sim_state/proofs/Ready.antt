@@ -20,7 +20,7 @@ use Rattle.sim_state.specs.Awaited.{unmet, awaited_known}
 use Rattle.sim_state.specs.Enabled.{moment_known, ready_known}
 
 module _ (plans : List Plan) (costs : CostModel) (h : List Timed) (x : OpId) where
-  -- the moment of a need, whether it is there, and both
+  -- the moment of a need, whether it is known, and both
   abbrev pub is_there : Need → Bool
   is_there = awaited.is_there plans costs h x
 
@@ -66,7 +66,7 @@ module _ (plans : List Plan) (costs : CostModel) (h : List Timed) (x : OpId) whe
       go true f = absurd (cc)
       go false f = refl
 
-  -- the needs as they are read, one after another
+  -- the needs that are read, one after another
   module _ (items : List Need) (are_needs : items ≡ needs plans x) (k : ℕ) (n : ℕ) (whole : Option ℕ) (so_far : ready_from n (drop k (needs plans x)) ≡ whole) where
     this_and_rest : (d : Need) → k < length items → drop k (needs plans x) ≡ get_or items k d ∷ drop (k + 1) (needs plans x)
     this_and_rest d l = subst (λ ds. drop k ds ≡ get_or items k d ∷ drop (k + 1) ds) are_needs (drop_more items k d l)
@@ -84,7 +84,7 @@ module _ (plans : List Plan) (costs : CostModel) (h : List Timed) (x : OpId) whe
         let none : drop k (needs plans x) ≡ [] = drop_all k (needs plans x) (subst (λ ds. length ds ≤ k) are_needs l) in
         sym (ap (ready_from n) none ∙ ready_end n) ∙ so_far
 
--- where so many of the moments that x needs are not there
+-- if n of the moments that x needs are not known
 module _ (plans : List Plan) (costs : CostModel) (h : List Timed) (x : OpId) (n : ℕ) (count : n ≡ unmet plans costs h x) where
   all_there : (ds : List Need) → count_by (λ (d : Need). not (is_there plans costs h x d)) ds ≡ 0 → list_all (is_there plans costs h x) ds ≡ true
   all_there [] e = refl

@@ -74,7 +74,7 @@ module _ (plans : List Plan) (costs : CostModel) (x : OpId) where
       go (Some (Recv room from tag)) k (inl f) = let d = sym f ∙ e ∙ ap task_by k in absurd (cc d)
       go (Some (Recv room from tag)) k (inr f) = let d = sym f ∙ e ∙ ap task_by k in absurd (cc d)
 
-  -- a send of the one task goes out whole, and one of the other does not
+  -- sends of one task are eager, and those of the other are not
   pub eager_of : (s : Task) → s ≡ task_of plans costs x → s ≡ task.Eager → is_eager plans costs x ≡ true
   eager_of s e f = go (is_eager plans costs x) (send_task _ (send_of s e (inl f)) refl ∙ sym e ∙ f)
     where
@@ -94,7 +94,7 @@ module _ (plans : List Plan) (costs : CostModel) (x : OpId) where
   calc_takes w e calc =
       calc.kind ∙ ap (λ (v : Work). Some (Calc v.amount)) (sym (e ∙ ap (work_by plans costs x) calc.kind))
 
-  -- and a send is a message of so many bytes to its target
+  -- a send is a message of this size to its target
   pub is_message : (w : Work) → w ≡ work_of plans costs x → IsSend plans x → IsMessage plans x w.to w.amount
   is_message w e send = record {
     tag = send.tag;

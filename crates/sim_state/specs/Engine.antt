@@ -1,4 +1,4 @@
--- What an engine is seen as, and what it tells.
+-- The value of an engine in contracts, and what the engine returns.
 use Rattle.std.specs.Prelude.{ℕ, ◌≡◌, ◌<◌, ◌≤◌, ◌^◌, List, Option, Some, None, if◌then◌else◌}
 use Rattle.goal_graph.specs.declared.action.OpId.{OpId}
 use Rattle.goal_graph.specs.declared.action.Timed.{Timed}
@@ -10,13 +10,13 @@ use Rattle.sim_params.specs.Times.{start, end}
 use Rattle.sim_state.specs.declared.fault.EngineFault.{EngineFault}
 use Rattle.sim_state.specs.declared.fault.EngineFault.TheVariants.{Budget, NoMemory}
 
--- the plans of its schedule, its costs, and what has happened so far, newest first
+-- the plans of its schedule, its costs, and the actions so far, the newest first
 pub record View (C : Type 0) : Type 0 where
   pub plans : List Plan
   pub costs : C
   pub history : List Timed
 
--- the schedule's time budget is over 2^63-1, which comes before want of memory
+-- the schedule's time budget is over 2^63-1; this fault comes before `NoMemory`
 abbrev pub IsEngineFault : ℕ → EngineFault → Type 0
 IsEngineFault total (Budget sum) = (sum ≡ total) × (2 ^ 63 ≤ total)
 IsEngineFault total NoMemory = total < 2 ^ 63

@@ -1,4 +1,4 @@
--- When all that an operation waits for is free: its cpu and, where it sends or receives, that side of its interface.
+-- When all that an operation uses is free: its cpu and, if it sends or receives, that side of its NIC.
 use Rattle.std.specs.Prelude.{ℕ, List, Option, Some, None, max}
 use Rattle.goal_graph.specs.declared.action.OpId.{OpId}
 use Rattle.goal_graph.specs.declared.action.Timed.{Timed}
@@ -18,7 +18,7 @@ module _ (plans : List Plan) where
   abbrev pub free : CostModel → List Timed → OpId → ℕ
   free costs h x = free_of costs h x (kind_at plans x)
 
-  -- when that side of its interface is free, or the cpu of what needs no more
+  -- when this side of its NIC is free, or the cpu of an operation that uses no NIC
   abbrev pub side_of : CostModel → List Timed → OpId → Option Kind → ℕ
   side_of costs h x None = 0
   side_of costs h x (Some (Calc nanos)) = cpu plans costs h x

@@ -1,15 +1,15 @@
--- What an operation still waits for and its partner, as a rank and a number.
+-- How many moments an operation waits for and its partner, as a rank and a number.
 use Rattle.std.specs.Prelude.{ℕ, ◌≡◌, ◌==◌, Bool, true, false, Option, Some, None, if◌then◌else◌}
 use Rattle.std.proofs.Common.{refl, sym}
 use Rattle.std.proofs.lemmas.Bool.{eqb-true}
 use Rattle.goal_graph.specs.declared.action.OpId.{OpId}
 
--- how many of the moments that it needs are not there, and the operation that it is paired with, once it is
+-- how many of the moments that it needs are not known, and the operation that it is paired with, once it is
 pub record Linked : Type 0 where
   pub unmet : ℕ
   pub partner : Option OpId
 
--- the rank of no operation: the greatest number of 32 bits
+-- the rank that no operation has: the greatest number of 32 bits
 abbrev pub no_rank : ℕ
 no_rank = 4294967295
 
@@ -21,7 +21,7 @@ abbrev pub op_in : ℕ → Option OpId → ℕ
 op_in unmet None = unmet
 op_in unmet (Some x) = x.op
 
--- what the two numbers stand for, and back
+-- what the two numbers represent, and back
 abbrev pub linked : ℕ → ℕ → Linked
 linked rank op =
     if rank == no_rank

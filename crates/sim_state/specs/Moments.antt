@@ -1,13 +1,13 @@
--- A time that may not be there, as one number.
+-- A time that may not be known, as one number.
 use Rattle.std.specs.Prelude.{ℕ, ◌≡◌, ◌==◌, Bool, true, false, Option, Some, None, if◌then◌else◌}
 use Rattle.std.proofs.Common.{refl, sym}
 use Rattle.std.proofs.lemmas.Bool.{eqb-true}
 
--- the number that stands for no time: the greatest of 64 bits
+-- the number that represents no time: the greatest of 64 bits
 abbrev pub no_time : ℕ
 no_time = 18446744073709551615
 
--- the time that a number stands for, and back
+-- the time that a number represents, and back
 abbrev pub time_of : ℕ → Option ℕ
 time_of n = if n == no_time then None else Some n
 

@@ -20,13 +20,13 @@ use Rattle.sim_state.specs.Links.{Linked}
 use Rattle.sim_state.specs.Awaited.{unmet, awaited_known, delivered_known}
 use Rattle.sim_state.specs.Tasks.{work_of}
 
--- the operation that another is paired with, and since when
+-- the operation with which another is paired, and since when
 pub record Pairing : Type 0 where
   pub with : OpId
   pub at : ℕ
 
 module _ (plans : List Plan) (costs : CostModel) (h : List Timed) where
-  -- when the message of its partner is there for a receive, once it is
+  -- when the message of its partner is available to a receive, once it is
   abbrev pub message_known : Pairing → Option ℕ
   message_known p = if is_eager plans costs p.with then Some p.at else delivered_known plans costs h p.with
 
@@ -50,19 +50,19 @@ module _ (plans : List Plan) (costs : CostModel) (h : List Timed) where
     link = link_known x;
   }
 
-  -- the cpus and interfaces of the schedule are free when the history says so
+  -- the cpus and NICs of the schedule are free when the history says so
   pub record AreFreeTimes (res : Holds) : Type 0 where
     pub same_plans : res.plans ≡ plans
     pub cpus : (x : OpId) → cpu_free res x ≡ cpu plans costs h x
     pub senders : (x : OpId) → tx_free res x ≡ tx plans costs h x
     pub receivers : (x : OpId) → rx_free res x ≡ rx plans costs h x
 
-  -- the matcher knows the posts and arrivals of the history
+  -- the matcher has the posts and arrivals of the history
   pub record KnowsPostsAndArrivals (matcher : PostsAndArrivals) : Type 0 where
     pub same_plans : matcher.plans ≡ plans
     pub events : matcher.actions ≡ filter is_post_or_arrival (plain h)
 
-  -- there is an entry for each operation, in their order, and room for every action of a run
+  -- there is an entry for each operation, in their order, and room for each action of a run
   pub record Represents (entries : List Entry) (matcher : PostsAndArrivals) (res : Holds) (has_room : ℕ → Type 0) : Type 0 where
     pub accepted : IsAccepted plans
     pub within : budget plans costs < 2 ^ 63
@@ -72,8 +72,8 @@ module _ (plans : List Plan) (costs : CostModel) (h : List Timed) where
     pub free : AreFreeTimes res
     pub roomy : has_room (3 * length (operations plans))
 
--- What is kept of x once an action has happened, before those that wait for its operation are given its moments: what is known since,
--- but each waits for as many moments as before, and what others await that have not started is what they did before.
+-- The entry of x after an action, before this gives its moments to others: what is known then, but each operation
+-- waits for as many moments as before, and one that has not started awaits the same as before.
 module _ (plans : List Plan) (costs : CostModel) (h : List Timed) (a : Timed) where
   abbrev pub entry_then : OpId → Entry
   entry_then =

@@ -1,4 +1,4 @@
--- What an operation does, whether a send goes out whole, and whether anything is needed.
+-- What an operation does, whether a send is eager, and whether an operation is needed.
 use Rattle.std.specs.Prelude.{◌≡◌, ◌⊎◌, ◌==◌, Bool, true, not, List, length, Option, Some, None, if◌then◌else◌}
 use Rattle.goal_graph.specs.declared.action.OpId.{OpId}
 use Rattle.goal_graph.specs.declared.action.Timed.{Timed}
@@ -17,13 +17,13 @@ use Rattle.sim_state.specs.declared.work.Work.{Work}
 abbrev pub has_any : List Need → Bool
 has_any needs = not (length needs == 0)
 
--- whether another needs x
+-- whether another operation needs x
 abbrev pub is_needed : List Plan → OpId → Bool
 is_needed plans x = has_any (waiting_on plans x)
 
 module _ (plans : List Plan) (costs : CostModel) (x : OpId) where
-  -- what x does, where it is of that kind: its nanoseconds or its bytes, the rank that it sends them to, its task, and
-  -- whether another needs it; what is no operation is told as a calc of no time
+  -- what x does, if it is of this kind: its nanoseconds or its bytes, the rank to which it sends them, its task, and
+  -- whether another operation needs it; for no operation it is a calc of 0 ns
   abbrev pub work_by : Option Kind → Work
   work_by (Some (Calc nanos)) = record { amount = nanos; to = 0; task = task.Calc; is_needed = is_needed plans x }
   work_by (Some (Send bytes to tag)) = record {
@@ -41,7 +41,7 @@ module _ (plans : List Plan) (costs : CostModel) (x : OpId) where
   abbrev pub task_of : Task
   task_of = work_of.task
 
--- the action is the last of its operation: a calc has begun, a send that goes out whole has arrived, or a receive took its message
+-- the action is the last of its operation: a calc has begun, an eager send has arrived, or a receive took its message
 abbrev pub IsLast : List Plan → CostModel → Timed → Type 0
 IsLast plans costs a =
     ((a.class ≡ Begin) × IsCalc plans a.op) ⊎ (((a.class ≡ Arrive) × (is_eager plans costs a.op ≡ true)) ⊎ (a.class ≡ Serve))

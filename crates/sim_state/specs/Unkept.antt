@@ -1,4 +1,4 @@
--- How the logic stores a list of actions, of which a struct may then tell in clauses alone: by their numbers.
+-- How a list of actions is stored as numbers, for a struct that has it in contracts only.
 use Rattle.std.specs.Prelude.{◌≡◌, ℕ, List, refl}
 use Rattle.std.specs.Coded.{Coded, code_by, coded×, coded_ℕ, coded_list}
 use mathlib.Core.Path.{ap}

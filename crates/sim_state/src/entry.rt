@@ -1,4 +1,4 @@
-// What an engine keeps of each operation, in a table in the order of all operations.
+//! What an engine keeps of each operation, in a table in the order of all operations.
 ghost use Rattle.std.specs.Prelude.{◌≡◌, ◌<◌, ◌^◌, List, length, map, [], Some, None, IfSome, IfOk};
 ghost use Rattle.goal_graph.specs.declared.action.OpId.{OpId};
 ghost use Rattle.goal_graph.specs.Schedule.{operations};
@@ -23,14 +23,14 @@ pub struct Times {
     pub start: Moment,
     /// When it ends.
     pub end: Moment,
-    /// What it waits for: before it starts the last of the moments that it needs and that are there, 0 where none is; then when the
-    /// message of a send, or its request, arrives, while it is under way; once it is paired, since when it is; and once a large send
-    /// has handed over its bytes, when these are delivered to its receive.
+    /// What it waits for. Before it starts, this is the last known moment that it needs, or 0 without any. Then it is
+    /// the arrival of its message or its request; once it is paired, the time of this; once a rendezvous send has
+    /// transferred its data, when they reach the receive.
     pub awaited: Moment,
 }
 
 impl Times {
-    // Of an operation that has done nothing, and was given no moment.
+    // The times of an operation that has done nothing and got no moment.
     fn first() -> Times
         ensures { result ≡ record { start = None; end = None; awaited = Some 0 } }
     {
@@ -41,7 +41,7 @@ impl Times {
         }
     }
 
-    /// Given a moment that it needs, in nanoseconds, before it starts.
+    /// The same with a moment that it needs, in nanoseconds, before it starts.
     pub fn with_given(self, moment: u64) -> Times
         requires { moment < 2 ^ 63 }
         ensures { result ≡ given_times moment self }
@@ -52,7 +52,7 @@ impl Times {
         }
     }
 
-    /// With this start, in nanoseconds.
+    /// The same with this start, in nanoseconds.
     pub fn with_start(self, at: u64) -> Times
         requires { at < 2 ^ 63 }
         ensures { result ≡ record self { start = Some at } }
@@ -63,7 +63,7 @@ impl Times {
         }
     }
 
-    /// With this end, in nanoseconds.
+    /// The same with this end, in nanoseconds.
     pub fn with_end(self, at: u64) -> Times
         requires { at < 2 ^ 63 }
         ensures { result ≡ record self { end = Some at } }
@@ -74,7 +74,8 @@ impl Times {
         }
     }
 
-    /// With this time in nanoseconds for what it awaits: when its message, its request or its bytes arrive, or since when it is paired.
+    /// The same with this time, in nanoseconds, of what it awaits: the arrival of its message, its request or its data,
+    /// or the time of its pairing.
     pub fn with_awaited(self, at: u64) -> Times
         requires { at < 2 ^ 63 }
         ensures { result ≡ record self { awaited = Some at } }
@@ -85,7 +86,7 @@ impl Times {
         }
     }
 
-    /// Awaiting nothing.
+    /// The same, awaiting nothing.
     pub fn with_nothing_awaited(self) -> Times
         ensures { result ≡ record self { awaited = None } }
     {
@@ -96,26 +97,29 @@ impl Times {
     }
 }
 
-/// What is known of an operation, in 48 bytes: a run waits most for its tables to come from memory.
+/// What is known of an operation, in 48 bytes. It is small, because a run mostly waits for its tables to come from
+/// memory.
 #[derive(Clone, Copy)]
 pub struct Entry {
     /// What it does.
     pub work: Work,
     /// Its times.
     pub times: Times,
-    /// How many of the moments that it needs are not there yet, and the operation that it is paired with.
+    /// How many of the moments that it needs are not known, and its partner.
     pub link: Link,
 }
 
-/// What an action changes of what is known of its operation: its times, and its partner where the action pairs it.
+/// What an action changes of its operation: its times, and its partner if the action pairs it.
 #[derive(Clone, Copy)]
 pub struct Change {
+    /// The times after the action.
     pub times: Times,
+    /// The partner, if the action pairs the operation.
     pub partner: Option<OpId>,
 }
 
 impl Change {
-    /// Of times alone.
+    /// A change of times only.
     pub fn of_times(times: Times) -> Change
         ensures { result ≡ record { times = times; partner = None } }
     {
@@ -127,7 +131,7 @@ impl Change {
 }
 
 impl Entry {
-    // Of an operation that has done nothing, and needs so many moments.
+    // The entry of an operation that has done nothing and needs `unmet` moments.
     fn first(work: Work, unmet: u32) -> Entry
         ensures { result ≡ fresh_entry work unmet }
     {
@@ -139,7 +143,7 @@ impl Entry {
     }
 }
 
-/// What is known of all operations before the first action.
+/// Returns what is known of all operations before the first action. `Err` means out of memory.
 pub fn first_entries<C: Costs>(
     alloc: Global,
     sched: &Sched,
@@ -156,7 +160,7 @@ pub fn first_entries<C: Costs>(
     Ok(entries)
 }
 
-/// The entry of an operation.
+/// Returns the entry of an operation.
 pub fn read<'e>(sched: &Sched, entries: &'e [Entry], id: OpId) -> &'e Entry
     requires exists { IsOp sched.now id }
     requires each { length entries.now ≡ length (operations sched.now) }
@@ -175,7 +179,7 @@ fn write_times(sched: &Sched, entries: &mut [Entry], id: OpId, times: Times)
     kept.times = times;
 }
 
-// Writes that an operation is paired with another since a time.
+// Writes that an operation has been paired with another since a time.
 fn write_paired(sched: &Sched, entries: &mut [Entry], id: OpId, with: OpId, at: u64)
     requires exists { IsOp sched.now id }
     requires other { IsOp sched.now with }
@@ -189,7 +193,8 @@ fn write_paired(sched: &Sched, entries: &mut [Entry], id: OpId, with: OpId, at: 
     kept.times = kept.times.with_awaited(at);
 }
 
-/// Writes what an action of an operation changes, at its time: where it pairs the operation, the two are paired since then.
+/// Writes what an action of an operation changes, at its time. If it pairs the operation, the two are paired since
+/// then.
 pub fn write_change(sched: &Sched, entries: &mut [Entry], id: OpId, change: Change, at: u64)
     requires exists { IsOp sched.now id }
     requires other { IfSome change.partner (IsOp sched.now) }

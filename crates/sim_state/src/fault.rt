@@ -1,13 +1,13 @@
-// Why a schedule can't be run.
+//! Why a schedule cannot be run.
 ghost use Rattle.std.specs.Prelude.{◌≡◌};
 
 use goal_limits::NoMemory;
 use std::alloc::AllocError;
 
-/// Why an engine is not made.
+/// Why an engine cannot be created.
 #[derive(Clone, Copy, Debug, PartialEq, Eq)]
 pub enum EngineFault {
-    /// The time budget is over 2^63-1 nanoseconds: it is `sum`.
+    /// The time budget, `sum` in nanoseconds, is over 2^63-1.
     Budget { sum: u128 },
     /// Memory ran out.
     NoMemory,

@@ -1,19 +1,19 @@
-// What is kept of the actions that have happened.
+//! The actions so far, and which of them are kept.
 ghost use Rattle.std.specs.Prelude.{◌≡◌, ◌+◌, ◌<◌, ℕ, List, [], ◌∷◌, IfOk, length};
 ghost use Rattle.goal_graph.specs.declared.action.Timed.{Timed};
 
 use goal_graph::Timed;
 use std::alloc::{AllocError, Global};
 
-/// The actions that have happened, as a state has them. Contracts see them all, whether they are kept or not.
+/// The actions so far, as a state keeps them. Contracts see them all, whether they are kept or not.
 pub trait History: Drop {
-    /// The actions, newest first.
+    /// The actions, the newest first.
     ghost actions: { Self → List Timed };
 
-    /// Whether it has room for so many actions in all.
+    /// Whether it has room for `count` actions in all.
     ghost has_room: { Self → ℕ → Type 0 };
 
-    /// No action, and room for so many.
+    /// Returns an empty history with room for `count` actions. `Err` means out of memory.
     fn with_room(alloc: Global, count: usize) -> Result<Self, AllocError>
         ensures empty { IfOk result (λ h. actions h ≡ []) }
         ensures roomy { IfOk result (λ h. has_room h count) };
@@ -28,7 +28,7 @@ pub trait History: Drop {
 /// Keeps each action.
 #[derive(Drop)]
 pub struct Kept {
-    // oldest first
+    // the oldest first
     pub(crate) timed: Vec<Timed>,
 }
 

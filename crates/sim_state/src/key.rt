@@ -1,11 +1,11 @@
-// The action of an operation in two words.
+//! The action of an operation in two words.
 ghost use Rattle.std.specs.Prelude.{◌≡◌};
 ghost use Rattle.goal_graph.specs.Fault.{IsOp};
 
 use goal_graph::{Sched, Timed};
 use sim_order::CompactKey;
 
-/// The key of an action of a schedule: the history and the queue keep it instead of the action.
+/// Returns the key of an action of a schedule. The history and the queue keep it instead of the action.
 pub fn compact(sched: &Sched, action: Timed) -> CompactKey
     requires { IsOp sched.now action.op }
     ensures { result ≡ action }

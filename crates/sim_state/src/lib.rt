@@ -1,4 +1,5 @@
-//! A schedule under way: what has happened, what is known of each operation, what may happen next and what it changes.
+//! A schedule during its run: the actions so far, what is known of each operation, what may happen next, and what it
+//! changes.
 #![tactic(auto)]
 
 mod entry;

@@ -1,20 +1,20 @@
-// How many moments an operation still waits for, and then the operation that it is paired with.
+//! How many moments an operation waits for, and its partner once it has one.
 ghost use Rattle.std.specs.Prelude.{◌≡◌, ◌<◌, ◌-◌, Some, None};
 ghost use Rattle.sim_state.specs.Links.{no_rank};
 
 use goal_graph::OpId;
 use std::marker::Model;
 
-// The rank of no operation.
+// The rank that no operation has.
 const NO_RANK: u32 = u32::MAX;
 
-/// How many moments an operation still waits for, and its partner if it is paired, in eight bytes: what is paired waits for no moment.
-/// Contracts see both.
+/// How many moments an operation waits for, and its partner, in eight bytes: an operation with a partner waits for no
+/// moment. Contracts see both.
 #[derive(Clone, Copy)]
 pub struct Link {
-    // that of the partner, and the rank of no operation where there is none
+    // the rank of the partner, or the rank that no operation has
     rank: u32,
-    // the number of the partner, and how many moments are not there yet where there is none
+    // the number of the partner, or how many moments are not known
     op: u32,
 }
 
@@ -31,7 +31,7 @@ impl Model for Link {
 }
 
 impl Link {
-    /// Of an operation that has no partner, and waits for so many moments.
+    /// The link of an operation without a partner that waits for `unmet` moments.
     pub fn waiting(unmet: u32) -> Link
         ensures { result ≡ record { unmet = unmet; partner = None } }
     {
@@ -41,7 +41,7 @@ impl Link {
         }
     }
 
-    /// Of an operation that is paired with another.
+    /// The link of an operation that is paired with another.
     pub fn paired(with: OpId) -> Link
         requires { with.rank < no_rank }
         ensures { result ≡ record { unmet = 0; partner = Some with } }
@@ -52,7 +52,7 @@ impl Link {
         }
     }
 
-    /// One moment less.
+    /// The same, waiting for one moment less.
     pub fn with_one_met(self) -> Link
         requires { 0 < self.unmet }
         ensures { result ≡ record self { unmet = self.unmet - 1 } }
@@ -63,14 +63,14 @@ impl Link {
         }
     }
 
-    /// How many moments are not there yet.
+    /// Returns how many moments are not known.
     pub fn unmet(self) -> u32
         ensures { result ≡ self.unmet }
     {
         if self.rank == NO_RANK { self.op } else { 0 }
     }
 
-    /// The partner, if there is one.
+    /// Returns the partner, if there is one.
     pub fn partner(self) -> Option<OpId>
         ensures { result ≡ self.partner }
     {

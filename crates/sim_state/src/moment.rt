@@ -1,13 +1,13 @@
-// A time that may not be there, in eight bytes.
+//! A time that may not be known, in eight bytes.
 ghost use Rattle.std.specs.Prelude.{◌≡◌, ◌<◌, ◌^◌, Some, None, max};
 ghost use Rattle.std.specs.Option.{option_map};
 
 use std::marker::Model;
 
-/// A time in nanoseconds that may not be there. Contracts see it as the option of that time.
+/// A time in nanoseconds that may not be known. Contracts see it as an option of the time.
 #[derive(Clone, Copy)]
 pub struct Moment {
-    // the greatest number where the time is not there
+    // the greatest number if the time is not known
     nanos: u64,
 }
 
@@ -28,7 +28,7 @@ impl Moment {
     /// No time.
     pub const NONE: Moment = Moment { nanos: u64::MAX };
 
-    /// This time.
+    /// This time, in nanoseconds.
     pub fn at(nanos: u64) -> Moment
         requires { nanos < 2 ^ 63 }
         ensures { result ≡ Some nanos }
@@ -36,7 +36,7 @@ impl Moment {
         Moment { nanos }
     }
 
-    /// The time, if it is there.
+    /// Returns the time in nanoseconds, if it is known.
     pub fn get(self) -> Option<u64>
         ensures { result ≡ self }
     {
@@ -46,7 +46,7 @@ impl Moment {
         Some(self.nanos)
     }
 
-    /// The later of it, where it is there, and a time in nanoseconds; else still none.
+    /// The later of it and a time in nanoseconds, if it is known; otherwise none.
     pub fn or_later(self, nanos: u64) -> Moment
         requires { nanos < 2 ^ 63 }
         ensures { result ≡ option_map (λ last. max last nanos) self }

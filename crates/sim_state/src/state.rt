@@ -1,4 +1,4 @@
-// What has happened so far, and what is known of each operation.
+//! The actions so far, and what is known of each operation.
 ghost use Rattle.std.specs.Prelude.{◌≡◌, ◌+◌, ◌<◌, ◌≤◌, ◌^◌, ◌↔◌, List, [], ◌∷◌, IsTrue, IfSome, IfNone, IfOk, IfErr, OnOk, All, count_by, length, reverse};
 ghost use Rattle.goal_graph.specs.declared.action.OpId.{OpId};
 ghost use Rattle.goal_graph.specs.declared.action.Timed.{Timed};
@@ -35,22 +35,22 @@ mod enabled;
 mod give;
 mod perform;
 
-/// A schedule under way. Contracts see it as the plans of the schedule, the costs, and what has happened so far, newest
-/// first. Whether the actions are kept that have happened says its type.
+/// A schedule during its run. Its value in contracts is the plans of the schedule, the costs, and the actions so far,
+/// the newest first. Its type says whether the actions are kept.
 pub struct State<'a, C: Costs, H: History = Kept> {
     sched: &'a Sched,
     costs: C,
-    // what has happened
+    // the actions so far
     history: H,
     // what is known of each operation, in the order of all
     entries: Vec<Entry>,
-    // who is paired with whom
+    // the matcher
     matcher: Matcher<'a>,
-    // when cpus and interfaces are free
+    // when cpus and NICs are free
     resources: Resources<'a>,
 }
 
-// It goes by a call, and not field by field: so those that let one go are shorter to prove.
+// It is dropped by a call, and not field by field, so that callers that drop one are shorter to prove.
 impl<C: Costs + Drop, H: History> Drop for State<'_, C, H> {
     fn drop(self) {
         let State {
@@ -76,8 +76,8 @@ impl<'a, C: Costs, H: History> Model for State<'a, C, H> {
 }
 
 impl<'a, C: Costs + Drop, H: History> State<'a, C, H> {
-    /// A schedule before its first action. It takes all memory of the run; no later call takes any. Where the time budget
-    /// is over 2^63-1 the fault carries it, whether memory is there or not.
+    /// Creates the state of a schedule before its first action. It allocates all memory of the run; no later call
+    /// allocates any. If the time budget is over 2^63-1, the fault has it, whether there is enough memory or not.
     pub fn new(alloc: Global, sched: &'a Sched, costs: C) -> Result<State<'a, C, H>, EngineFault>
         ensures plans { IfOk result (λ e. e.plans ≡ sched.now) }
         ensures costs { IfOk result (λ e. e.costs ≡ costs) }
@@ -108,7 +108,7 @@ impl<'a, C: Costs + Drop, H: History> State<'a, C, H> {
 }
 
 impl<'a, C: Costs> State<'a, C> {
-    /// What has happened, oldest first.
+    /// Returns the actions so far, the oldest first.
     pub fn trace(&self) -> &[Timed]
         ensures { result.now ≡ reverse self.now.history }
     {
@@ -117,7 +117,7 @@ impl<'a, C: Costs> State<'a, C> {
 }
 
 impl<'a, C: Costs, H: History> State<'a, C, H> {
-    /// What is known of an operation.
+    /// Returns what is known of an operation.
     pub fn record(&self, id: OpId) -> Record
         requires { IsOp self.now.plans id }
         ensures start { result.start ≡ start_known self.now.plans (C.model self.now.costs) self.now.history id }
@@ -132,7 +132,7 @@ impl<'a, C: Costs, H: History> State<'a, C, H> {
         }
     }
 
-    /// The operation that another is paired with, once it is.
+    /// Returns the operation with which another is paired, once it is.
     pub fn partner(&self, id: OpId) -> Option<OpId>
         requires { IsOp self.now.plans id }
         ensures { result ≡ mate self.now.plans (C.model self.now.costs) self.now.history id }
@@ -140,7 +140,8 @@ impl<'a, C: Costs, H: History> State<'a, C, H> {
         self.entry(id).link.partner()
     }
 
-    /// When all that an operation waits for is free: its cpu and, where it sends or receives, that side of its interface.
+    /// Returns when all that an operation uses is free, in nanoseconds: its cpu and, if it sends or receives, that side
+    /// of its NIC.
     pub fn free(&self, id: OpId) -> u64
         requires { IsOp self.now.plans id }
         ensures { result ≡ free self.now.plans (C.model self.now.costs) self.now.history id }
@@ -152,7 +153,7 @@ impl<'a, C: Costs, H: History> State<'a, C, H> {
         }
     }
 
-    /// When the cpu of an operation is free.
+    /// Returns when the cpu of an operation is free, in nanoseconds.
     pub fn cpu(&self, id: OpId) -> u64
         requires { IsOp self.now.plans id }
         ensures { result ≡ cpu self.now.plans (C.model self.now.costs) self.now.history id }
@@ -160,7 +161,7 @@ impl<'a, C: Costs, H: History> State<'a, C, H> {
         self.resources.cpu(id)
     }
 
-    /// When the side of an interface that an operation needs is free: its cpu, where it needs none.
+    /// Returns when the side of the NIC that an operation uses is free, in nanoseconds, or its cpu if it uses no NIC.
     pub fn side(&self, id: OpId) -> u64
         requires { IsOp self.now.plans id }
         ensures { result ≡ side self.now.plans (C.model self.now.costs) self.now.history id }
@@ -172,7 +173,8 @@ impl<'a, C: Costs, H: History> State<'a, C, H> {
         }
     }
 
-    /// The operations that need one, in the order of the rank's dependencies. Of one that none needs the schedule is not asked.
+    /// Returns the operations that need another one, in the order of the rank's dependencies. If none does, the
+    /// schedule is not read.
     pub fn waiting_on(&self, id: OpId) -> &'a [Need]
         requires { IsOp self.now.plans id }
         ensures waiting_on { result.now ≡ waiting_on self.now.plans id }
@@ -184,22 +186,22 @@ impl<'a, C: Costs, H: History> State<'a, C, H> {
         self.sched.waiting_on(id)
     }
 
-    /// The schedule that runs.
+    /// Returns the schedule.
     pub fn sched(&self) -> &'a Sched
         ensures { result.now ≡ self.now.plans }
     {
         self.sched
     }
 
-    /// The costs of its messages.
+    /// Returns the costs of its messages.
     pub fn costs(&self) -> &C
         ensures { result.now ≡ self.now.costs }
     {
         &self.costs
     }
 
-    /// What holds of every engine: its schedule is accepted, its time budget is at most 2^63-1, what
-    /// has happened is the run so far, and no time of it is later than the budget.
+    /// What holds of every state: its schedule is accepted, its time budget is at most 2^63-1, the actions so far are a
+    /// run, and no time of it is later than the budget.
     pub fn known(&self)
         ensures accepted { IsAccepted self.now.plans }
         ensures fits { budget self.now.plans (C.model self.now.costs) < 2 ^ 63 }
@@ -217,7 +219,7 @@ impl<'a, C: Costs, H: History> State<'a, C, H> {
         read(self.sched, &self.entries, id)
     }
 
-    // What an operation is, and whether a send goes out whole.
+    // The task of an operation.
     fn task(&self, id: OpId) -> Task
         requires { IsOp self.now.plans id }
         ensures { result ≡ task_of self.now.plans (C.model self.now.costs) id }

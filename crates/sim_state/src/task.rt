@@ -1,13 +1,13 @@
-// What an operation is.
+//! The tasks of operations.
 
-/// What an operation is, and whether a send goes out whole.
+/// What an operation is, and whether a send is eager.
 #[derive(Clone, Copy, PartialEq, Eq)]
 pub enum Task {
     /// A calc.
     Calc,
-    /// A send that goes out whole.
+    /// An eager send.
     Eager,
-    /// A send with a request before it.
+    /// A rendezvous send.
     Large,
     /// A receive.
     Receive,

@@ -1,4 +1,4 @@
-// A history of which clauses alone tell.
+//! A history that only contracts see.
 ghost use Rattle.std.specs.Prelude.{◌≡◌, List, [], ◌∷◌};
 ghost use base.Fml.{ftrue};
 ghost use Rattle.goal_graph.specs.declared.action.Timed.{Timed};
@@ -9,7 +9,7 @@ use goal_graph::Timed;
 use std::alloc::{AllocError, Global};
 use std::marker::Model;
 
-/// No action is kept: it has no bytes, and its calls do nothing.
+/// No action is kept. It has no bytes, and its calls do nothing.
 #[derive(Drop)]
 pub struct Unkept {
     ghost past: { List Timed } by { actions_code },
@@ -20,7 +20,7 @@ impl Model for Unkept {
 }
 
 impl Unkept {
-    // Nothing has happened.
+    // The history before the first action.
     #[inline(always)]
     fn empty() -> Unkept
         ensures { result.past ≡ [] }
@@ -28,7 +28,7 @@ impl Unkept {
         Unkept {}
     }
 
-    // What has happened once this action has too.
+    // The history after this action.
     #[inline(always)]
     fn after(&self, _action: &Timed) -> Unkept
         ensures { result.past ≡ _action.now ∷ self.now.past }

@@ -1,4 +1,4 @@
-// What each operation does.
+//! What each operation does.
 ghost use Rattle.std.specs.Prelude.{◌≡◌};
 ghost use Rattle.goal_graph.specs.Schedule.{IsSend};
 ghost use Rattle.goal_graph.specs.Fault.{IsOp};
@@ -8,21 +8,21 @@ use crate::task::Task;
 use goal_graph::{Kind, OpId, Sched};
 use sim_params::Costs;
 
-/// What an operation does, in 16 bytes: a run asks for it at each step, and the operation itself lies further away in
+/// What an operation does, in 16 bytes. A run reads it at each step, and the operation itself is further away in
 /// memory.
 #[derive(Clone, Copy)]
 pub struct Work {
-    /// The nanoseconds of a calc, the bytes of a send; 0 of a receive.
+    /// The nanoseconds of a calc, or the bytes of a send; 0 for a receive.
     pub amount: u64,
-    /// The rank that a send goes to; 0 of what is no send.
+    /// The rank to which a send goes; 0 for any other operation.
     pub to: u32,
-    /// What it is.
+    /// The task.
     pub task: Task,
-    /// Whether another needs it.
+    /// Whether another operation needs it.
     pub is_needed: bool,
 }
 
-// Whether a send goes out whole, or has a request before it.
+// The task of a send: whether it is eager.
 fn task_of_send<C: Costs>(sched: &Sched, costs: &C, send: OpId) -> Task
     requires { IsSend sched.now send }
     ensures { result ≡ task_of sched.now (C.model costs.now) send }
@@ -43,7 +43,7 @@ fn is_needed(sched: &Sched, id: OpId) -> bool
     !sched.waiting_on(id).is_empty()
 }
 
-/// What an operation does, as the schedule and the costs say it.
+/// Returns what an operation does, by the schedule and the costs.
 pub fn work_of<C: Costs>(sched: &Sched, costs: &C, id: OpId) -> Work
     requires { IsOp sched.now id }
     ensures { result ≡ work_of sched.now (C.model costs.now) id }

@@ -1,4 +1,4 @@
-// What may happen next of one operation, and when.
+//! What may happen next of one operation, and when.
 ghost use Rattle.std.specs.Prelude.{◌≡◌, true, false, Some, None, is_some};
 ghost use Rattle.goal_graph.specs.declared.action.Class.TheVariants.{Arrive, Serve, Data, Post, Begin};
 ghost use Rattle.goal_graph.specs.Action.{plain};
@@ -22,7 +22,7 @@ use sim_params::Costs;
 use sim_rendezvous::{clear_to, data_at};
 
 impl<'a, C: Costs, H: History> State<'a, C, H> {
-    /// The possible action of an operation, if it has one.
+    /// Returns the possible action of an operation, if it has one.
     pub fn choice(&self, id: OpId) -> Option<Timed>
         requires { IsOp self.now.plans id }
         ensures { IsEnabledActionOf self.now.plans (C.model self.now.costs) self.now.history id result }
@@ -77,7 +77,7 @@ impl<'a, C: Costs, H: History> State<'a, C, H> {
         })
     }
 
-    // The Begin of a send that has not started: once it is ready, and its cpu and its interface are free.
+    // The Begin of a send that has not started: once it is ready, and its cpu and its NIC are free.
     fn begin_of_send(&self, send: OpId) -> Option<Timed>
         requires op { IsSend self.now.plans send }
         requires fresh { has_started self.now.plans send (plain self.now.history) ≡ false }
@@ -91,7 +91,7 @@ impl<'a, C: Costs, H: History> State<'a, C, H> {
         })
     }
 
-    // The Arrive of a send that has started and is not paired, while it is under way.
+    // The Arrive of a send that has started and is not paired, while it has not arrived.
     fn arrival(&self, send: OpId) -> Option<Timed>
         requires exists { IsOp self.now.plans send }
         requires started { has_started self.now.plans send (plain self.now.history) ≡ true }
@@ -107,7 +107,8 @@ impl<'a, C: Costs, H: History> State<'a, C, H> {
         })
     }
 
-    // The Data of a send that is paired, where it is large: once its clearance is back, and its cpu and its interface are free.
+    // The Data of a paired send, if it is a rendezvous send: once its clear to send is back, and its cpu and its NIC
+    // are free.
     fn hand_over_of(&self, send: OpId) -> Option<Timed>
         requires op { IsSend self.now.plans send }
         requires paired { is_some (mate self.now.plans (C.model self.now.costs) self.now.history send) ≡ true }
@@ -115,7 +116,7 @@ impl<'a, C: Costs, H: History> State<'a, C, H> {
     {
         self.known();
         let Entry { work, times, .. } = *self.entry(send);
-        // an eager one has an end since it began, a large one once it has handed over its bytes
+        // an eager send has an end since it began, a rendezvous send once it has transferred its data
         if times.end.get().is_some() {
             return None;
         }
@@ -144,7 +145,7 @@ impl<'a, C: Costs, H: History> State<'a, C, H> {
         })
     }
 
-    // The Serve of a receive: once its message is there, and its cpu and its interface are free.
+    // The Serve of a receive: once its message is available, and its cpu and its NIC are free.
     fn serve_of(&self, recv: OpId) -> Option<Timed>
         requires { IsReceive self.now.plans recv }
         ensures { result ≡ enabled_action self.now.plans (C.model self.now.costs) self.now.history Serve recv }
@@ -164,7 +165,7 @@ impl<'a, C: Costs, H: History> State<'a, C, H> {
         })
     }
 
-    // When the message of a send is there for the receive that is paired with it since a time, once it is.
+    // When the message of a send is available to the receive that has been paired with it since a time, once it is.
     fn message_there(&self, send: OpId, paired: u64) -> Option<u64>
         requires { IsSend self.now.plans send }
         ensures { result ≡ message_known self.now.plans (C.model self.now.costs) self.now.history (record { with = send; at = paired }) }
@@ -178,7 +179,7 @@ impl<'a, C: Costs, H: History> State<'a, C, H> {
         times.awaited.get()
     }
 
-    /// Whether an action is told to be the last of its operation. The Data of a large send is not.
+    /// Returns whether an action is known to be the last of its operation. The Data of a rendezvous send is not.
     pub fn is_last(&self, action: Timed) -> bool
         requires { IsOp self.now.plans action.op }
         ensures { result ≡ true → IsLast self.now.plans (C.model self.now.costs) action }
@@ -199,7 +200,7 @@ impl<'a, C: Costs, H: History> State<'a, C, H> {
         self.entry(id).times.start.get().is_some()
     }
 
-    // When all that an operation needs is there, once it is, while it has not started.
+    // When all that an operation needs has happened, once it has, while it has not started.
     #[inline(always)]
     fn ready(&self, id: OpId) -> Option<u64>
         requires exists { IsOp self.now.plans id }
