@@ -1,4 +1,4 @@
--- What keys have cost, as they are put and taken out.
+-- The cost of keys that are put and removed.
 use Rattle.std.proofs.Common.{◌≡◌, ◌≢◌, ◌⊎◌, ℕ, ◌+◌, ◌*◌, ◌^◌, ◌<◌, ◌≤◌, zero, suc, cond, List, [], ◌∷◌, length, Option, Some, None, is_some, slice_set, refl, sym, ap, ◌∙◌, subst, inl, inr, arith}
 use Rattle.std.specs.List.{sum_by, count_by, range_with_len}
 use Rattle.std.proofs.Math.Nat.{mul-le-mul_right}
@@ -83,7 +83,7 @@ pub spent_same : (k : ℕ) (old new : Stationed) → new.keys ≡ old.keys → s
 spent_same k old new e =
     ap (λ ks. sum_by (λ i. cost_of_key k (key_at ks i)) (range_with_len 0 (length ks))) e
 
--- what the keys have cost is told by how many there are
+-- the cost of the keys is determined by how many there are
 one_spent : (k : ℕ) (a : Option Timed) → cost_of_key k a ≡ cond (is_some a) 1 0 * (10 * k + 16)
 one_spent k None = omega arith
 one_spent k (Some e) = omega arith

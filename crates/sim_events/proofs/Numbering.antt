@@ -22,7 +22,7 @@ use Rattle.sim_events.specs.Stations.{IsNotAfter, AreOnce, HasNumber, HasPair, I
 use Rattle.sim_events.specs.Cost.{station_by, station_of, station_as, same_station, with_station, stations_among, cpu_alone, side_by, side_alone}
 use Rattle.sim_events.proofs.Placing.{same_station_true, same_station_from}
 
--- what stands behind a list
+-- what is appended to a list
 get_first : {X : Type 0} (xs : List X) (t : X) (more : List X) → slice_get (xs ++ t ∷ more) (length xs) ≡ Some t
 get_first [] t more = refl
 get_first (y ∷ xs) t more = get_first xs t more

@@ -163,7 +163,7 @@ module _ (plans : List Plan) (costs : CostModel) where
         is_idle i x at none (inl s) = own_after x (same_Some x a.op (sym at ∙ ap (slice_get (operations plans)) s ∙ here))
         is_idle i x at none (inr d) = idle_then i x (key_at old.keys i) at refl (sym (settled.others i x d at) ∙ none)
 
-    -- where it waited for nothing the others are as they were
+    -- if it waited for nothing, the others are unchanged
     pub settled_at_once : (old new : Stationed) (slot : ℕ) → IsQueue plans costs h old → slice_get (operations plans) slot ≡ Some a.op → waits_for_room a.class ≡ false → new.keys ≡ slice_set old.keys slot None → new.stations ≡ old.stations → new.pairs ≡ old.pairs → new.free ≡ old.free → IsSettled old new slot
     settled_at_once old new slot q here w keys stations pairs same = record {
       of_it = record {
@@ -283,7 +283,7 @@ module _ (plans : List Plan) (costs : CostModel) where
       idle = λ i y at none. inr (every y (listed_exists plans i y at));
     }
 
-    -- a key of the queue is possible, and stands in the slot of its operation
+    -- a key of the queue is possible, and is in the slot of its operation
     pub record IsFound (keys : List (Option Timed)) (slot : ℕ) (e : Timed) : Type 0 where
       pub within : slot < length keys
       pub is_slot : slice_get (operations plans) slot ≡ Some e.op
@@ -403,7 +403,7 @@ module _ (plans : List Plan) (costs : CostModel) where
             let known_free : both_free old.free (pair_of old slot) ≡ free plans costs h a.op = free_known h old q.of_it.free slot x at_slot ∙ ap (free plans costs h) (sym own.0) in
             λ j. record { time = go (waits_for_room a.class) _ (λ w. free_first plans costs h a.class a.op w own.1.allowed) known_free own.1.time j; class = a.class; op = a.op }
 
-    -- what has its key stays as it is
+    -- an operation that has its key is unchanged
     same_key : (x : OpId) (known : List Plan) (slot : ℕ) (queue : Stationed) → known ≡ plans → slice_get (operations known) slot ≡ Some x → IsEnabledActionOf plans costs h x (key_at queue.keys slot) → IsRefreshed plans costs h x queue queue
     same_key x known slot queue same at enabled = record {
       slot = slot;

@@ -1,4 +1,4 @@
--- What operations wait for stays as it is once it is there. So the time of an allowed action rises only with that at which
+-- What operations wait for stays the same once it is known.
 -- its station is free.
 use Rattle.std.proofs.Common.{◌≡◌, ◌≤◌, ◌+◌, ◌||◌, ℕ, max, Bool, true, false, not, List, [], ◌∷◌, Option, Some, None, if◌then◌else◌, refl, ap, ap₂, ◌∙◌, arith}
 use Rattle.std.specs.List.{list_all}

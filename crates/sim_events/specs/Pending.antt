@@ -1,4 +1,4 @@
--- What may come, as far as an engine knows it.
+-- The actions that may be next, as an engine knows them.
 use Rattle.std.specs.Prelude.{ℕ, ◌≡◌, List, ◌∷◌, Option, Some, None}
 use Rattle.goal_graph.specs.declared.action.Timed.{Timed}
 use Rattle.goal_graph.specs.Schedule.{Plan}
@@ -9,7 +9,7 @@ use Rattle.sim_state.specs.Engine.{View}
 use Rattle.sim_events.specs.Queue.{IsQueue}
 use Rattle.sim_events.specs.Changes.{HaveChanged}
 
--- its queue, of which it is known how often stations have changed their places; or none where nothing is possible
+-- a queue, with how often its stations have switched; or nothing, if nothing is possible
 abbrev pub IsPending : List Plan → CostModel → List Timed → Option Stationed → Type 0
 IsPending plans costs h (Some queue) = IsQueue plans costs h queue × ((all : ℕ) × HaveChanged plans h queue all)
 IsPending plans costs h None = IsFinished plans costs h

@@ -1,4 +1,4 @@
--- What the queue of an engine holds: the possible action of each operation that has one.
+-- The queue of an engine: the possible action of each operation that has one.
 use Rattle.std.specs.Prelude.{ℕ, ◌≡◌, ◌≢◌, ◌⊎◌, true, false, List, Contains, length, Option, Some, None, slice_get, slice_index, slice_set}
 use Rattle.std.specs.Option.{option_map}
 use Rattle.goal_graph.specs.declared.action.OpId.{OpId}
@@ -19,8 +19,8 @@ use Rattle.sim_state.specs.Free.{side}
 use Rattle.sim_state.specs.Tasks.{IsLast}
 use Rattle.sim_events.specs.Stations.{AreStationed}
 
--- A queue after the action in a slot, which has left its resources free at c and s: its key is gone and, where the action
--- waited for room, all that waits for these is raised, and they were held once more.
+-- A queue after the action in a slot, which leaves its resources free at c and s. Its key is removed. If the action
+-- waited for room, the keys of all that wait for these resources are raised, and each was held once more.
 pub record IsSettledBy (c s slot : ℕ) (a : Timed) (old new : Stationed) : Type 0 where
   pub each : length new.keys ≡ length old.keys
   pub gone : key_at new.keys slot ≡ None
@@ -36,7 +36,7 @@ pub record IsSettledBy (c s slot : ℕ) (a : Timed) (old new : Stationed) : Type
       → HaveReturned old.pairs old.turned old.free holds returns
       → HaveReturned new.pairs new.turned new.free (held_once_more holds (pair_of old slot)) returns
 
--- by one of these needs y waits for a moment of x that an action of that class may give
+-- by one of these needs y waits for a moment of x that an action of this class may give
 pub record IsAwaiting (needs : List Need) (class : Class) (x y : OpId) : Type 0 where
   pub need : Need
   pub listed : Contains needs need
@@ -44,7 +44,7 @@ pub record IsAwaiting (needs : List Need) (class : Class) (x y : OpId) : Type 0 
   pub given : gives class need.when ≡ true
 
 module _ (plans : List Plan) where
-  -- y needs a moment of x that an action of that class may give
+  -- y needs a moment of x that an action of this class may give
   abbrev pub Awaits : Class → OpId → OpId → Type 0
   Awaits class x y = IsAwaiting (waiting_on plans x) class x y
 
@@ -54,14 +54,14 @@ module _ (plans : List Plan) where
       pub cpus : (slot : ℕ) (x : OpId) → slice_get (operations plans) slot ≡ Some x → slice_index queue.free (pair_of queue slot).cpu ≡ cpu plans costs h x
       pub sides : (slot : ℕ) (x : OpId) → slice_get (operations plans) slot ≡ Some x → slice_index queue.free (pair_of queue slot).side ≡ side plans costs h x
 
-    -- what a queue of that schedule is, whatever its keys are
+    -- what holds of a queue of this schedule, whatever its keys are
     pub record IsOfSchedule (queue : Stationed) : Type 0 where
       pub each : length queue.keys ≡ length (operations plans)
       pub stationed : AreStationed plans queue.stations queue.pairs
       pub exist : DoExist queue.pairs (length queue.free)
       pub free : AreFree queue
 
-    -- Each operation's key is its possible action, and one that has none is idle, or due.
+    -- Each operation's key is its possible action, and one without a key is idle, or due.
     pub record IsQueueBut (Due : OpId → Type 0) (queue : Stationed) : Type 0 where
       pub of_it : IsOfSchedule queue
       pub possible :
@@ -79,7 +79,7 @@ module _ (plans : List Plan) where
     abbrev pub HasPossibleKeys : Stationed → Type 0
     HasPossibleKeys queue = IsQueueBut (λ x. Unit {0}) queue
 
-    -- the slot of x has got its possible action, and the others are as they were
+    -- the slot of x got its possible action, and the other slots are unchanged
     pub record IsRefreshed (x : OpId) (old new : Stationed) : Type 0 where
       pub slot : ℕ
       pub is_slot : slice_get (operations plans) slot ≡ Some x
@@ -91,7 +91,7 @@ module _ (plans : List Plan) where
       pub turned : new.turned ≡ old.turned
       pub free : new.free ≡ old.free
 
-    -- after an action y is due where it is its operation, but after its last, or its partner, but after a Serve, or needs the
-    -- moment that it gives
+    -- after an action y is due if y is its operation, but not after its last action; if y is its partner, but not after
+    -- a Serve; or if y needs the moment that the action gives
     abbrev pub IsDueAfter : Timed → OpId → Type 0
     IsDueAfter a y = ((IsLast plans costs a → ⊥) × (y ≡ a.op)) ⊎ (((a.class ≢ Serve) × (mate plans costs h a.op ≡ Some y)) ⊎ Awaits a.class a.op y)

@@ -1,4 +1,4 @@
--- What an operation waits for before it works: its cpu and, where it sends or receives, that side of its interface.
+-- What an operation waits for before it works: its cpu and, if it sends or receives, that side of its NIC.
 use Rattle.std.specs.Prelude.{ℕ, ◌≡◌, ◌≢◌, ◌≤◌, ◌<◌, ◌+◌, ◌*◌, ◌++◌, List, length, Option, Some, None, get_or, slice_get, slice_index}
 use Rattle.goal_graph.specs.declared.action.OpId.{OpId}
 use Rattle.goal_graph.specs.declared.plan.Op.{Op}
@@ -8,7 +8,7 @@ use Rattle.sim_events.specs.declared.station.Station.{Station}
 use Rattle.sim_events.specs.declared.station.Latest.{Latest}
 use Rattle.sim_events.specs.Cost.{station_of, cpu_alone, side_alone, stations_among}
 
--- where a rank keeps the number of a station
+-- the place where a rank keeps the number of a station
 abbrev pub cpu_place : Option ℕ → ℕ
 cpu_place None = 0
 cpu_place (Some c) = 1 + c
@@ -21,7 +21,7 @@ side_place None (Some n) = 257 + n
 abbrev pub place : Station → ℕ
 place s = 513 * cpu_place s.cpu + side_place s.sends s.receives
 
--- at most one side, and bytes
+-- at most one side, and numbers below 256
 abbrev pub IsByte : Option ℕ → Type 0
 IsByte None = Unit {0}
 IsByte (Some n) = n < 256
@@ -39,33 +39,33 @@ pub record IsPlain (s : Station) : Type 0 where
 abbrev pub IsNotAfter : List Station → ℕ → Type 0
 IsNotAfter seen rank = (j : ℕ) (s : Station) → slice_get seen j ≡ Some s → s.rank ≤ rank
 
--- no station twice
+-- no station occurs twice
 abbrev pub AreOnce : List Station → Type 0
 AreOnce seen = (i j : ℕ) (s : Station) → slice_get seen i ≡ Some s → slice_get seen j ≡ Some s → i ≡ j
 
--- not seen
+-- the station has not occurred
 abbrev pub IsNew : List Station → Station → Type 0
 IsNew seen station = (i : ℕ) → slice_get seen i ≢ Some station
 
--- what a place was given last
+-- the latest number of a place
 abbrev pub latest_at : List (Option Latest) → ℕ → Option Latest
 latest_at places n = get_or places n None
 
--- the station that has the number which its place was given last
+-- the station that has the latest number of its place
 pub record IsTold (seen : List Station) (n : ℕ) (l : Latest) : Type 0 where
   pub station : Station
   pub is : slice_get seen l.number ≡ Some station
   pub rank : station.rank ≡ l.rank
   pub at : place station ≡ n
 
--- places tell of stations, and the stations of the last rank have their numbers at their places
+-- each place has a station's number, and each station of the last rank has its number at its place
 pub record ArePlaced (seen : List Station) (places : List (Option Latest)) : Type 0 where
   pub plain : (i : ℕ) (s : Station) → slice_get seen i ≡ Some s → IsPlain s
   pub told : (n : ℕ) (l : Latest) → latest_at places n ≡ Some l → IsTold seen n l
   pub placed : (i : ℕ) (s : Station) → slice_get seen i ≡ Some s → IsNotAfter seen s.rank → latest_at places (place s) ≡ Some (record { rank = s.rank; number = i })
   pub once : AreOnce seen
 
--- the station has this number among those that are seen after it; those seen before keep theirs
+-- the station has this number in the list `after`, which is `before` with the station if that was new
 pub record HasNumber (before after : List Station) (station : Station) (number : ℕ) : Type 0 where
   pub more : List Station
   pub grown : after ≡ before ++ more
@@ -73,7 +73,7 @@ pub record HasNumber (before after : List Station) (station : Station) (number :
   pub is : slice_get after number ≡ Some station
   pub of_it : (i : ℕ) (s : Station) → slice_get more i ≡ Some s → s ≡ station
 
--- so have the resources of a station
+-- the resources of a station have the numbers p
 pub record HasPair (before after : List Station) (station : Station) (p : Pair) : Type 0 where
   pub between : List Station
   pub cpu : HasNumber before between (cpu_alone station) p.cpu

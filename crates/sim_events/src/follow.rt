@@ -1,4 +1,4 @@
-// The queue of an engine: what it holds, and how it follows what happens.
+//! The queue of an engine: what it contains, and how it is updated after an action.
 ghost use Rattle.std.specs.Prelude.{◌≡◌, ◌≢◌, ℕ, ◌<◌, ◌≤◌, ◌+◌, ◌*◌, ◌^◌, ◌↔◌, ◌⊎◌, All, IsTrue, IfSome, IsNone, Some, true, length, slice_get};
 ghost use Rattle.goal_graph.specs.declared.action.Class.TheVariants.{Arrive, Serve};
 ghost use Rattle.goal_graph.specs.Schedule.{operations, needed};
@@ -23,7 +23,7 @@ use std::sync::ledger::{Blank, Ledger};
 /// For each operation that has a possible action, the key of that action.
 pub type Queue = StationQueue;
 
-/// Gives each operation its key, where none has one yet.
+/// Puts the key of each operation, if it has a possible action. No operation has a key before.
 pub fn fill<C: Costs, H: History, L: Ledger>(
     state: &State<C, H>,
     queue: &mut Queue,
@@ -40,7 +40,7 @@ pub fn fill<C: Costs, H: History, L: Ledger>(
     }
 }
 
-/// The action that happens next, and its slot, none where nothing is possible.
+/// Returns the action that happens next, with its slot, or `None` if nothing is possible.
 pub fn next<C: Costs, H: History, L: Ledger, R: Ledger>(
     state: &State<C, H>,
     queue: &mut Queue,
@@ -69,8 +69,8 @@ pub fn next<C: Costs, H: History, L: Ledger, R: Ledger>(
     Some((slot, action))
 }
 
-/// Takes out the key of an action that has happened. Where it holds a cpu the keys of all that wait for what it holds are
-/// raised.
+/// Removes the key of an action that has happened. If it holds a cpu, the keys of all operations that wait for what it
+/// holds are raised.
 pub fn settle<C: Costs, H: History, L: Ledger>(
     state: &State<C, H>,
     queue: &mut Queue,
@@ -94,8 +94,8 @@ pub fn settle<C: Costs, H: History, L: Ledger>(
     }
 }
 
-/// Gives their keys to those whose next action may be possible only since an action: its operation, the partner, and
-/// the operations that need the moment which it gives.
+/// Puts the keys of the operations whose next action may have become possible by an action: its operation, the partner,
+/// and the operations that need the moment that it gives.
 pub fn follow<C: Costs, H: History, L: Ledger>(
     state: &State<C, H>,
     queue: &mut Queue,
@@ -116,7 +116,7 @@ pub fn follow<C: Costs, H: History, L: Ledger>(
     follow_waiting(state, queue, action, waiting, steps);
 }
 
-// Gives its key to the operation of an action, unless that was its last.
+// Puts the key of the operation of an action, unless this was its last.
 fn follow_own<C: Costs, H: History, L: Ledger>(
     state: &State<C, H>,
     queue: &mut Queue,
@@ -135,7 +135,7 @@ fn follow_own<C: Costs, H: History, L: Ledger>(
     refresh(state, queue, action.op, steps);
 }
 
-// Gives its key to the partner of the operation of an action, if it has one. After a Serve the partner is done.
+// Puts the key of the partner of an action's operation, if it has one. After a Serve the partner has no more actions.
 fn follow_partner<C: Costs, H: History, L: Ledger>(
     state: &State<C, H>,
     queue: &mut Queue,
@@ -157,8 +157,9 @@ fn follow_partner<C: Costs, H: History, L: Ledger>(
     refresh(state, queue, partner, steps);
 }
 
-/// The operations that need one, before its action happens: none is asked for where the action is an Arrive, which gives no moment.
-/// They are looked up here, since the schedule's rows mostly come from memory, beside what is known of the operation itself.
+/// Returns the operations that need another one, before its action happens; none for an Arrive, which gives no moment.
+/// They are read here, because the schedule's rows mostly come from memory, at the same time as what is known of the
+/// operation itself.
 #[inline(always)]
 pub fn waiting_after<'a, C: Costs, H: History>(state: &State<'a, C, H>, action: Timed) -> &'a [Need]
     requires { IsOp state.now.plans action.op }
@@ -171,7 +172,7 @@ pub fn waiting_after<'a, C: Costs, H: History>(state: &State<'a, C, H>, action: 
     }
 }
 
-// Gives their keys to the operations that need the moment which an action gives. An Arrive gives none.
+// Puts the keys of the operations that need the moment that an action gives. An Arrive gives none.
 fn follow_waiting<C: Costs, H: History, L: Ledger>(
     state: &State<C, H>,
     queue: &mut Queue,
@@ -202,7 +203,7 @@ fn follow_waiting<C: Costs, H: History, L: Ledger>(
     }
 }
 
-// Gives an operation that has no key the one of its possible action, if it has one.
+// Puts the key of an operation that has none, if it has a possible action.
 fn refresh<C: Costs, H: History, L: Ledger>(
     state: &State<C, H>,
     queue: &mut Queue,
@@ -224,7 +225,7 @@ fn refresh<C: Costs, H: History, L: Ledger>(
     }
 }
 
-/// Whether no operation has a key.
+/// Returns whether no operation has a key.
 pub fn is_empty<L: Ledger>(blank: Blank, queue: &Queue) -> bool
     requires name { blank.name ≡ L.name }
     requires parts { blank.parts ≡ L.parts }

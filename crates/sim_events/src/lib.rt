@@ -1,4 +1,4 @@
-//! The engine that runs a schedule: at each step the possible action of the least key happens.
+//! The engine that runs a schedule. At each step, the possible action with the least key happens.
 #![tactic(auto)]
 
 mod engine;

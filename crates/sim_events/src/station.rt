@@ -1,4 +1,4 @@
-// What operations wait for.
+//! What operations wait for.
 ghost use Rattle.std.specs.Prelude.{◌≡◌, ◌≢◌, ℕ, ◌<◌, ◌≤◌, ◌+◌, ◌*◌, ◌^◌, [], All, IfOk, OnOk, IfSome, IfNone, Some, length, slice_get, vec_capacity};
 ghost use Rattle.goal_limits.specs.declared.limits.TheConstants.{MAX_OPS};
 ghost use Rattle.goal_graph.specs.Schedule.{operations};
@@ -13,18 +13,22 @@ use sim_stations::Pair;
 use std::alloc::Global;
 use std::marker::Model;
 
-/// What an operation waits for before it works: its cpu and, where it sends or receives, that side of its interface.
-/// A cpu alone and a side alone are stations too.
+/// What an operation waits for before it works: its cpu and, if it sends or receives, that side of its NIC. A cpu alone
+/// and a side alone are stations too.
 #[derive(Clone, Copy)]
 pub struct Station {
+    /// The rank.
     pub rank: u32,
+    /// The cpu; `None` for a side alone.
     pub cpu: Option<u8>,
+    /// The NIC whose sending side it is, if any.
     pub sends: Option<u8>,
+    /// The NIC whose receiving side it is, if any.
     pub receives: Option<u8>,
 }
 
 impl Station {
-    /// The station of an operation.
+    /// Returns the station of an operation.
     pub fn of(id: OpId, op: Op) -> Station
         ensures is { result ≡ station_of id op }
         ensures plain { IsPlain result }
@@ -53,7 +57,7 @@ impl Station {
         }
     }
 
-    // Its side alone, or its cpu where it needs none.
+    // Its side alone, or its cpu if it has no side.
     fn side_alone(self) -> Station
         ensures { result ≡ side_alone self }
     {
@@ -63,7 +67,7 @@ impl Station {
         }
     }
 
-    // Where a rank keeps the number of the station. Those of one rank have different places.
+    // The place where a rank keeps the number of the station. Stations of one rank have different places.
     fn place(self) -> usize
         ensures is { result ≡ place self }
         ensures below { result < PLACES }
@@ -81,7 +85,7 @@ impl Station {
     }
 }
 
-// How many sides a rank has, with none, and how many places for stations.
+// The number of sides of a rank, with none as one of them, and of places for stations.
 const SIDES: usize = 513;
 
 const PLACES: usize = 257 * SIDES;
@@ -101,20 +105,22 @@ fn place_of(op: &Op) -> usize
     SIDES * (1 + usize::from(op.cpu)) + side
 }
 
-/// The number that a place was given last, and the rank whose station it is.
+/// The latest number of a place, and the rank of its station.
 #[derive(Clone, Copy)]
 pub struct Latest {
+    /// The rank of the station.
     pub rank: u32,
+    /// The number of the station.
     pub number: u32,
 }
 
-// Stations in the order in which they were first seen, each once. Contracts see it as the list of them.
+// Stations in the order of their first occurrence, each once. Contracts see it as a list of them.
 #[derive(Drop)]
 struct Stations {
-    // for proofs alone
+    // for proofs only
     seen: Past<Station>,
     count: u32,
-    // what each place was given last
+    // the latest number of each place
     places: Vec<Option<Latest>>,
 }
 
@@ -130,7 +136,7 @@ impl Model for Stations {
     ghost invariant = { λ s. ArePlaced s.seen.items s.places.items × (s.count ≡ length s.seen.items) };
 }
 
-// The number that a place was given last, where that was for this rank.
+// The latest number of a place, if it is of this rank.
 fn given(latest: Option<Latest>, rank: u32) -> Option<u32>
     ensures some { IfSome result (λ number. latest ≡ Some (record { rank = rank; number = number })) }
     ensures none { IfNone result ((number : ℕ) → latest ≢ Some (record { rank = rank; number = number })) }
@@ -141,7 +147,7 @@ fn given(latest: Option<Latest>, rank: u32) -> Option<u32>
     }
 }
 
-// Makes the table long enough for a place, where it is not.
+// Extends the table up to a place, if it is shorter.
 fn make_place(places: &mut Vec<Option<Latest>>, place: usize) -> Result<(), NoMemory>
     requires { place < PLACES }
     ensures there { OnOk result (place < length places.new.items) }
@@ -154,7 +160,7 @@ fn make_place(places: &mut Vec<Option<Latest>>, place: usize) -> Result<(), NoMe
 }
 
 impl Stations {
-    // None.
+    // No stations.
     fn new(alloc: Global) -> Stations
         ensures { result ≡ [] }
     {
@@ -165,7 +171,7 @@ impl Stations {
         }
     }
 
-    // The number of the station of a rank that is at this place. Stations come by rank.
+    // The number of the station of a rank that is at this place. It is called with ascending ranks.
     fn find(&self, rank: u32, at: usize) -> Option<u32>
         ensures some { IfSome result (λ number. (s : Station) → IsPlain s → s.rank ≡ rank → place s ≡ at → slice_get self.now number ≡ Some s) }
         ensures none { IfNone result ((s : Station) → IsNotAfter self.now s.rank → s.rank ≡ rank → place s ≡ at → IsNew self.now s) }
@@ -177,7 +183,7 @@ impl Stations {
         given(self.places[at], rank)
     }
 
-    // Adds a station that is not among them, and answers its number. Stations come by rank.
+    // Adds a station that is not among them, and returns its number. It is called with ascending ranks.
     fn add(&mut self, station: Station, at: usize) -> Result<u32, NoMemory>
         requires by_rank { IsNotAfter self.old station.rank }
         requires plain { IsPlain station }
@@ -198,7 +204,7 @@ impl Stations {
         Ok(number)
     }
 
-    // The number of a station: that which it has, or the next one. Stations come by rank.
+    // The number of a station: the one that it has, or the next. It is called with ascending ranks.
     fn number(&mut self, station: Station) -> Result<u32, NoMemory>
         requires by_rank { IsNotAfter self.old station.rank }
         requires plain { IsPlain station }
@@ -236,7 +242,7 @@ fn pair_of(resources: &mut Stations, station: Station) -> Result<Pair, NoMemory>
 }
 
 impl Numbering {
-    // Of no station.
+    // Without stations.
     fn new(alloc: Global) -> Numbering
         ensures stations { result.stations ≡ [] }
         ensures resources { result.resources ≡ [] }
@@ -249,7 +255,7 @@ impl Numbering {
         }
     }
 
-    // Adds a station that is not among them, and its resources, and answers its number.
+    // Adds a station that is not among them, and its resources, and returns its number.
     #[inline(never)]
     fn add(&mut self, station: Station, at: usize) -> Result<u32, NoMemory>
         requires numbered { IsNumbering self.old.stations self.old.resources self.old.pairs.items }
@@ -268,7 +274,7 @@ impl Numbering {
         Ok(number)
     }
 
-    // The number of an operation's station, whose resources have theirs then.
+    // The number of an operation's station. Its resources have numbers then.
     fn number(&mut self, id: OpId, op: &Op) -> Result<u32, NoMemory>
         requires numbered { IsNumbering self.old.stations self.old.resources self.old.pairs.items }
         requires by_rank { IsNotAfter self.old.stations id.rank }
@@ -284,12 +290,14 @@ impl Numbering {
     }
 }
 
-/// The number of each operation's station, in the order of all operations, and the resources of each station. Numbers of
-/// resources are below `resources`.
+/// The numbers of the stations of a schedule and of their resources.
 #[derive(Drop)]
 pub struct StationNumbers {
+    /// The number of each operation's station, in the order of all operations.
     pub numbers: Vec<u32>,
+    /// The numbers of the two resources of each station.
     pub pairs: Vec<Pair>,
+    /// The number of resources; their numbers are less.
     pub resources: u32,
 }
 
@@ -316,7 +324,8 @@ fn number_all(
     Ok(())
 }
 
-/// Numbers the stations of a schedule and their resources, in the order in which operations have them.
+/// Numbers the stations of a schedule and their resources, in the order of their first operations. `Err` means out of
+/// memory.
 pub fn number_stations(alloc: Global, sched: &Sched) -> Result<StationNumbers, NoMemory>
     ensures each { IfOk result (λ s. length s.numbers.items ≡ length (operations sched.now)) }
     ensures few { IfOk result (λ s. length s.numbers.items ≤ MAX_OPS) }

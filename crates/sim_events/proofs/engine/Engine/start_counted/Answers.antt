@@ -4,7 +4,7 @@ use Rattle.sim_state.specs.declared.fault.EngineFault.TheVariants.{NoMemory}
 use Rattle.sim_state.specs.Engine.{IsEngineFault}
 use Rattle.sim_events.proofs.engine.Engine.start_counted.Goals as goal
 
--- want of memory, where the budget fits
+-- memory ran out, and the budget fits
 no_memory : {T : Type 0} (total : ℕ) → total < 2 ^ 63 → (r : Result T EngineFault) → IsErrAnd r (λ fault. fault ≡ NoMemory) → IfErr r (IsEngineFault total)
 no_memory total fits (Ok x) e = absurd e
 no_memory total fits (Err fault) e = subst (IsEngineFault total) (sym e) fits
