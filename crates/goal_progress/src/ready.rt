@@ -1,5 +1,5 @@
 // Whether an operation is ready, looked at from its cursor on.
-ghost use Rattle.std.specs.Prelude.{◌≡◌, ◌≤◌, ◌<◌, ◌+◌};
+ghost use Rattle.std.specs.Prelude.{◌≡◌, ◌<◌, ◌+◌, if◌then◌else◌};
 ghost use Rattle.goal_graph.specs.Allowed.{is_ready};
 ghost use Rattle.goal_graph.specs.Fault.{IsOp};
 ghost use Rattle.goal_progress.specs.Cursors.{IsCursorOf};
@@ -12,8 +12,10 @@ use std::marker::Brand;
 use std::sync::ledger::{Blank, Ledger};
 
 /// Whether all that an operation needs is there. Its cursor goes on to the first need that is not met, or past all: the
-/// next call looks from there on. A counter tells how many needs are looked at: as many as the cursor goes on by, and one
-/// more.
+/// next call looks from there on.
+///
+/// `looked`: the counter counts exactly as many looks as the cursor goes on by, and one more at a need that is not met.
+/// A look that ticks no counter is not bounded.
 pub fn is_ready<P: Progress, L: Ledger>(
     progress: &P,
     id: OpId,
@@ -24,7 +26,7 @@ pub fn is_ready<P: Progress, L: Ledger>(
     requires cursor { IsCursorOf (P.plans progress.now) (P.eager progress.now) (P.actions progress.now) id cursor.old }
     ensures ready { result ≡ is_ready (P.plans progress.now) (P.eager progress.now) (P.actions progress.now) id }
     ensures cursor { IsCursorOf (P.plans progress.now) (P.eager progress.now) (P.actions progress.now) id cursor.new }
-    ensures looked { looks.new + cursor.old.at ≤ looks.old + cursor.new.at + 1 }
+    ensures looked { looks.new + cursor.old.at ≡ looks.old + cursor.new.at + (if result then 0 else 1) }
 {
     // a schedule has so few dependencies that a place among them fits 32 bits
     let _plans = progress.sched().plans();

@@ -4,7 +4,7 @@ ghost use Rattle.goal_graph.specs.Schedule.{operations};
 ghost use Rattle.sim_params.specs.Budget.{budget};
 ghost use Rattle.sim_params.specs.Run.{IsFinished};
 ghost use Rattle.sim_params.specs.Stuck.{is_stuck};
-ghost use Rattle.sim_events.specs.Cost.{cost_of_start, cost_of_run, most_reads};
+ghost use Rattle.sim_events.specs.Cost.{cost_of_start, cost_of_run, reads_of_run};
 ghost use Rattle.sim_events.specs.Engine.{IsEngineFault};
 ghost use Rattle.goal_views.specs.Views.{Shows, IsShownRun};
 ghost use Rattle.goal_views.specs.Runs.{IsRunOf};
@@ -25,8 +25,8 @@ use std::alloc::Global;
 use std::marker::Brand;
 use std::sync::ledger::{Blank, Ledger};
 
-// The run of a schedule with these costs, to its end. Counters tell how often its queue compares keys, at how many entries its
-// matcher looks, and at how many needs of operations it looks.
+// The run of a schedule with these costs, to its end. Counters count the comparisons of its queue, the looks of its matcher
+// at entries, and its looks at needs of operations.
 fn run_counted<'a, C: Costs + Drop, L: Ledger, M: Ledger, N: Ledger>(
     alloc: Global,
     sched: &'a Sched,
@@ -42,9 +42,9 @@ fn run_counted<'a, C: Costs + Drop, L: Ledger, M: Ledger, N: Ledger>(
     ensures counted { IfOk result (λ engine. (k : ℕ) → length (operations sched.now) ≤ 2 ^ k
         → steps.new ≤ steps.old + (cost_of_start k sched.now + cost_of_run k sched.now engine.history)) }
     ensures looked { IfOk result (λ engine. looks.new ≤ looks.old + 8 * length engine.history) }
-    ensures needed { IfOk result (λ engine. reads.new ≤ reads.old + most_reads sched.now engine.history) }
+    ensures needed { IfOk result (λ engine. reads.new ≡ reads.old + reads_of_run sched.now engine.history) }
 {
-    match Engine::start_counted(alloc, sched, costs, steps, reads) {
+    match Engine::start_counted(alloc, sched, costs, steps) {
         Ok(engine) => {
             let mut engine = engine;
             engine.run_counted(steps, looks, reads);

@@ -16,7 +16,7 @@ use Rattle.sim_events.proofs.Held.{later}
 use Rattle.sim_events.proofs.Queue.{listed_kind, finished, empty_from}
 use Rattle.sim_events.specs.Changes.{HaveChanged}
 use Rattle.std.proofs.lemmas.List.Sums.{sum_by-cons}
-use Rattle.sim_events.specs.Cost.{given_by, most_reads}
+use Rattle.sim_events.specs.Cost.{given_by, reads_of_run}
 use Rattle.sim_events.proofs.Changes.{changed_settled}
 use Rattle.sim_events.proofs.Settled.{after_settled}
 
@@ -48,10 +48,10 @@ module _ {C : Type 0} (model : C → CostModel) where
   changed_after old new a queued settled slot e q here by all changed =
       subst (λ (v : View C). HaveChanged v.plans v.history settled all) (sym e) (changed_settled old.plans (model old.costs) old.history a queued q.of_it slot here _ _ settled by all changed)
 
-  -- with one more action the needs are looked at whose moment it may give
-  pub looked_more : (old new : View C) (a : Timed) → new ≡ record { plans = old.plans; costs = old.costs; history = a ∷ old.history } → most_reads new.plans new.history ≡ given_by old.plans a + most_reads old.plans old.history
+  -- with one more action a look is counted at the needs whose moment it may give
+  pub looked_more : (old new : View C) (a : Timed) → new ≡ record { plans = old.plans; costs = old.costs; history = a ∷ old.history } → reads_of_run new.plans new.history ≡ given_by old.plans a + reads_of_run old.plans old.history
   looked_more old new a e =
-      subst (λ (v : View C). most_reads v.plans v.history ≡ given_by old.plans a + most_reads old.plans old.history) (sym e) (sum_by-cons (given_by old.plans) a old.history)
+      subst (λ (v : View C). reads_of_run v.plans v.history ≡ given_by old.plans a + reads_of_run old.plans old.history) (sym e) (sum_by-cons (given_by old.plans) a old.history)
 
   -- an action changes no plans
   pub plans_after : (old new : View C) (a : Timed) → new ≡ record { plans = old.plans; costs = old.costs; history = a ∷ old.history } → old.plans ≡ new.plans

@@ -1,5 +1,5 @@
--- What a run costs at most: how often its queue compares keys, and how often needs are looked at, over the schedule and what has
--- happened.
+-- What a run costs: how often its queue compares keys at most, and how many looks at needs it counts, over the schedule and
+-- what has happened.
 use Rattle.std.specs.Prelude.{ℕ, ◌+◌, ◌*◌, ◌&&◌, ◌||◌, ◌==◌, ◌++◌, min, Bool, false, List, [], ◌∷◌, length, count_by, Option, Some, None, if◌then◌else◌}
 use Rattle.std.specs.List.{fold, list_any, sum_by}
 use Rattle.goal_graph.specs.declared.action.OpId.{OpId}
@@ -81,6 +81,6 @@ cost_of_start k plans = length (operations plans) * (10 * k + 16)
 abbrev pub cost_of_run : ℕ → List Plan → List Timed → ℕ
 cost_of_run k plans h = cost_of_actions k (length h) (most_moves plans h) + 3
 
--- how often needs are looked at as so much happens, at most: at each action those whose moment it may give
-abbrev pub most_reads : List Plan → List Timed → ℕ
-most_reads plans h = sum_by (given_by plans) h
+-- how many looks at needs are counted as so much happens: for each action one at each need whose moment it may give
+abbrev pub reads_of_run : List Plan → List Timed → ℕ
+reads_of_run plans h = sum_by (given_by plans) h

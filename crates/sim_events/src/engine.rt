@@ -12,7 +12,7 @@ ghost use Rattle.sim_params.specs.Times.{mate};
 ghost use Rattle.sim_params.specs.Run.{IsNext, IsRun, IsFinished, IsCompleteRun};
 ghost use Rattle.sim_params.specs.Laws.{IsWithin};
 ghost use Rattle.sim_state.specs.Engine.{IsEngineFault, start_known, end_known};
-ghost use Rattle.sim_events.specs.Cost.{cost_of_start, cost_of_run, most_reads};
+ghost use Rattle.sim_events.specs.Cost.{cost_of_start, cost_of_run, reads_of_run};
 
 use crate::follow::{Queue, is_empty};
 use crate::pending::{at_the_start, run_on, step_once};
@@ -64,51 +64,22 @@ impl<'a, C: Costs + Drop> Engine<'a, C> {
         ensures fits { OnOk result (budget sched.now (C.model costs) < 2 ^ 63) }
         ensures fault { IfErr result (IsEngineFault (budget sched.now (C.model costs))) }
     {
-        Engine::<C, Kept>::start(alloc, sched, costs)
-    }
-
-    /// The same, with a counter of the comparisons of keys and one of the needs of operations that are looked at.
-    ///
-    /// - `counted`: among 2^k operations it compares 10k + 16 times at most for each.
-    /// - `needed`: it looks at none.
-    pub fn new_counted<L: Ledger, N: Ledger>(
-        alloc: Global,
-        sched: &'a Sched,
-        costs: C,
-        steps: &mut Steps<L>,
-        reads: &mut Steps<N>,
-    ) -> Result<Engine<'a, C>, EngineFault>
-        ensures plans { IfOk result (λ e. e.plans ≡ sched.now) }
-        ensures costs { IfOk result (λ e. e.costs ≡ costs) }
-        ensures empty { IfOk result (λ e. e.history ≡ []) }
-        ensures fits { OnOk result (budget sched.now (C.model costs) < 2 ^ 63) }
-        ensures fault { IfErr result (IsEngineFault (budget sched.now (C.model costs))) }
-        ensures counted { (k : ℕ) → length (operations sched.now) ≤ 2 ^ k → steps.new ≤ steps.old + cost_of_start k sched.now }
-        ensures needed { reads.new ≡ reads.old }
-    {
-        Engine::<C, Kept>::start_counted(alloc, sched, costs, steps, reads)
+        new_by::<C, Brand>(alloc, Blank::new(1), sched, costs)
     }
 }
 
 impl<'a, C: Costs + Drop, H: History> Engine<'a, C, H> {
-    /// An engine before its first step, which keeps its actions or not, as its type says. Else as `new`.
-    pub fn start(alloc: Global, sched: &'a Sched, costs: C) -> Result<Engine<'a, C, H>, EngineFault>
-        ensures plans { IfOk result (λ e. e.plans ≡ sched.now) }
-        ensures costs { IfOk result (λ e. e.costs ≡ costs) }
-        ensures empty { IfOk result (λ e. e.history ≡ []) }
-        ensures fits { OnOk result (budget sched.now (C.model costs) < 2 ^ 63) }
-        ensures fault { IfErr result (IsEngineFault (budget sched.now (C.model costs))) }
-    {
-        start_by::<C, H, Brand, Brand>(alloc, Blank::new(1), Blank::new(1), sched, costs)
-    }
-
-    /// The same, with the counters of `new_counted`.
-    pub fn start_counted<L: Ledger, N: Ledger>(
+    /// An engine before its first step, which keeps its actions or not, as its type says. A counter counts the comparisons
+    /// of keys. Else as `new`.
+    ///
+    /// - `counted`: among 2^k operations it compares 10k + 16 times at most for each.
+    ///
+    /// It asks the schedule how many needs each operation has, and whether another needs it. No counter counts that.
+    pub fn start_counted<L: Ledger>(
         alloc: Global,
         sched: &'a Sched,
         costs: C,
         steps: &mut Steps<L>,
-        reads: &mut Steps<N>,
     ) -> Result<Engine<'a, C, H>, EngineFault>
         ensures plans { IfOk result (λ e. e.plans ≡ sched.now) }
         ensures costs { IfOk result (λ e. e.costs ≡ costs) }
@@ -116,7 +87,6 @@ impl<'a, C: Costs + Drop, H: History> Engine<'a, C, H> {
         ensures fits { OnOk result (budget sched.now (C.model costs) < 2 ^ 63) }
         ensures fault { IfErr result (IsEngineFault (budget sched.now (C.model costs))) }
         ensures counted { (k : ℕ) → length (operations sched.now) ≤ 2 ^ k → steps.new ≤ steps.old + cost_of_start k sched.now }
-        ensures needed { reads.new ≡ reads.old }
     {
         let state = State::new(alloc, sched, costs)?;
         let pending = at_the_start(alloc, &state, steps)?;
@@ -128,19 +98,15 @@ impl<'a, C: Costs + Drop, H: History> Engine<'a, C, H> {
 }
 
 // An engine before its first step, with a counter of its own.
-fn start_by<'a, C: Costs + Drop, H: History, L: Ledger, N: Ledger>(
+fn new_by<'a, C: Costs + Drop, L: Ledger>(
     alloc: Global,
     blank: Blank,
-    for_reads: Blank,
     sched: &'a Sched,
     costs: C,
-) -> Result<Engine<'a, C, H>, EngineFault>
+) -> Result<Engine<'a, C>, EngineFault>
     requires name { blank.name ≡ L.name }
     requires parts { blank.parts ≡ L.parts }
     requires some { 0 < blank.parts }
-    requires reads_name { for_reads.name ≡ N.name }
-    requires reads_parts { for_reads.parts ≡ N.parts }
-    requires reads_some { 0 < for_reads.parts }
     ensures plans { IfOk result (λ e. e.plans ≡ sched.now) }
     ensures costs { IfOk result (λ e. e.costs ≡ costs) }
     ensures empty { IfOk result (λ e. e.history ≡ []) }
@@ -148,8 +114,7 @@ fn start_by<'a, C: Costs + Drop, H: History, L: Ledger, N: Ledger>(
     ensures fault { IfErr result (IsEngineFault (budget sched.now (C.model costs))) }
 {
     let mut steps = Steps::<L>::new(blank);
-    let mut reads = Steps::<N>::new(for_reads);
-    Engine::start_counted(alloc, sched, costs, &mut steps, &mut reads)
+    Engine::start_counted(alloc, sched, costs, &mut steps)
 }
 
 impl<'a, C: Costs> Engine<'a, C> {
@@ -204,13 +169,16 @@ impl<'a, C: Costs, H: History> Engine<'a, C, H> {
         self.run_by::<Brand, Brand, Brand>(Blank::new(1), Blank::new(1), Blank::new(1));
     }
 
-    /// The same, with a counter of the comparisons of keys, one of the entries at which the matcher looks, and one of the needs of
-    /// operations that are looked at. What `run` says besides follows from `complete`.
+    /// The same, with a counter of the comparisons of keys, one of the looks of the matcher at entries, and one of the looks
+    /// at needs of operations. What `run` says besides follows from `complete`.
     ///
     /// - `counted`: among 2^k operations it compares 18k + 29 times at most for each action that has happened then, and 8k + 15
     ///   times for each change of place of a station, of which there are at most `most_moves`.
-    /// - `looked`: the matcher looks at eight entries at most for each action.
-    /// - `needed`: an action looks once at each need whose moment it may give, and at no other.
+    /// - `looked`: the matcher counts eight looks at most for each action.
+    /// - `needed`: each action counts one look at each need whose moment it may give, and no other. The number is exact.
+    ///
+    /// The bounds are on counted looks: no clause bounds a look that ticks no counter. An action goes over the needs of
+    /// others twice, to give its moments and to follow it, and counts the first.
     pub fn run_counted<L: Ledger, M: Ledger, N: Ledger>(
         &mut self,
         steps: &mut Steps<L>,
@@ -223,7 +191,7 @@ impl<'a, C: Costs, H: History> Engine<'a, C, H> {
         ensures only { (h : List Timed) → IsCompleteRun self.new.plans (C.model self.new.costs) h → h ≡ self.new.history }
         ensures counted { (k : ℕ) → length (operations self.old.plans) ≤ 2 ^ k → steps.new ≤ steps.old + cost_of_run k self.new.plans self.new.history }
         ensures looked { looks.new ≤ looks.old + 8 * length self.new.history }
-        ensures needed { reads.new ≤ reads.old + most_reads self.new.plans self.new.history }
+        ensures needed { reads.new + reads_of_run self.old.plans self.old.history ≡ reads.old + reads_of_run self.new.plans self.new.history }
     {
         self.known();
         if let Some(pending) = &mut self.pending {

@@ -7,7 +7,7 @@ ghost use Rattle.sim_heaps.specs.Map.{IsEmptyMap};
 ghost use Rattle.sim_stations.specs.Stations.{cost_of_waiting};
 ghost use Rattle.sim_events.specs.Queue.{IsOfSchedule};
 ghost use Rattle.sim_events.specs.Comparisons.{spent, count_of, last_look};
-ghost use Rattle.sim_events.specs.Cost.{cost_of_actions, cost_of_start, cost_of_run, most_moves, most_reads};
+ghost use Rattle.sim_events.specs.Cost.{cost_of_actions, cost_of_start, cost_of_run, most_moves, reads_of_run};
 ghost use Rattle.sim_events.specs.Changes.{HaveChanged, HaveChangedOn};
 ghost use Rattle.sim_events.specs.Pending.{IsPendingOf, IsStepped};
 
@@ -69,7 +69,7 @@ fn step<C: Costs, H: History, L: Ledger, R: Ledger, M: Ledger, N: Ledger>(
     ensures counted { (k : ℕ) → length (operations state.old.plans) ≤ 2 ^ k
         → steps.new + cost_of_waiting k queue.new.stands + spent k queue.old + cost_of_actions k 0 moves.old ≤ steps.old + cost_of_waiting k queue.old.stands + spent k queue.new + cost_of_actions k (count_of result) moves.new + last_look result }
     ensures moved { (all : ℕ) → HaveChanged state.old.plans state.old.history queue.old all → HaveChangedOn state.new.plans state.new.history queue.new all moves.old moves.new }
-    ensures needed { reads.new + most_reads state.old.plans state.old.history ≤ reads.old + most_reads state.new.plans state.new.history }
+    ensures needed { reads.new + reads_of_run state.old.plans state.old.history ≡ reads.old + reads_of_run state.new.plans state.new.history }
     ensures looked { looks.new ≤ looks.old + 8 * count_of result }
 {
     state.known();
@@ -82,8 +82,8 @@ fn step<C: Costs, H: History, L: Ledger, R: Ledger, M: Ledger, N: Ledger>(
 }
 
 // Lets all that is possible happen. Among 2^k operations each action costs 18k + 29 comparisons at most, and each change of
-// place of a station 8k + 15, what the keys have cost that are there before it included. The matcher looks at eight
-// entries an action at most.
+// place of a station 8k + 15, what the keys have cost that are there before it included. The matcher counts eight looks
+// an action at most, and each need whose moment an action may give is counted once.
 fn run<C: Costs, H: History, L: Ledger, R: Ledger, M: Ledger, N: Ledger>(
     state: &mut State<C, H>,
     queue: &mut Queue,
@@ -99,7 +99,7 @@ fn run<C: Costs, H: History, L: Ledger, R: Ledger, M: Ledger, N: Ledger>(
     ensures counted { (k : ℕ) → length (operations state.old.plans) ≤ 2 ^ k
         → steps.new + spent k queue.old + cost_of_actions k (length state.old.history) moves.old ≤ steps.old + cost_of_waiting k queue.old.stands + cost_of_actions k (length state.new.history) moves.new + 3 }
     ensures moved { moves.new ≤ moves.old + most_moves state.new.plans state.new.history }
-    ensures needed { reads.new ≤ reads.old + most_reads state.new.plans state.new.history }
+    ensures needed { reads.new + reads_of_run state.old.plans state.old.history ≡ reads.old + reads_of_run state.new.plans state.new.history }
     ensures looked { looks.new + 8 * length state.old.history ≤ looks.old + 8 * length state.new.history }
 {
     'steps: while step(state, queue, steps, moves, looks, reads).is_some() {}
@@ -139,7 +139,7 @@ pub fn step_once<C: Costs, H: History, L: Ledger, R: Ledger, M: Ledger, N: Ledge
 }
 
 /// Lets all that is possible happen, until nothing is. What it compares, and what the matcher looks at, is bounded by what has
-/// happened then.
+/// happened then, and the looks at needs are counted exactly.
 pub fn run_on<C: Costs, H: History, L: Ledger, R: Ledger, M: Ledger, N: Ledger>(
     state: &mut State<C, H>,
     queue: &mut Queue,
@@ -156,7 +156,7 @@ pub fn run_on<C: Costs, H: History, L: Ledger, R: Ledger, M: Ledger, N: Ledger>(
     ensures costs { state.new.costs ≡ state.old.costs }
     ensures complete { IsCompleteRun state.new.plans (C.model state.new.costs) state.new.history }
     ensures counted { (k : ℕ) → length (operations state.old.plans) ≤ 2 ^ k → steps.new ≤ steps.old + cost_of_run k state.new.plans state.new.history }
-    ensures needed { reads.new ≤ reads.old + most_reads state.new.plans state.new.history }
+    ensures needed { reads.new + reads_of_run state.old.plans state.old.history ≡ reads.old + reads_of_run state.new.plans state.new.history }
     ensures looked { looks.new ≤ looks.old + 8 * length state.new.history }
 {
     queue.known();

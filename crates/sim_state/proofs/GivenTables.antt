@@ -1,5 +1,5 @@
 -- The tables of all operations, as one entry more of those that wait for an action's operation is given its moment.
-use Rattle.std.proofs.Common.{◌≡◌, ◌≢◌, ◌+◌, ◌≤◌, ◌<◌, ℕ, Bool, true, false, List, [], ◌∷◌, map, count_by, length, get_or, take, drop, inl, inr, sym, ap, ◌∙◌, arith}
+use Rattle.std.proofs.Common.{◌≡◌, ◌≢◌, ◌+◌, ◌<◌, ℕ, Bool, true, false, List, [], ◌∷◌, map, count_by, length, get_or, take, drop, inl, inr, sym, ap, ◌∙◌, arith}
 use Rattle.std.proofs.lemmas.List.{drop_more, take_more}
 use Rattle.std.proofs.lemmas.List.Sums.{count_by_more_no, count_by_more_yes}
 use Rattle.goal_graph.specs.declared.action.OpId.{OpId}
@@ -33,10 +33,10 @@ module _ (plans : List Plan) (costs : CostModel) (h : List Timed) (a : Timed) wh
     next = get_or ws k nothing
 
     -- how many moments may be given
-    pub passed_counted : (m n : ℕ) → gives a.class next.when ≡ false → m ≤ n + count_by (may_give a.class) (take k ws) → m ≤ n + count_by (may_give a.class) (take (k + 1) ws)
+    pub passed_counted : (m n : ℕ) → gives a.class next.when ≡ false → m ≡ n + count_by (may_give a.class) (take k ws) → m ≡ n + count_by (may_give a.class) (take (k + 1) ws)
     passed_counted m n e l = omega (arith, l, count_by_more_no (may_give a.class) ws k nothing within e)
 
-    pub given_counted : (m n l : ℕ) → gives a.class next.when ≡ true → m ≤ n + count_by (may_give a.class) (take k ws) → l ≡ m + 1 → l ≤ n + count_by (may_give a.class) (take (k + 1) ws)
+    pub given_counted : (m n l : ℕ) → gives a.class next.when ≡ true → m ≡ n + count_by (may_give a.class) (take k ws) → l ≡ m + 1 → l ≡ n + count_by (may_give a.class) (take (k + 1) ws)
     given_counted m n l e f g = omega (arith, f, g, count_by_more_yes (may_give a.class) ws k nothing within e)
 
     -- an entry that is given none
@@ -64,9 +64,9 @@ module _ (plans : List Plan) (costs : CostModel) (h : List Timed) (a : Timed) wh
 
   -- how many may be given in all
   module _ (ws : List Need) (whom : a.class ≢ Arrive → ws ≡ waiting_on plans a.op) where
-    pub given_in_all : count_by (may_give a.class) ws ≤ given_by plans a
+    pub given_in_all : count_by (may_give a.class) ws ≡ given_by plans a
     given_in_all =
-        elim (cases_arrive a.class) [ inl e ↦ omega (arith, count_zero (may_give a.class) ws (λ d. gives_none a.class d.when e)) | inr d ↦ omega (arith, ap (count_by (may_give a.class)) (whom d)) ]
+        elim (cases_arrive a.class) [ inl e ↦ omega (arith, count_zero (may_give a.class) ws (λ d. gives_none a.class d.when e), count_zero (may_give a.class) (waiting_on plans a.op) (λ d. gives_none a.class d.when e)) | inr d ↦ omega (arith, ap (count_by (may_give a.class)) (whom d)) ]
 
     module _ (run : IsRun plans costs h) (p : Possible plans costs h a) where
       -- before the first

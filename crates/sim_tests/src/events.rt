@@ -1,12 +1,17 @@
 //! A run with times computed by hand, and the engine compared with a plain evaluator of the rules.
+ghost use Rattle.std.specs.Prelude.{◌≡◌, ◌<◌};
+
 use crate::plans::plan;
 use crate::same::{same, same_list};
 use goal_graph::{Class, Kind, OpId, Sched, Timed};
 use sim_events::{Engine, EngineFault, History, Record, Unkept};
+use sim_order::Steps;
 use sim_params::{LogGops, Params};
 use sim_timeline::timeline;
 use std::alloc::Global;
+use std::marker::Brand;
 use std::process::Abort;
+use std::sync::ledger::{Blank, Ledger};
 use std::test::Fail;
 
 mod evaluator;
@@ -103,11 +108,26 @@ fn a_large_message(rt: HostRuntime) -> Result<(), Fail> {
     Ok(())
 }
 
+// An engine that keeps no action, before its first step.
+fn unkept<'a, L: Ledger>(
+    alloc: Global,
+    sched: &'a Sched,
+    costs: LogGops,
+    blank: Blank,
+) -> Result<Engine<'a, LogGops, Unkept>, EngineFault>
+    requires name { blank.name ≡ L.name }
+    requires parts { blank.parts ≡ L.parts }
+    requires some { 0 < blank.parts }
+{
+    let mut steps = Steps::<L>::new(blank);
+    Engine::start_counted(alloc, sched, costs, &mut steps)
+}
+
 // The same with an engine that keeps no actions.
 #[test]
 fn a_large_message_unkept(rt: HostRuntime) -> Result<(), Fail> {
     let sched = large_message(rt.alloc())?;
-    let mut engine = Engine::<LogGops, Unkept>::start(rt.alloc(), &sched, costs()?)?;
+    let mut engine = unkept::<Brand>(rt.alloc(), &sched, costs()?, Blank::new(1))?;
     engine.run();
     let received = (Some(0), Some(405_210), id(0, 0));
     same(&rt, &told(&rt, &engine, 1, 0), &received);

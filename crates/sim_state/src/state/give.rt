@@ -1,5 +1,5 @@
 // The moments that an action gives those that wait for its operation.
-ghost use Rattle.std.specs.Prelude.{◌≡◌, ◌≢◌, ◌≤◌, ◌+◌, ◌<◌, ◌^◌, ◌∷◌, All, map};
+ghost use Rattle.std.specs.Prelude.{◌≡◌, ◌≢◌, ◌+◌, ◌<◌, ◌^◌, ◌∷◌, All, map};
 ghost use Rattle.goal_graph.specs.declared.action.Class.TheVariants.{Arrive};
 ghost use Rattle.goal_graph.specs.declared.plan.When.{When};
 ghost use Rattle.goal_graph.specs.Schedule.{operations, needed};
@@ -30,8 +30,9 @@ fn moment_of(times: &Times, when: When) -> Option<u64>
     }
 }
 
-/// Gives those that wait for an action's operation the moments that the action gives: its operation has the start and the end of these
-/// times since. A counter tells how many moments it may give. The costs and the history are read by clauses alone.
+/// Gives those that wait for an action's operation the moments that the action gives: its operation has the start and the
+/// end of these times since. `given`: the counter counts exactly the needs whose moment the action may give. The costs and
+/// the history are read by clauses alone.
 #[inline(always)]
 pub fn give<C: Costs, H: History, N: Ledger>(
     sched: &Sched,
@@ -51,7 +52,7 @@ pub fn give<C: Costs, H: History, N: Ledger>(
     requires exist { action.class ≢ Arrive → All (λ need. IsOp sched.now (needed action.op need)) waiting.now }
     requires entries { entries.old ≡ map (entry_then sched.now (C.model costs.now) (H.actions history.now) action) (operations sched.now) }
     ensures entries { entries.new ≡ map (entry_known sched.now (C.model costs.now) (action ∷ H.actions history.now)) (operations sched.now) }
-    ensures given { reads.new ≤ reads.old + given_by sched.now action }
+    ensures given { reads.new ≡ reads.old + given_by sched.now action }
 {
     for need in waiting {
         if !gives(action.class, need.when) {

@@ -29,8 +29,11 @@ use std::sync::ledger::Ledger;
 
 impl<'a, C: Costs, H: History> State<'a, C, H> {
     /// Lets the next action happen, and gives its moments to those that wait for its operation, which an Arrive need not be told: it
-    /// gives none. For the action the matcher looks at eight entries of match lists at most, those that are passed counted when they
-    /// came (`Matcher::post_counted`); `reads` tells how many moments it may give.
+    /// gives none.
+    ///
+    /// - `looked`: for the action the matcher counts at most eight looks at entries of match lists. Those that it passes
+    ///   were counted when they came (`Matcher::post_counted`).
+    /// - `given`: `reads` counts exactly the needs whose moment the action may give.
     pub fn perform<M: Ledger, N: Ledger>(
         &mut self,
         action: Timed,
@@ -43,7 +46,7 @@ impl<'a, C: Costs, H: History> State<'a, C, H> {
         requires exist { action.class ≢ Arrive → All (λ need. IsOp self.old.plans (needed action.op need)) waiting.now }
         ensures performed { self.new ≡ record self.old { history = action ∷ self.old.history } }
         ensures looked { looks.new ≤ looks.old + 8 }
-        ensures given { reads.new ≤ reads.old + given_by self.old.plans action }
+        ensures given { reads.new ≡ reads.old + given_by self.old.plans action }
     {
         let sched = self.sched;
         let change = change_of(

@@ -2,7 +2,7 @@ use Rattle.std.proofs.Common.{◌≡◌, ◌+◌, ◌*◌, ◌-◌, ◌≤◌, �
 use Rattle.goal_graph.specs.Schedule.{operations}
 use Rattle.sim_stations.specs.Stations.{cost_of_waiting}
 use Rattle.sim_events.specs.Comparisons.{spent}
-use Rattle.sim_events.specs.Cost.{cost_of_actions, most_reads}
+use Rattle.sim_events.specs.Cost.{cost_of_actions, reads_of_run}
 use Rattle.sim_events.specs.Changes.{HaveChanged, HaveChangedOn}
 use Rattle.sim_events.specs.Pending.{IsPendingOf}
 use Rattle.sim_events.proofs.pending.run.Given as goal
@@ -18,7 +18,7 @@ invariant-steps g l =
     ≤ l.fn.steps + cost_of_waiting k l.fn.queue.stands + spent k l.queue + cost_of_actions k (length l.state.history) l.moves)
     × ((all : ℕ) → HaveChanged l.fn.state.plans l.fn.state.history l.fn.queue all → HaveChangedOn l.state.plans l.state.history l.queue all l.fn.moves l.moves)
     × (l.looks + 8 * length l.fn.state.history ≤ l.fn.looks + 8 * length l.state.history)
-    × (l.reads + most_reads l.fn.state.plans l.fn.state.history ≤ l.fn.reads + most_reads l.state.plans l.state.history)
+    × (l.reads + reads_of_run l.fn.state.plans l.fn.state.history ≡ l.fn.reads + reads_of_run l.state.plans l.state.history)
 
 abbrev pub decreases-steps : goal.decreases-steps
 decreases-steps g l = 3 * length (operations l.state.plans) - length l.state.history

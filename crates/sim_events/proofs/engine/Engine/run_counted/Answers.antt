@@ -1,4 +1,4 @@
-use Rattle.std.proofs.Common.{sym, ap, ◌∙◌, subst, arith}
+use Rattle.std.proofs.Common.{refl, sym, ap, ◌∙◌, subst, arith}
 use Rattle.sim_params.specs.Run.{IsRun, IsCompleteRun}
 use Rattle.sim_params.proofs.ForCallers.{one_complete}
 use Rattle.sim_events.specs.declared.engine.Engine.TheInside.{Inside}
@@ -61,6 +61,6 @@ returns-clause-looked g c =
 pub returns-clause-needed : goal.returns-clause-needed
 returns-clause-needed g c =
     elim c.match-self.branch [
-      | in-Some w ↦ rw (w.reads-is, w.self-inside-is) w.run_on.ensures.needed
-      | in_default w ↦ omega (arith, w.reads-is)
+      | in-Some w ↦ rw (w.reads-is, w.self-inside-is, ← c.self.view_is) w.run_on.ensures.needed
+      | in_default w ↦ rw (w.reads-is, w.self-inside-is, ← c.self.view_is) refl
     ]
