@@ -1,7 +1,7 @@
 // The real outside: files and streams of the system. They tell nothing of what they hold.
-ghost use Rattle.std.specs.Prelude.{◌≡◌, ◌≤◌, ◌<◌, true, is_some, length, IfOk, OnOk, IsErrOf};
+ghost use Rattle.std.specs.Prelude.{◌≡◌, ◌≢◌, ◌≤◌, ◌<◌, ℕ, true, is_some, length, take, IfOk, IfErr, OnOk, OnErr, IsErrOf};
 ghost use Rattle.std.specs.IoError.{error_kind};
-ghost use Rattle.std.specs.Io.KnownBytes.{ReadConsumes, WriteAppends};
+ghost use Rattle.std.specs.Io.KnownBytes.{ReadConsumes, WriteAppends, Appends, Keeps};
 ghost use Rattle.goal_base.specs.Device.{Rose};
 ghost use Rattle.goal_system.specs.Faults.{fault_of, fault_of_open};
 
@@ -63,10 +63,12 @@ fn fault_of_open(error: &io::Error) -> OpenFault
     }
 }
 
-// Reads into a buffer, again where a signal interrupts it. The interrupted tries take nothing from the input.
+// Reads into a buffer, again where a signal interrupts it. It takes from the input what it gives and no other byte, and
+// nothing where it fails: the interrupted tries take none.
 fn read_again<T: Read>(input: &mut T, buf: &mut [u8]) -> io::Result<usize>
     ensures bound { IfOk result (λ n. n ≤ length buf.new) }
     ensures bytes { ReadConsumes (T.remaining input.old) (T.remaining input.new) result buf.new }
+    ensures retried { IfErr result (λ error. error_kind error ≢ ErrorKind.Interrupted) }
 {
     'tries: for _ in 0..u64::MAX {
         match input.read(buf) {
@@ -77,15 +79,16 @@ fn read_again<T: Read>(input: &mut T, buf: &mut [u8]) -> io::Result<usize>
             },
         }
     }
-    Err(io::Error::from(ErrorKind::Interrupted))
+    Err(io::Error::from(ErrorKind::TimedOut))
 }
 
-// Writes the front of a piece, again where a signal interrupts it. The interrupted tries write nothing. To write nothing
-// of a piece that is not empty is an error.
+// Writes the front of a piece, again where a signal interrupts it. It writes what it says and no other byte, and nothing
+// where it fails: the interrupted tries write none. To write nothing of a piece that is not empty is an error.
 fn write_again<T: Write>(output: &mut T, piece: &[u8]) -> io::Result<usize>
     ensures bound { IfOk result (λ n. n ≤ length piece.now) }
     ensures moves { IfOk result (λ n. 0 < length piece.now → 0 < n) }
     ensures bytes { WriteAppends (T.contents output.old) (T.contents output.new) result piece.now }
+    ensures retried { IfErr result (λ error. error_kind error ≢ ErrorKind.Interrupted) }
 {
     'tries: for _ in 0..u64::MAX {
         match output.write(piece) {
@@ -97,11 +100,13 @@ fn write_again<T: Write>(output: &mut T, piece: &[u8]) -> io::Result<usize>
             },
         }
     }
-    Err(io::Error::from(ErrorKind::Interrupted))
+    Err(io::Error::from(ErrorKind::TimedOut))
 }
 
-// Asks the system to keep what was written. A file that it keeps nowhere, as a terminal, says so and is no fault.
+// Asks the system to keep what was written. A file that it keeps nowhere, as a terminal, says so and is no fault. That it
+// asks no clause says: std says nothing of what a flush or a sync does beyond the bytes that were written.
 fn close<F: Write + OpenFile>(output: &mut F, count: &mut u64) -> Result<(), IoFault>
+    ensures kept { Keeps (F.contents output.old) (F.contents output.new) }
     ensures failed { IsErrOf result IoFault.Failed → Rose true count.old count.new }
     ensures memory { IsErrOf result IoFault.NoMemory → count.new ≡ count.old }
     ensures ok { OnOk result (count.new ≡ count.old) }
@@ -198,19 +203,33 @@ impl<W: Write> RealSink<W> {
     }
 }
 
+// Writes the front of a piece and flushes the stream. At a fault a front of the piece may be written all the same.
+fn write_through<T: Write>(stream: &mut T, piece: &[u8], count: &mut u64) -> Result<usize, IoFault>
+    ensures bound { IfOk result (λ n. n ≤ length piece.now) }
+    ensures moves { IfOk result (λ n. 0 < length piece.now → 0 < n) }
+    ensures bytes { IfOk result (λ n. Appends (T.contents stream.old) (T.contents stream.new) (take n piece.now)) }
+    ensures front { OnErr result ((n : ℕ) × Appends (T.contents stream.old) (T.contents stream.new) (take n piece.now)) }
+    ensures failed { IsErrOf result IoFault.Failed → Rose true count.old count.new }
+    ensures memory { IsErrOf result IoFault.NoMemory → count.new ≡ count.old }
+    ensures ok { OnOk result (count.new ≡ count.old) }
+    ensures later { count.old ≤ count.new }
+{
+    let written = match write_again(stream, piece) {
+        Ok(written) => written,
+        Err(error) => return Err(fault_of(count, error)),
+    };
+    match stream.flush() {
+        Ok(()) => Ok(written),
+        Err(error) => Err(fault_of(count, error)),
+    }
+}
+
 impl<W: Write> Sink for RealSink<W> {
     ghost use Rattle.goal_system.specs.Real.{untold_sink};
 
     ghost state = { λ s. untold_sink s.faults };
 
     fn write(&mut self, piece: &[u8]) -> Result<usize, IoFault> {
-        let written = match write_again(&mut self.stream, piece) {
-            Ok(count) => count,
-            Err(error) => return Err(fault_of(&mut self.faults, error)),
-        };
-        match self.stream.flush() {
-            Ok(()) => Ok(written),
-            Err(error) => Err(fault_of(&mut self.faults, error)),
-        }
+        write_through(&mut self.stream, piece, &mut self.faults)
     }
 }
