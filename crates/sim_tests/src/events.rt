@@ -99,8 +99,8 @@ fn a_large_message(rt: HostRuntime) -> Result<(), Fail> {
     let sched = large_message(rt.alloc())?;
     let mut engine = Engine::new(rt.alloc(), &sched, costs()?)?;
     engine.run();
-    use sim_timeline::timeline;
-    use std::alloc::Global;
+    traced(&rt, &engine);
+    printed(&rt, rt.alloc(), &engine)?;
     let sent = (Some(0), Some(8000), id(1, 0));
     same(&rt, &told(&rt, &engine, 0, 0), &sent);
     let received = (Some(0), Some(405_210), id(0, 0));
