@@ -25,7 +25,7 @@ pub use laws::{
     laws_of_matched_schedules, laws_of_placed_schedules, laws_of_positions, laws_of_races,
     laws_of_renamed_slots, laws_of_segments,
 };
-pub use making::{possible, schedule_by};
+pub use making::{build_accepted, possible, schedule_by};
 pub use positions::{ahead, back, digits, power};
 pub use segment::Segment;
 pub use slot_table::SlotTable;

@@ -10,8 +10,8 @@ ghost use Rattle.goal_blocks.specs.Right.{IsCertifiedByProof, IsRightFor};
 use crate::collective::Collective;
 use crate::gen_fault::GenFault;
 use crate::steps::{Formula, plans_of};
-use goal_graph::Sched;
-use goal_limits::MAX_BYTES;
+use goal_graph::{PlanFault, RankPlan, Sched};
+use goal_limits::{MAX_BYTES, NoMemory};
 use std::alloc::Global;
 
 // Returns whether the number of ranks is a power of two, if it has to be.
@@ -48,6 +48,22 @@ pub fn possible(what: Collective, ranks: u32) -> Result<(), GenFault>
     Ok(())
 }
 
+/// Returns the schedule of plans that break no rule.
+///
+/// # Errors
+///
+/// `NoMemory` where memory runs out.
+pub fn build_accepted(alloc: Global, plans: Vec<RankPlan>) -> Result<Sched, NoMemory>
+    requires { IsAccepted plans.items }
+    ensures { IfOk result (λ sched. sched ≡ plans.items) }
+{
+    match Sched::build(alloc, plans) {
+        Ok(sched) => Ok(sched),
+        Err(PlanFault::NoMemory) => Err(NoMemory),
+        Err(_) => unreachable!(),
+    }
+}
+
 /// Returns the schedule of a collective for `ranks` ranks, with messages of `bytes` bytes, by a formula that gives its
 /// operations. It makes one pass over the ranks and their operations.
 ///
@@ -72,8 +88,8 @@ pub fn schedule_by<F: Formula>(
     ensures memory { IfErr result (λ fault. fault ≡ GenFault.NoMemory) }
 {
     let plans = plans_of(alloc, formula)?;
-    match Sched::build(alloc, plans) {
+    match build_accepted(alloc, plans) {
         Ok(sched) => Ok(sched),
-        Err(_) => Err(GenFault::NoMemory),
+        Err(NoMemory) => Err(GenFault::NoMemory),
     }
 }

@@ -5,6 +5,7 @@ ghost use Rattle.goal_graph.specs.Fault.{IsAccepted};
 ghost use Rattle.goal_collectives.specs.Probe.{idle_ranks, op_in, requires_end, after_last, source_in, with_work, with_receive, with_round, probed};
 
 use crate::draws::{Draws, Round};
+use goal_blocks::build_accepted;
 use goal_graph::{Dep, Kind, Op, RankPlan, Sched, When};
 use goal_limits::{MAX_ROUNDS, NoMemory};
 use std::alloc::{AllocError, Global};
@@ -129,12 +130,8 @@ pub fn probe_plan(alloc: Global, rounds: u32, seed: u64) -> Result<Sched, NoMemo
     ensures probed { IfOk result (λ sched. sched ≡ probed rounds seed) }
     ensures accepted { IfOk result (λ sched. IsAccepted sched) }
 {
-    let plans = match probe_plans(alloc, rounds, seed) {
-        Ok(plans) => plans,
-        Err(_) => return Err(NoMemory),
-    };
-    match Sched::build(alloc, plans) {
-        Ok(sched) => Ok(sched),
+    match probe_plans(alloc, rounds, seed) {
+        Ok(plans) => build_accepted(alloc, plans),
         Err(_) => Err(NoMemory),
     }
 }
