@@ -22,7 +22,7 @@ impl Model for TextOut {
 
 impl TextOut {
     ghost use Rattle.std.specs.Prelude.{ℕ, List};
-    ghost use Rattle.goal_base.specs.Text.{pair_text, time_text};
+    ghost use Rattle.goal_base.specs.Text.{pair_text};
 
     /// Creates an empty text, without memory.
     pub fn new(alloc: Global) -> TextOut
@@ -110,17 +110,6 @@ impl TextOut {
                 self.bytes.truncate(before);
                 Err(NoMemory)
             }
-        }
-    }
-
-    /// Appends a time in nanoseconds, or a dash for `None`. On `NoMemory` the text is unchanged.
-    pub fn time(&mut self, time: Option<u64>) -> Result<(), NoMemory>
-        ensures ok { OnOk result (self.new ≡ self.old ++ time_text time) }
-        ensures err { OnErr result (self.new ≡ self.old) }
-    {
-        match time {
-            Some(nanos) => self.number(u128::from(nanos)),
-            None => self.word("-"),
         }
     }
 

@@ -1,15 +1,13 @@
 //! The canonical text of a schedule: [`print_text`] prints it whole, and [`heading`] and [`Blocks`] page by page.
 //! Reading it gives the schedule back.
 //!
-//! `specs/Canonical` defines the text, by lines. [`read_printed`] prints a schedule and reads it again.
+//! `specs/Canonical` defines the text, by lines.
 #![tactic(auto)]
 
-mod again;
 mod laws;
 mod pages;
 mod print;
 
-pub use again::read_printed;
 pub use laws::laws_of_canonical_texts;
 pub use pages::Blocks;
 pub use print::{heading, print_text};

@@ -2,7 +2,8 @@
 use super::binary::{kinds_of, message, plan_of};
 use crate::same::same_list;
 use goal_graph::{Kind, Sched};
-use goal_print::{print_text, read_printed};
+use goal_parser::read_text;
+use goal_print::print_text;
 use std::test::Fail;
 
 /// The canonical text of the message's schedule.
@@ -29,7 +30,8 @@ fn printed_and_read(rt: HostRuntime) -> Result<(), Fail> {
     };
     let plans = vec![in alloc; plan_of(alloc, calc)?, plan_of(alloc, recv)?]?;
     let sched = Sched::build(alloc, plans)?;
-    let again = read_printed(alloc, &sched)?;
+    let text = print_text(alloc, &sched)?;
+    let again = read_text(alloc, &text)?;
     let kinds = kinds_of(alloc, &again)?;
     same_list(&rt, &kinds, &[calc, recv]);
     Ok(())

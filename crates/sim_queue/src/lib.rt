@@ -6,7 +6,7 @@ mod row;
 mod vec_queue;
 
 pub use ranked_queue::RankedQueue;
-pub use row::{heap_of_twelve, row_28};
+pub use row::row_28;
 pub use sim_groups::{Groups, PlaceInGroup};
 pub use sim_heaps::{Arrivals, EventQueue, SlotHeap, TopHeap};
 pub use vec_queue::VecQueue;

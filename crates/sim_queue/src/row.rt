@@ -25,8 +25,8 @@ fn put_number<L: Ledger>(
 }
 
 /// Fills a heap of twelve slots with the keys 1, 10, 2, 11, 12, 3, 21, 13, 14, 15, 16 and 5, in order. It needs at most
-/// 120 comparisons.
-pub fn heap_of_twelve<L: Ledger>(
+/// 120 comparisons. (The number is that of its row in a table of tests.)
+pub fn row_28<L: Ledger>(
     alloc: Global,
     steps: &mut Steps<L>,
 ) -> Result<SlotHeap<Counted<u64>>, NoMemory>
