@@ -16,11 +16,6 @@ grows_more a b c piece left n k first same is more = record {
       ∙ ap (λ (l : List ℕ). a.bytes ++ (take n piece ++ take k l)) is ∙ ap (λ (l : List ℕ). a.bytes ++ l) (sym (take-add n k piece));
 }
 
--- the file of that name is what was written
-pub file_held : (a b : HostState) (name bytes : List ℕ) → Holds a b name bytes → a.tells ≡ true
-    → file_of b name ≡ Some bytes
-file_held a b name bytes held t = ap (λ (f : Files). get f name) (held.told t) ∙ get_inserted a.files name bytes
-
 -- a prefix of a file was written, and then a prefix of what was left of it
 pub holds_more : (a b c : HostState) (name bytes left : List ℕ) (n k : ℕ) → Holds a b name (take n bytes)
     → (a.tells ≡ true → b.output ≡ Some name) → b.tells ≡ a.tells → left ≡ drop n bytes → Writes b c (take k left)

@@ -65,11 +65,6 @@ module _ (l : Layout) where
   opened_too bytes other n long within same open_so =
       record { whole = omega (arith, long_enough n other bytes same within); front = take-shorter 12 n other bytes long same ∙ open_so.front }
 
-  whole_means : (bytes : List ℕ) (plans : List Plan) → IsOpened l bytes → body l bytes 12 ≡ Ok (plans, length bytes) → meaning bytes ≡ Ok plans
-  whole_means bytes plans open_so e =
-      let none : ltb (length bytes) (length bytes) ≡ false = le-ltb _ _ (omega arith) in
-      meaning_ok bytes (plans, length bytes) (opened_plans l bytes open_so ∙ e) ∙ ap (λ (b : Bool). cond b (Err (fault.Extra (length bytes))) (Ok plans)) none
-
   -- they are the file of the plans
   whole_is : (bytes : List ℕ) → IsBytes bytes → (plans : List Plan) → IsOpened l bytes → body l bytes 12 ≡ Ok (plans, length bytes) → bytes ≡ written l plans
   whole_is bytes fits plans open_so e =

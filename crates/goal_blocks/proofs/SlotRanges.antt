@@ -1,6 +1,6 @@
 -- The slots of ranges.
 use Rattle.std.proofs.Common.{ℕ, zero, suc, ◌+◌, ◌-◌, ◌<◌, ◌≤◌, ◌≡◌, ◌==◌, Bool, true, false, List, [], ◌∷◌, ◌++◌, length, take, drop, get_or, flat_map, if◌then◌else◌, refl, sym, ap, ◌∙◌, arith, add-one, drop-cons, append-nil}
-use Rattle.std.proofs.lemmas.List.{take_more, get_or_append_left, get_or-append_right}
+use Rattle.std.proofs.lemmas.List.{take_more, get_or-append_right}
 use Rattle.std.proofs.lemmas.List.Concat.{flat_map-cons}
 use Rattle.std.proofs.lemmas.Grind.{flat_map-append}
 use Rattle.goal_graph.specs.declared.plan.Note.{Note}
@@ -66,10 +66,6 @@ module _ (ranges : List SlotRange) (next end : ℕ) (all : List ℕ) (left : slo
 
 -- a slot of the first range, and one of the others
 module _ (range : SlotRange) (others : List ℕ) (i : ℕ) where
-  pub slot_here : i < length (slots_of range) → get_or (slots_of range ++ others) i 0 ≡ range.lo + i
-  slot_here inside =
-      get_or_append_left (slots_of range) others 0 i inside ∙ slot_from range.lo (range.hi + 1 - range.lo) i (omega (arith, inside, length_from range.lo (range.hi + 1 - range.lo)))
-
   pub slot_behind : length (slots_of range) ≤ i → get_or (slots_of range ++ others) i 0 ≡ get_or others (i - length (slots_of range)) 0
   slot_behind past = get_or-append_right (slots_of range) others (length (slots_of range)) i 0 refl past
 

@@ -28,15 +28,6 @@ module _ {A : Type 0} where
       ap (take (j - i)) (drop_at entries more i (sym from))
       ∙ take_all (j - i) more (omega (arith, from, to, length-append entries more))
 
-  pub rows_none : (row : ℕ → List A) (starts : List ℕ) (entries : List A) → starts ≡ 0 ∷ [] → entries ≡ [] → IsRowed row 0 starts entries
-  rows_none row starts entries s e = record {
-    one_each = ap length s;
-    end = ap (λ (ns : List ℕ). get_or ns 0 0) s ∙ sym (ap length e);
-    ordered = λ k l. absurd (omega (arith, l));
-    within = λ k l. absurd (omega (arith, l));
-    each = λ k l. absurd (omega (arith, l));
-  }
-
   -- the row of one operation more
   pub row_more : (row : ℕ → List A) (count : ℕ) (starts : List ℕ) (old new : List A) (n : ℕ) → IsRowed row count starts old → new ≡ old ++ row count → n ≡ length new → IsRowed row (count + 1) (starts ++ n ∷ []) new
   row_more row count starts old new n r pushed at = record {
@@ -94,9 +85,6 @@ module _ {A : Type 0} where
     pub rows : IsRowed (λ k. flat_map (of k) (take at notes)) op starts entries
     pub none : (k : ℕ) → op ≤ k → flat_map (of k) (take at notes) ≡ []
 
-  pub so_far_none : (of : ℕ → Note → List A) (notes : List Note) (starts : List ℕ) (entries : List A) → starts ≡ 0 ∷ [] → entries ≡ [] → IsListedSoFar of notes 0 0 starts entries
-  so_far_none of notes starts entries s e = record { rows = rows_none _ starts entries s e; none = λ k l. refl }
-
   pub so_far_more : (of : ℕ → Note → List A) (notes : List Note) (at next op : ℕ) (starts more : List ℕ) (old new : List A) (n : ℕ) → IsListedSoFar of notes at op starts old → IsRowPushed of notes at next op old new → n ≡ length new → more ≡ starts ++ n ∷ [] → IsListedSoFar of notes next (op + 1) more new
   so_far_more of notes at next op starts more old new n s p e m = record {
     rows =
@@ -108,13 +96,6 @@ module _ {A : Type 0} where
   pub so_far_all : (of : ℕ → Note → List A) (notes all : List Note) (at op count : ℕ) (starts : List ℕ) (entries : List A) → length notes ≤ at → notes ≡ all → op ≡ count → IsListedSoFar of notes at op starts entries → IsRowed (λ k. flat_map (of k) all) count starts entries
   so_far_all of notes all at op count starts entries past same last s =
       subst (λ (n : ℕ). IsRowed (λ k. flat_map (of k) all) n starts entries) last (subst (λ (ns : List Note). IsRowed (λ k. flat_map (of k) ns) op starts entries) (take_all at notes past ∙ same) s.rows)
-
-  -- nothing is pushed yet
-  pub pushed_none : (of : ℕ → Note → List A) (notes : List Note) (at op : ℕ) (old : List A) → flat_map (of op) (take at notes) ≡ [] → IsRowPushed of notes at at op old old
-  pushed_none of notes at op old none = record {
-    pushed = sym (ap (λ (xs : List A). old ++ xs) none ∙ append-nil old);
-    others = λ k apart. refl;
-  }
 
   -- another note
   pub pushed_more : (of : ℕ → Note → List A) (notes : List Note) (at next op : ℕ) (d : Note) (old now new : List A) → ((n : Note) (k : ℕ) → k ≢ op_of n → of k n ≡ []) → next < length notes → op_of (get_or notes next d) ≡ op → IsRowPushed of notes at next op old now → new ≡ now ++ of (op_of (get_or notes next d)) (get_or notes next d) → IsRowPushed of notes at (next + 1) op old new

@@ -101,19 +101,6 @@ refused_of host c sched machine stop r is got refused =
     read_turned host c (IsGathered c sched machine) (λ (i : Input). IsRefused c i r)
     (λ input from. subst (λ (s : Stop). IsStop c input s) is (refused input from)) got
 
--- why there is nothing to work on, as in the table of causes
-module _ (a b : HostState) (out : SinkState) (c : Command) (kept : KeepsFiles a b) where
-  still : IsUntouched (devices a out) (devices b out)
-  still = record { files = kept; sink = refl }
-
-  pub idle_cause : (answer : Answer) → IsIdle a b c answer → IsCauseOf (devices a out) (devices b out) c answer
-  idle_cause (answer.Written e) is = absurd is
-  idle_cause answer.BadLine is = absurd is
-  idle_cause (answer.Refused r) is = (is.0, is.1, still, is.2)
-  idle_cause answer.ReadFault is = (is, still)
-  idle_cause answer.WriteFault is = absurd is
-  idle_cause answer.NoMemory is = inl still
-
 -- a file was read to its end, after another file of its host
 pub read_out_from : (a b d : HostState) (o : Option (List ℕ)) → Later a b → KeepsFiles a b → IsReadOut b d o → IsReadOut a d o
 read_out_from a b d None later kept out = tt

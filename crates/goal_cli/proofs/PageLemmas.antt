@@ -1,8 +1,7 @@
 -- Text that is written piece by piece.
-use Rattle.std.proofs.Common.{◌≡◌, ℕ, false, eqb, List, [], ◌∷◌, ◌++◌, ◌+◌, ◌<◌, length, take, drop, refl, sym, ap, ◌∙◌, subst, append_assoc, append-nil, take-append-drop, length-append, arith, Result, OnErr}
+use Rattle.std.proofs.Common.{◌≡◌, ℕ, false, eqb, List, [], ◌∷◌, ◌++◌, ◌+◌, ◌<◌, length, take, drop, refl, sym, ap, ◌∙◌, subst, append_assoc, append-nil, take-append-drop, length-append, arith}
 use Rattle.std.proofs.Math.Seq.{take-append_seam}
 use Rattle.std.proofs.lemmas.List.{drop-drop}
-use Rattle.std.specs.declared.result.Result.TheVariants.{Ok, Err}
 use Rattle.goal_base.specs.Device.{SinkState, Grows}
 use Rattle.goal_cli.specs.Answer.{GrowsByPart}
 
@@ -50,8 +49,3 @@ part_then a b c xs ys first same part =
     let n = part.0 in
     subst (GrowsByPart a c) (append_assoc xs (take n ys) (drop n ys) ∙ ap (λ (l : List ℕ). xs ++ l) (take-append-drop n ys))
     (part_of a c (xs ++ take n ys) (drop n ys) (grows_then a b c xs (take n ys) first same part.1))
-
--- what holds at an error
-pub on_error : {A E : Type 0} (r : Result A E) (P Q : Type 0) → (P → Q) → OnErr r P → OnErr r Q
-on_error (Ok a) P Q f h = tt
-on_error (Err e) P Q f h = f h

@@ -26,13 +26,6 @@ is_at-yes es label i h = by (slice_get es i) refl h
     by None at h = cc
     by (Some e) at h = (e.1, at ∙ ap (λ k. Some (k, e.1)) (equal e.0 label h))
 
-pub is_at-no : (es : Entries) (label : List ℕ) (i : ℕ) → is_at es label i ≡ false → IsAt es label i → ⊥
-unfolding is_at
-is_at-no es label i h there =
-    let told : bytes_eq label label ≡ false = sym (ap (λ (o : Option (List ℕ × Slot)). option_map_or (λ e. bytes_eq e.0 label) o false) there.1) ∙ h in
-    let mine = own label in
-    absurd (cc)
-
 -- a guess that passed the test
 pub is_at-guess : (read es : Entries) (label : List ℕ) (guess : ℕ) → is_at read label guess ≡ true → read ≡ es → IsAt es label guess
 is_at-guess read es label guess told same = subst (λ (ds : Entries). IsAt ds label guess) same (is_at-yes read label guess told)

@@ -1,8 +1,6 @@
 -- The invariant of a map after each change.
 use Rattle.std.proofs.Common.{◌≡◌, ◌≢◌, ℕ, ◌+◌, ◌<◌, ◌≤◌, Bool, true, false, List, [], ◌∷◌, ◌++◌, Option, Some, None, length, slice_get, slice_set, refl, sym, ap, subst, ◌∙◌, arith, inl, inr, ◌⊎◌, length-append, bytes_eq, eqb, ltb, Decides, if◌then◌else◌, unwrap_or}
-use Rattle.std.proofs.Common.{Result, Ok, Err}
 use Rattle.std.specs.Option.{IfNone}
-use Rattle.std.specs.Result.{OnOk, is_err}
 use Rattle.std.proofs.lemmas.Cmp.{nat_list_eq_equiv}
 use Rattle.std.proofs.lemmas.Slice.Eq.{bytes_eq-Decides}
 use Rattle.std.proofs.lemmas.Bool.Decides.{eqb_tells, Decides-ltb, not_from_Decides}
@@ -19,11 +17,6 @@ use Rattle.goal_labels.proofs.PlaceLemmas.{slice_get-set, slice_get-apart}
 use Rattle.goal_labels.proofs.EntryLemmas.{IsAt-within, IsAt-before, IsAt-left, IsAt-last, AreUnique-more}
 use Rattle.goal_labels.proofs.HeldLemmas.{AreHeld-none, entries_of-empty}
 use Rattle.goal_labels.proofs.OrderedLemmas.{IsAt-same, ascending_left, ascending_more}
-
--- what a successful call ensures
-pub on_success : {T E P : Type 0} (r : Result T E) → false ≡ is_err r → OnOk r P → P
-on_success (Ok x) told said = said
-on_success (Err e) told said = absurd (cc)
 
 -- a map without labels
 module _ (bytes : List ℕ) (es : List Entry) (first ascending : ℕ) (numbers : Numbers) (none : es ≡ []) (start : first ≡ 0) (end : ascending ≡ 0)

@@ -1,4 +1,3 @@
-pub mod Values
 pub mod ScanLaws
 pub mod StandsLaws
 pub mod ReservedWords

@@ -228,17 +228,6 @@ IsNoName token.Colon = ⊥
 IsNoName token.Close = ⊥
 IsNoName _ = ⊤
 
--- a word of the draft, or one that gives nothing
-abbrev IsNoCount : TokenKind → Type 0
-IsNoCount token.Calc = ⊥
-IsNoCount token.Send = ⊥
-IsNoCount token.Recv = ⊥
-IsNoCount token.Requires = ⊥
-IsNoCount token.Irequires = ⊥
-IsNoCount token.Moves = ⊥
-IsNoCount token.Adds = ⊥
-IsNoCount _ = ⊤
-
 ranks_other : (s : State) (k : TokenKind) (n : ℕ) → IsNoNumber k → n ≡ ranks_with s k n
 unfolding ranks_with
 ranks_other state.Ranks (token.Number m) n absent = absurd absent
@@ -253,17 +242,6 @@ blocks_other : (s : State) (k : TokenKind) (ns : List ℕ) → IsNoNumber k → 
 unfolding blocks_with
 blocks_other state.Block (token.Number m) ns absent = absurd absent
 blocks_other _ _ ns absent = refl
-
-counts_other : (k : TokenKind) (counts : Counts) → IsNoCount k → counts ≡ counts_with k counts
-unfolding counts_with
-counts_other token.Calc counts absent = absurd absent
-counts_other token.Send counts absent = absurd absent
-counts_other token.Recv counts absent = absurd absent
-counts_other token.Requires counts absent = absurd absent
-counts_other token.Irequires counts absent = absurd absent
-counts_other token.Moves counts absent = absurd absent
-counts_other token.Adds counts absent = absurd absent
-counts_other _ counts absent = refl
 
 ends_none : (s : State) (k : TokenKind) → begins_item k ≡ false → ends_action s k ≡ false
 unfolding ends_action

@@ -438,9 +438,6 @@ within_count new old length_new length_old closed kept_one acting_new acting_old
 same_le : (a b : ℕ) → a ≡ b → a ≤ b
 same_le a b e = omega arith
 
-closing_same : (k : TokenKind) (a b : ℕ) → a ≡ b → closing k a ≡ closing k b
-closing_same k a b e = ap (closing k) e
-
 module _ (before : List Token) (t : Token) (passes : Passes (state_of before) (draft_of before).option (counts_of before) t) (keeps : Keeps before) where
   ops_more : op_count (plans_of (t ∷ before)) + length (ops_of (t ∷ before)) + acting (state_of (t ∷ before)) ≤ (counts_of (t ∷ before)).ops
   unfolding op_count plans_of ops_of state_of counts_of

@@ -106,11 +106,6 @@ module _ (sums : List Sum) (i : ℕ) (numbers rest : List ℕ) (g : numbers ≡ 
       let h : ℕ → ℕ = λ n. sum_by f (meaning (told [] sums) (left_of sums n)) in
       omega (arith, ap (shares sums f) g, sum_by-append h rest (i ∷ []), sum_by-cons h i [])
 
-  pub taken_weights : weights sums numbers ≡ weights sums rest + weight (told [] sums) (left_of sums i)
-  taken_weights =
-      let h : ℕ → ℕ = λ n. weight (told [] sums) (left_of sums n) in
-      omega (arith, ap (weights sums) g, sum_by-append h rest (i ∷ []), sum_by-cons h i [])
-
   pub taken_last : (P : ℕ → Type 0) → All P numbers → P i
   taken_last P all =
       let whole = subst (All P) g all in

@@ -160,10 +160,6 @@ module _ (what : Collective) (ranks : ℕ) (segment : Segment) (sums : List Valu
   below_there held sound r k t e =
       subst (λ (u : Summed). IsBelow (length u.sums) t) is (sound.below r k t (sym e))
 
-  pub held_there : (held : ℕ) → IsSound (record { kept = kept_in what ranks segment sums m; sums = sums }) m held → held ≡ stored s.kept.ranks (values s.kept)
-  held_there held sound =
-      sound.held_is ∙ ap (λ (u : Summed). stored u.kept.ranks (values u.kept)) is
-
 -- the term in the map of a slot, or else a term of its first value
 module _ (what : Collective) (ranks : ℕ) (segment : Segment) (sums : List Value) (m : Terms) (r k : ℕ) (old : Option Term) (first : Term) (there : old ≡ found_in m r k) where
   pub old_size : meaning sums first ≡ initial_in what segment.width segment.block ranks r k → length (meaning sums (unwrap_or old first)) ≡ length (values (kept_in what ranks segment sums m) r k)

@@ -1,5 +1,5 @@
 -- What slots have in maps, one for each of the first ranks, after a change.
-use Rattle.std.proofs.Common.{ℕ, zero, suc, ◌≡◌, ◌≢◌, ◌==◌, ◌&&◌, ◌<◌, Bool, true, false, List, [], ◌∷◌, ◌++◌, map, length, get_or, set, Option, Some, Result, Ok, Err, OnOk, OnErr, if◌then◌else◌, refl, sym, ap, ◌∙◌, arith, eq-eqb}
+use Rattle.std.proofs.Common.{ℕ, zero, suc, ◌≡◌, ◌≢◌, ◌==◌, ◌&&◌, ◌<◌, Bool, true, false, List, [], ◌∷◌, map, length, get_or, set, Option, Some, Result, Ok, Err, OnOk, OnErr, if◌then◌else◌, refl, sym, ap, ◌∙◌, arith, eq-eqb}
 use Rattle.std.proofs.lemmas.List.{get_or-set_same, get_or-set_other, length-map}
 use Rattle.std.proofs.lemmas.Bool.{both_ways, eqb-true}
 use Rattle.std.specs.Ordering.{nat_cmp}
@@ -10,17 +10,6 @@ use Rattle.goal_values.specs.Rows.{found_in, HasSameSlots, HasSet}
 -- the slots of maps, in lists
 abbrev pub listed : List (BTreeMap ℕ Term) → List (List (ℕ × Term))
 listed maps = map (λ (row : BTreeMap ℕ Term). row.entries) maps
-
--- an empty map is appended
-one_more : (maps : List (BTreeMap ℕ Term)) (m : BTreeMap ℕ Term) → m.entries ≡ [] → (r : ℕ) → get_or (listed (maps ++ m ∷ [])) r [] ≡ get_or (listed maps) r []
-one_more [] m none zero = none
-one_more [] m none (suc r) = refl
-one_more (n ∷ maps) m none zero = refl
-one_more (n ∷ maps) m none (suc r) = one_more maps m none r
-
-pub same_with_more : (old maps more : List (BTreeMap ℕ Term)) (m : BTreeMap ℕ Term) → HasSameSlots (listed old) (listed maps) → more ≡ maps ++ m ∷ [] → m.entries ≡ [] → HasSameSlots (listed old) (listed more)
-same_with_more old maps more m same e none r k =
-    ap (λ (ms : List (BTreeMap ℕ Term)). found_in (listed ms) r k) e ∙ ap (λ (row : List (ℕ × Term)). found_in (row ∷ []) 0 k) (one_more maps m none r) ∙ same r k
 
 -- the map of one rank is changed
 listed_set : (maps : List (BTreeMap ℕ Term)) (i : ℕ) (m : BTreeMap ℕ Term) → listed (set maps i m) ≡ set (listed maps) i m.entries

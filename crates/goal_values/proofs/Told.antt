@@ -148,9 +148,3 @@ module _ (sums : List Sum) (are : AreSums sums) (known : List Value) (is : told 
 
 pub sorted_as : (sums : List Sum) → AreSums sums → (known : List Value) → told [] sums ≡ known → (i : ℕ) → IsSorted (get_or known i [])
 sorted_as sums are known is i = subst (λ (vs : List Value). IsSorted (get_or vs i [])) is (are.sorted i)
-
--- the invariant of a sum that is read
-pub sum_there : (sums : List Sum) → AreSums sums → (known : List Value) → told [] sums ≡ known → (i : ℕ) (s : Sum) → s ≡ get_or sums i s → i < length known → IsSum known i s
-sum_there sums are known is i s read inside =
-    let few : i < length sums = omega (arith, inside, are.many, ap length is) in
-    subst (λ (vs : List Value). IsSum vs i s) is (are.each i s (slice_get_read sums (length sums) i s refl few read))

@@ -1,11 +1,8 @@
 -- The words of a text, one after another.
-use Rattle.std.proofs.Common.{ℕ, Bool, true, false, List, [], ◌∷◌, ◌≡◌, ◌≢◌, ◌+◌, ◌<◌, length, cond, not, refl, sym, ap, ◌∙◌, take, drop, filter, get_or, arith, ◌*◌, suc, add-one, ◌-◌, subst}
+use Rattle.std.proofs.Common.{ℕ, Bool, true, false, List, [], ◌∷◌, ◌≡◌, ◌≢◌, ◌+◌, ◌<◌, length, cond, not, refl, sym, ap, ◌∙◌, take, drop, filter, arith, suc, add-one, ◌-◌, subst}
 use Rattle.std.proofs.lemmas.List.{take_all, length-drop, nil_from_length}
 use Rattle.std.proofs.lemmas.Bool.{lt-ltb}
 use Rattle.std.proofs.lemmas.List.Folds.{length-prefix_len}
-use Rattle.std.proofs.Math.Seq.{drop-cons}
-use Rattle.std.specs.Str.Parse.{digits_value_after}
-use Rattle.std.specs.Char.{digit_value}
 use Rattle.std.specs.Prelude.{nat_lt}
 use Rattle.std.specs.List.{slice_split, onto_first, prefix_len}
 use Rattle.sim_classes.specs.Form.{is_blank, words}
@@ -78,10 +75,6 @@ first_word xs some =
   where
     kept : (w : List ℕ) (ws : List (List ℕ)) → full w ≡ true → filter full (w ∷ ws) ≡ w ∷ filter full ws
     kept w ws e = rw e refl
-
--- digits after those of n
-pub more_digits : (ds : List ℕ) (n i : ℕ) → i < length ds → digits_value_after 10 n (drop i ds) ≡ digits_value_after 10 (n * 10 + digit_value (get_or ds i 0)) (drop (i + 1) ds)
-more_digits ds n i low = ap (digits_value_after 10 n) (drop-cons ds i 0 low ∙ ap (λ (j : ℕ). get_or ds i 0 ∷ drop j ds) (sym (add-one i)))
 
 module _ (xs : List ℕ) (n : ℕ) (front : n ≡ prefix_len is_blank xs) where
   -- the rest after the blanks, as a part of a slice
