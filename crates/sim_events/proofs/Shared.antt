@@ -1,8 +1,8 @@
--- How often stations change their places where all operations of a rank use one cpu, or all of them one interface.
-use Rattle.std.proofs.Common.{◌≡◌, ◌⊎◌, ◌≤◌, ◌+◌, ◌*◌, ◌++◌, ℕ, suc, min, Bool, true, false, cond, List, [], ◌∷◌, length, Option, Some, None, slice_get, if◌then◌else◌, refl, sym, ap, ◌∙◌, subst, arith, inl, inr}
+-- How often stations change their places where all operations of a rank use one cpu, or all its messages one NIC.
+use Rattle.std.proofs.Common.{◌≡◌, ◌⊎◌, ◌≤◌, ◌+◌, ◌*◌, ◌==◌, ◌&&◌, ◌++◌, ℕ, suc, min, Bool, true, false, cond, List, [], ◌∷◌, length, Option, Some, None, slice_get, if◌then◌else◌, eq-eqb, refl, sym, ap, ◌∙◌, subst, arith, inl, inr}
 use Rattle.std.specs.List.{fold, list_any, sum_by, count_by}
 use Rattle.std.proofs.Math.Nat.{mul-le-mul_right}
-use Rattle.std.proofs.lemmas.Bool.{and_parts, both_ways, cases_Bool, or_cases}
+use Rattle.std.proofs.lemmas.Bool.{and_parts, and_from, both_ways, cases_Bool, eqb-true, or_cases}
 use Rattle.std.proofs.lemmas.List.{length-append}
 use Rattle.std.proofs.lemmas.List.Sums.{sum_by-cons}
 use Rattle.std.proofs.lemmas.Option.{same_Some, slice_get_within, get_or_from_slice_get}
@@ -11,6 +11,7 @@ use Rattle.goal_graph.specs.declared.action.Timed.{Timed}
 use Rattle.goal_graph.specs.declared.plan.Kind.{Kind}
 use Rattle.goal_graph.specs.declared.plan.Kind.TheVariants.{Calc, Send, Recv}
 use Rattle.goal_graph.specs.declared.plan.Op.{Op}
+use Rattle.goal_graph.specs.Fault.{is_calc}
 use Rattle.goal_graph.specs.Schedule.{Plan, operations, op_at}
 use Rattle.goal_graph.proofs.ForCallers.{listed_op}
 use Rattle.sim_params.specs.Costs.{CostModel}
@@ -20,8 +21,8 @@ use Rattle.sim_resources.proofs.ForCallers.{get_either}
 use Rattle.sim_stations.specs.Stations.{waits_for_room}
 use Rattle.sim_events.specs.declared.station.Station.{Station}
 use Rattle.sim_events.specs.Stations.{AreOnce}
-use Rattle.sim_events.specs.Cost.{station_by, station_of, station_as, cpu_alone, side_alone, same_station, with_station, stations_among, holds_as, times_held, most_moves, cost_of_start, cost_of_run}
-use Rattle.sim_events.specs.Laws.{HasOne, IsOneWide, MovesAreFew, RunsAreCheap}
+use Rattle.sim_events.specs.Cost.{station_by, station_of, station_as, cpu_alone, side_by, side_alone, same_station, with_station, stations_among, holds_as, times_held, most_moves, cost_of_start, cost_of_run}
+use Rattle.sim_events.specs.Laws.{HasOneCpu, HasOneNic, IsOneWide, MovesAreFew, RunsAreCheap}
 use Rattle.sim_events.proofs.Numbering.{any_there}
 use Rattle.sim_events.proofs.Placing.{same_station_true, same_station_from}
 use Rattle.sim_events.proofs.Changes.{of_one}
@@ -77,39 +78,62 @@ count_none test [] none = refl
 count_none test (x ∷ xs) none =
     omega (arith, count_more test x xs, ap one (none 0 x refl), count_none test xs (λ i s e. none (suc i) s e))
 
-count_once : (c : Station) (xs : List Station) → AreOnce xs → count_by (same_station c) xs ≤ 1
-count_once c [] once = omega arith
-count_once c (x ∷ xs) once = go (cases_Bool (same_station c x)) (count_once c xs (λ i j s e f. rest i j s e f))
+-- a test that no two of them pass
+count_one : (test : Station → Bool) (xs : List Station) → AreOnce xs → ((i j : ℕ) (s t : Station) → slice_get xs i ≡ Some s → slice_get xs j ≡ Some t → test s ≡ true → test t ≡ true → s ≡ t) → count_by test xs ≤ 1
+count_one test [] once same = omega arith
+count_one test (x ∷ xs) once same =
+    go (cases_Bool (test x)) (count_one test xs (λ i j s e f. rest i j s e f) (λ i j s t e f. same (suc i) (suc j) s t e f))
   where
     rest : (i j : ℕ) (s : Station) → slice_get xs i ≡ Some s → slice_get xs j ≡ Some s → i ≡ j
-    rest i j s e f = let same = once (suc i) (suc j) s e f in omega (arith, same)
+    rest i j s e f = let both = once (suc i) (suc j) s e f in omega (arith, both)
 
-    go : (same_station c x ≡ true) ⊎ (same_station c x ≡ false) → count_by (same_station c) xs ≤ 1 → count_by (same_station c) (x ∷ xs) ≤ 1
-    go (inl t) few = omega (arith, count_more (same_station c) x xs, ap one t, count_none (same_station c) xs others)
+    go : (test x ≡ true) ⊎ (test x ≡ false) → count_by test xs ≤ 1 → count_by test (x ∷ xs) ≤ 1
+    go (inl t) few = omega (arith, count_more test x xs, ap one t, count_none test xs others)
       where
-        others : (i : ℕ) (s : Station) → slice_get xs i ≡ Some s → same_station c s ≡ false
-        others i s e = elim (cases_Bool (same_station c s)) [
-          | inl u ↦ (let same : x ≡ s = sym (same_station_true c x t) ∙ same_station_true c s u in absurd (omega (arith, once 0 (suc i) s (ap Some same) e)))
+        others : (i : ℕ) (s : Station) → slice_get xs i ≡ Some s → test s ≡ false
+        others i s e = elim (cases_Bool (test s)) [
+          | inl u ↦ (let first : x ≡ s = same 0 (suc i) x s refl e t u in absurd (omega (arith, once 0 (suc i) s (ap Some first) e)))
           | inr f ↦ f
         ]
-    go (inr f) few = omega (arith, count_more (same_station c) x xs, ap one f, few)
+    go (inr f) few = omega (arith, count_more test x xs, ap one f, few)
 
--- at most three stations are one of three
-count_three : (c d e : Station) (test : Station → Bool) (xs : List Station) → ((i : ℕ) (s : Station) → slice_get xs i ≡ Some s → test s ≡ true → (s ≡ c) ⊎ ((s ≡ d) ⊎ (s ≡ e))) → count_by test xs ≤ count_by (same_station c) xs + (count_by (same_station d) xs + count_by (same_station e) xs)
-count_three c d e test [] each = omega arith
-count_three c d e test (x ∷ xs) each =
-    omega (arith, here (cases_Bool (test x)), count_three c d e test xs (λ i s at t. each (suc i) s at t), count_more test x xs, count_more (same_station c) x xs, count_more (same_station d) x xs, count_more (same_station e) x xs)
+-- 0 for the station of a calc, 1 for that of a send, 2 for that of a receive
+abbrev side_by_number : Option ℕ → Option ℕ → ℕ
+side_by_number None None = 0
+side_by_number (Some n) r = 1
+side_by_number None (Some n) = 2
+
+abbrev side_number : Station → ℕ
+side_number s = side_by_number s.sends s.receives
+
+few_sides : (m r : Option ℕ) → (side_by_number m r ≡ 0) ⊎ ((side_by_number m r ≡ 1) ⊎ (side_by_number m r ≡ 2))
+few_sides None None = inl refl
+few_sides (Some n) r = inr (inl refl)
+few_sides None (Some n) = inr (inr refl)
+
+-- what passes a test, and has this side
+abbrev of_side : ℕ → (Station → Bool) → Station → Bool
+of_side n test s = test s && (side_number s == n)
+
+of_side_from : (n : ℕ) (test : Station → Bool) (s : Station) → test s ≡ true → side_number s ≡ n → of_side n test s ≡ true
+of_side_from n test s t e = and_from (test s) (side_number s == n) t (eq-eqb (side_number s) n e)
+
+-- at most three stations pass a test that no two of one side pass
+count_three : (test : Station → Bool) (xs : List Station) → count_by test xs ≤ count_by (of_side 0 test) xs + (count_by (of_side 1 test) xs + count_by (of_side 2 test) xs)
+count_three test [] = omega arith
+count_three test (x ∷ xs) =
+    omega (arith, here (cases_Bool (test x)), count_three test xs, count_more test x xs, count_more (of_side 0 test) x xs, count_more (of_side 1 test) x xs, count_more (of_side 2 test) x xs)
   where
-    by : (x ≡ c) ⊎ ((x ≡ d) ⊎ (x ≡ e)) → 1 ≤ one (same_station c x) + (one (same_station d x) + one (same_station e x))
-    by (inl s) = omega (arith, ap one (same_station_from c x (sym s)))
-    by (inr (inl s)) = omega (arith, ap one (same_station_from d x (sym s)))
-    by (inr (inr s)) = omega (arith, ap one (same_station_from e x (sym s)))
+    by : test x ≡ true → (side_number x ≡ 0) ⊎ ((side_number x ≡ 1) ⊎ (side_number x ≡ 2)) → 1 ≤ one (of_side 0 test x) + (one (of_side 1 test x) + one (of_side 2 test x))
+    by t (inl s) = omega (arith, ap one (of_side_from 0 test x t s))
+    by t (inr (inl s)) = omega (arith, ap one (of_side_from 1 test x t s))
+    by t (inr (inr s)) = omega (arith, ap one (of_side_from 2 test x t s))
 
-    here : (test x ≡ true) ⊎ (test x ≡ false) → one (test x) ≤ one (same_station c x) + (one (same_station d x) + one (same_station e x))
-    here (inl t) = omega (arith, ap one t, by (each 0 x refl t))
+    here : (test x ≡ true) ⊎ (test x ≡ false) → one (test x) ≤ one (of_side 0 test x) + (one (of_side 1 test x) + one (of_side 2 test x))
+    here (inl t) = omega (arith, ap one t, by t (few_sides x.sends x.receives))
     here (inr f) = omega (arith, ap one f)
 
--- the stations that can be meant by what an action of an operation holds
+-- the stations of a rank that are for the cpu and NIC of an operation
 abbrev calc_at : ℕ → Op → Station
 calc_at rank p = record { rank = rank; cpu = Some p.cpu; sends = None; receives = None }
 
@@ -122,72 +146,120 @@ recv_at rank p = record { rank = rank; cpu = Some p.cpu; sends = None; receives 
 abbrev IsOneOf : ℕ → Op → Station → Type 0
 IsOneOf rank p s = (s ≡ calc_at rank p) ⊎ ((s ≡ send_at rank p) ⊎ (s ≡ recv_at rank p))
 
+-- two stations of one rank and cpu that differ by their side at most
+calcs_at : (x y : OpId) (o p : Op) → x.rank ≡ y.rank → o.cpu ≡ p.cpu → calc_at x.rank o ≡ calc_at y.rank p
+calcs_at x y o p r c = λ j. record { rank = r j; cpu = Some (c j); sends = None; receives = None }
+
+sends_at : (x y : OpId) (o p : Op) → x.rank ≡ y.rank → o.cpu ≡ p.cpu → o.nic ≡ p.nic → send_at x.rank o ≡ send_at y.rank p
+sends_at x y o p r c n = λ j. record { rank = r j; cpu = Some (c j); sends = Some (n j); receives = None }
+
+receives_at : (x y : OpId) (o p : Op) → x.rank ≡ y.rank → o.cpu ≡ p.cpu → o.nic ≡ p.nic → recv_at x.rank o ≡ recv_at y.rank p
+receives_at x y o p r c n = λ j. record { rank = r j; cpu = Some (c j); sends = None; receives = Some (n j) }
+
 cpu_is : (y : OpId) (p : Op) (k : Kind) → cpu_alone (station_by y p k) ≡ calc_at y.rank p
 cpu_is y p (Calc n) = refl
 cpu_is y p (Send n t u) = refl
 cpu_is y p (Recv n t u) = refl
 
+side_rank : (s : Station) → (side_alone s).rank ≡ s.rank
+side_rank s = go s.sends s.receives
+  where
+    go : (m r : Option ℕ) → (side_by s m r).rank ≡ s.rank
+    go None None = refl
+    go (Some n) r = refl
+    go None (Some n) = refl
+
+-- Two operations, of which an action of a third one holds what is charged for their stations.
 module _ (plans : List Plan) (x y : OpId) (o p : Op) (is_o : op_at plans x ≡ Some o) (is_p : op_at plans y ≡ Some p) where
-  calcs : x.rank ≡ y.rank → o.cpu ≡ p.cpu → calc_at x.rank o ≡ calc_at y.rank p
-  calcs r c = λ j. record { rank = r j; cpu = Some (c j); sends = None; receives = None }
-
-  sends : x.rank ≡ y.rank → o.cpu ≡ p.cpu → o.nic ≡ p.nic → send_at x.rank o ≡ send_at y.rank p
-  sends r c n = λ j. record { rank = r j; cpu = Some (c j); sends = Some (n j); receives = None }
-
-  receives : x.rank ≡ y.rank → o.cpu ≡ p.cpu → o.nic ≡ p.nic → recv_at x.rank o ≡ recv_at y.rank p
-  receives r c n = λ j. record { rank = r j; cpu = Some (c j); sends = None; receives = Some (n j) }
-
-  -- by its side, where there is one cpu
-  module _ (rank : ℕ) (at : x.rank ≡ rank) (cpus : HasOne (λ q. q.cpu) plans rank) where
+  -- their sides are one, where there is one cpu
+  module _ (cpus : HasOneCpu plans y.rank) where
     one_cpu : x.rank ≡ y.rank → o.cpu ≡ p.cpu
-    one_cpu r = cpus x y o p at (sym r ∙ at) is_o is_p
+    one_cpu r = cpus x y o p r refl is_o is_p
 
     by_cpu : (k : Kind) → side_alone (station_by x o k) ≡ calc_at y.rank p → IsOneOf y.rank p (station_by x o k)
-    by_cpu (Calc n) e = let r = ap (λ (s : Station). s.rank) e in inl (calcs r (one_cpu r))
+    by_cpu (Calc n) e = let r = ap (λ (s : Station). s.rank) e in inl (calcs_at x y o p r (one_cpu r))
     by_cpu (Send n t u) e = let f = ap (λ (s : Station). s.cpu) e in absurd (cc)
     by_cpu (Recv n t u) e = let f = ap (λ (s : Station). s.cpu) e in absurd (cc)
 
     by_side : (k l : Kind) → side_alone (station_by x o k) ≡ side_alone (station_by y p l) → IsOneOf y.rank p (station_by x o k)
     by_side k (Calc n) e = by_cpu k e
-    by_side (Calc m) (Send n t u) e = let r = ap (λ (s : Station). s.rank) e in inl (calcs r (one_cpu r))
-    by_side (Calc m) (Recv n t u) e = let r = ap (λ (s : Station). s.rank) e in inl (calcs r (one_cpu r))
+    by_side (Calc m) (Send n t u) e = let r = ap (λ (s : Station). s.rank) e in inl (calcs_at x y o p r (one_cpu r))
+    by_side (Calc m) (Recv n t u) e = let r = ap (λ (s : Station). s.rank) e in inl (calcs_at x y o p r (one_cpu r))
     by_side (Send m v w) (Send n t u) e =
         let r = ap (λ (s : Station). s.rank) e in
-        inr (inl (sends r (one_cpu r) (same_Some o.nic p.nic (ap (λ (s : Station). s.sends) e))))
+        inr (inl (sends_at x y o p r (one_cpu r) (same_Some o.nic p.nic (ap (λ (s : Station). s.sends) e))))
     by_side (Send m v w) (Recv n t u) e = let f = ap (λ (s : Station). s.sends) e in absurd (cc)
     by_side (Recv m v w) (Send n t u) e = let f = ap (λ (s : Station). s.sends) e in absurd (cc)
     by_side (Recv m v w) (Recv n t u) e =
         let r = ap (λ (s : Station). s.rank) e in
-        inr (inr (receives r (one_cpu r) (same_Some o.nic p.nic (ap (λ (s : Station). s.receives) e))))
+        inr (inr (receives_at x y o p r (one_cpu r) (same_Some o.nic p.nic (ap (λ (s : Station). s.receives) e))))
 
-  -- by its cpu, where there is one interface
-  module _ (rank : ℕ) (at : x.rank ≡ rank) (nics : HasOne (λ q. q.nic) plans rank) where
-    of_cpu : (k : Kind) → calc_at x.rank o ≡ calc_at y.rank p → IsOneOf y.rank p (station_by x o k)
-    of_cpu k e = go k
-      where
-        r : x.rank ≡ y.rank
-        r = ap (λ (s : Station). s.rank) e
+  -- their cpus are one
+  by_alone : (l : Kind) → calc_at x.rank o ≡ side_alone (station_by y p l) → calc_at x.rank o ≡ calc_at y.rank p
+  by_alone (Calc n) e = e
+  by_alone (Send n t u) e = let f = ap (λ (s : Station). s.cpu) e in absurd (cc)
+  by_alone (Recv n t u) e = let f = ap (λ (s : Station). s.cpu) e in absurd (cc)
 
-        c : o.cpu ≡ p.cpu
-        c = same_Some o.cpu p.cpu (ap (λ (s : Station). s.cpu) e)
+  -- then they have one station where their sides are of one kind, and messages use one NIC
+  module _ (rank : ℕ) (at_x : x.rank ≡ rank) (at_y : y.rank ≡ rank) (nics : HasOneNic plans rank) (c : o.cpu ≡ p.cpu) where
+    r : x.rank ≡ y.rank
+    r = at_x ∙ sym at_y
 
-        n : o.nic ≡ p.nic
-        n = nics x y o p at (sym r ∙ at) is_o is_p
+    one_nic : is_calc o.kind ≡ false → is_calc p.kind ≡ false → o.nic ≡ p.nic
+    one_nic = nics x y o p at_x at_y is_o is_p
 
-        go : (k : Kind) → IsOneOf y.rank p (station_by x o k)
-        go (Calc m) = inl (calcs r c)
-        go (Send m t u) = inr (inl (sends r c n))
-        go (Recv m t u) = inr (inr (receives r c n))
+    alike : (k l : Kind) → o.kind ≡ k → p.kind ≡ l → side_number (station_by x o k) ≡ side_number (station_by y p l) → station_by x o k ≡ station_by y p l
+    alike (Calc m) (Calc n) e f same = calcs_at x y o p r c
+    alike (Send m v w) (Send n t u) e f same = sends_at x y o p r c (one_nic (ap is_calc e) (ap is_calc f))
+    alike (Recv m v w) (Recv n t u) e f same = receives_at x y o p r c (one_nic (ap is_calc e) (ap is_calc f))
+    alike (Calc m) (Send n t u) e f same = absurd (omega (arith, same))
+    alike (Calc m) (Recv n t u) e f same = absurd (omega (arith, same))
+    alike (Send m v w) (Calc n) e f same = absurd (omega (arith, same))
+    alike (Send m v w) (Recv n t u) e f same = absurd (omega (arith, same))
+    alike (Recv m v w) (Calc n) e f same = absurd (omega (arith, same))
+    alike (Recv m v w) (Send n t u) e f same = absurd (omega (arith, same))
 
-    of_side : (k l : Kind) → calc_at x.rank o ≡ side_alone (station_by y p l) → IsOneOf y.rank p (station_by x o k)
-    of_side k (Calc n) e = of_cpu k e
-    of_side k (Send n t u) e = let f = ap (λ (s : Station). s.cpu) e in absurd (cc)
-    of_side k (Recv n t u) e = let f = ap (λ (s : Station). s.cpu) e in absurd (cc)
+-- of three stations those of one side are one
+one_of_three : (rank : ℕ) (p : Op) (s t : Station) → IsOneOf rank p s → IsOneOf rank p t → side_number s ≡ side_number t → s ≡ t
+one_of_three rank p s t a b same = go a b
+  where
+    number : (u : Station) (n : ℕ) (v : Station) → u ≡ v → side_number v ≡ n → side_number u ≡ n
+    number u n v e f = ap side_number e ∙ f
+
+    go : IsOneOf rank p s → IsOneOf rank p t → s ≡ t
+    go (inl e) (inl f) = e ∙ sym f
+    go (inr (inl e)) (inr (inl f)) = e ∙ sym f
+    go (inr (inr e)) (inr (inr f)) = e ∙ sym f
+    go (inl e) (inr (inl f)) = absurd (omega (arith, same, number s 0 (calc_at rank p) e refl, number t 1 (send_at rank p) f refl))
+    go (inl e) (inr (inr f)) = absurd (omega (arith, same, number s 0 (calc_at rank p) e refl, number t 2 (recv_at rank p) f refl))
+    go (inr (inl e)) (inl f) = absurd (omega (arith, same, number s 1 (send_at rank p) e refl, number t 0 (calc_at rank p) f refl))
+    go (inr (inl e)) (inr (inr f)) = absurd (omega (arith, same, number s 1 (send_at rank p) e refl, number t 2 (recv_at rank p) f refl))
+    go (inr (inr e)) (inl f) = absurd (omega (arith, same, number s 2 (recv_at rank p) e refl, number t 0 (calc_at rank p) f refl))
+    go (inr (inr e)) (inr (inl f)) = absurd (omega (arith, same, number s 2 (recv_at rank p) e refl, number t 1 (send_at rank p) f refl))
 
 -- what a station is charged with: its side where its rank has one cpu, or its cpu
 abbrev charged_by : {P Q : Type 0} → P ⊎ Q → Station → Station
 charged_by (inl cpus) s = side_alone s
 charged_by (inr nics) s = cpu_alone s
+
+charged_rank : {P Q : Type 0} (w : P ⊎ Q) (s : Station) → (charged_by w s).rank ≡ s.rank
+charged_rank (inl cpus) s = side_rank s
+charged_rank (inr nics) s = refl
+
+rank_is : (x : OpId) (o : Op) → (station_of x o).rank ≡ x.rank
+rank_is x o = go o.kind
+  where
+    go : (k : Kind) → (station_by x o k).rank ≡ x.rank
+    go (Calc n) = refl
+    go (Send n t u) = refl
+    go (Recv n t u) = refl
+
+-- the operation that has a station
+record IsStationOf (plans : List Plan) (s : Station) : Type 0 where
+  op : OpId
+  about : Op
+  there : op_at plans op ≡ Some about
+  is : s ≡ station_of op about
 
 module _ (plans : List Plan) (wide : IsOneWide plans) where
   abbrev charged : Station → Station
@@ -196,42 +268,84 @@ module _ (plans : List Plan) (wide : IsOneWide plans) where
   lesser : (h : List Timed) (s : Station) → min (times_held plans h (cpu_alone s)) (times_held plans h (side_alone s)) ≤ times_held plans h (charged s)
   lesser h s = go (wide s.rank)
     where
-      go : (w : HasOne (λ o. o.cpu) plans s.rank ⊎ HasOne (λ o. o.nic) plans s.rank) → min (times_held plans h (cpu_alone s)) (times_held plans h (side_alone s)) ≤ times_held plans h (charged_by w s)
+      go : (w : HasOneCpu plans s.rank ⊎ HasOneNic plans s.rank) → min (times_held plans h (cpu_alone s)) (times_held plans h (side_alone s)) ≤ times_held plans h (charged_by w s)
       go (inl cpus) = omega arith
       go (inr nics) = omega arith
 
-  -- an action is charged to one of three stations
+  -- an action is charged to one station of each side
   module _ (a : Timed) (p : Op) (is_p : op_at plans a.op ≡ Some p) where
-    rank_is : (x : OpId) (o : Op) → (station_of x o).rank ≡ x.rank
-    rank_is x o = go o.kind
-      where
-        go : (k : Kind) → (station_by x o k).rank ≡ x.rank
-        go (Calc n) = refl
-        go (Send n t u) = refl
-        go (Recv n t u) = refl
-
-    meant : (x : OpId) (o : Op) → op_at plans x ≡ Some o → (w : HasOne (λ q. q.cpu) plans (station_of x o).rank ⊎ HasOne (λ q. q.nic) plans (station_of x o).rank) → (cpu_alone (station_of a.op p) ≡ charged_by w (station_of x o)) ⊎ (side_alone (station_of a.op p) ≡ charged_by w (station_of x o)) → IsOneOf a.op.rank p (station_of x o)
-    meant x o is_o (inl cpus) (inl e) = by_cpu plans x a.op o p is_o is_p (station_of x o).rank (sym (rank_is x o)) cpus o.kind (sym e ∙ cpu_is a.op p p.kind)
-    meant x o is_o (inl cpus) (inr e) = by_side plans x a.op o p is_o is_p (station_of x o).rank (sym (rank_is x o)) cpus o.kind p.kind (sym e)
-    meant x o is_o (inr nics) (inl e) = of_cpu plans x a.op o p is_o is_p (station_of x o).rank (sym (rank_is x o)) nics o.kind (sym (cpu_is x o o.kind) ∙ sym e ∙ cpu_is a.op p p.kind)
-    meant x o is_o (inr nics) (inr e) = of_side plans x a.op o p is_o is_p (station_of x o).rank (sym (rank_is x o)) nics o.kind p.kind (sym (cpu_is x o o.kind) ∙ sym e)
-
     held_here : (r : Station) → holds_as r a (Some p) ≡ true → (cpu_alone (station_of a.op p) ≡ r) ⊎ (side_alone (station_of a.op p) ≡ r)
     held_here r t = elim (or_cases (same_station (cpu_alone (station_of a.op p)) r) (same_station (side_alone (station_of a.op p)) r) (and_parts (waits_for_room a.class) _ t).1) [
       | inl c ↦ inl (same_station_true (cpu_alone (station_of a.op p)) r c)
       | inr s ↦ inr (same_station_true (side_alone (station_of a.op p)) r s)
     ]
 
-    is_meant : (s : Station) (x : OpId) (o : Op) → op_at plans x ≡ Some o → s ≡ station_of x o → holds_as (charged s) a (Some p) ≡ true → IsOneOf a.op.rank p s
-    is_meant s x o is_o own =
-        subst (λ (u : Station). holds_as (charged u) a (Some p) ≡ true → IsOneOf a.op.rank p u) (sym own)
-        (λ t. meant x o is_o (wide (station_of x o).rank) (held_here (charged (station_of x o)) t))
+    held_rank : (r : Station) → (cpu_alone (station_of a.op p) ≡ r) ⊎ (side_alone (station_of a.op p) ≡ r) → r.rank ≡ a.op.rank
+    held_rank r (inl e) = sym (ap (λ (s : Station). s.rank) e) ∙ rank_is a.op p
+    held_rank r (inr e) = sym (ap (λ (s : Station). s.rank) e) ∙ side_rank (station_of a.op p) ∙ rank_is a.op p
+
+    -- on the rank of the action
+    charged_there : (s : Station) → holds_as (charged s) a (Some p) ≡ true → s.rank ≡ a.op.rank
+    charged_there s t = sym (charged_rank (wide s.rank) s) ∙ held_rank (charged s) (held_here (charged s) t)
+
+    held_there : (s : Station) → holds_as (charged s) a (Some p) ≡ true → holds_as (charged_by (wide a.op.rank) s) a (Some p) ≡ true
+    held_there s t = subst (λ (n : ℕ). holds_as (charged_by (wide n) s) a (Some p) ≡ true) (charged_there s t) t
+
+    module _ (x : OpId) (o : Op) (is_o : op_at plans x ≡ Some o) where
+      -- by its side
+      by_its_side : HasOneCpu plans a.op.rank → (cpu_alone (station_of a.op p) ≡ side_alone (station_of x o)) ⊎ (side_alone (station_of a.op p) ≡ side_alone (station_of x o)) → IsOneOf a.op.rank p (station_of x o)
+      by_its_side cpus (inl e) = by_cpu plans x a.op o p is_o is_p cpus o.kind (sym e ∙ cpu_is a.op p p.kind)
+      by_its_side cpus (inr e) = by_side plans x a.op o p is_o is_p cpus o.kind p.kind (sym e)
+
+      -- by its cpu
+      by_its_cpu : (cpu_alone (station_of a.op p) ≡ cpu_alone (station_of x o)) ⊎ (side_alone (station_of a.op p) ≡ cpu_alone (station_of x o)) → calc_at x.rank o ≡ calc_at a.op.rank p
+      by_its_cpu (inl e) = sym (cpu_is x o o.kind) ∙ sym e ∙ cpu_is a.op p p.kind
+      by_its_cpu (inr e) = by_alone plans x a.op o p is_o is_p p.kind (sym (cpu_is x o o.kind) ∙ sym e)
+
+    -- two stations of one side that the action is charged to are one
+    module _ (x y : OpId) (o q : Op) (is_o : op_at plans x ≡ Some o) (is_q : op_at plans y ≡ Some q) where
+      met : (w : HasOneCpu plans a.op.rank ⊎ HasOneNic plans a.op.rank) → holds_as (charged_by w (station_of x o)) a (Some p) ≡ true → holds_as (charged_by w (station_of y q)) a (Some p) ≡ true → side_number (station_of x o) ≡ side_number (station_of y q) → station_of x o ≡ station_of y q
+      met (inl cpus) e f same =
+          one_of_three a.op.rank p (station_of x o) (station_of y q) (by_its_side x o is_o cpus (held_here (side_alone (station_of x o)) e)) (by_its_side y q is_q cpus (held_here (side_alone (station_of y q)) f)) same
+      met (inr nics) e f same =
+          let at_x = by_its_cpu x o is_o (held_here (cpu_alone (station_of x o)) e) in
+          let at_y = by_its_cpu y q is_q (held_here (cpu_alone (station_of y q)) f) in
+          let cpus : Some o.cpu ≡ Some q.cpu = ap (λ (s : Station). s.cpu) at_x ∙ sym (ap (λ (s : Station). s.cpu) at_y) in
+          alike plans x y o q is_o is_q a.op.rank (ap (λ (s : Station). s.rank) at_x) (ap (λ (s : Station). s.rank) at_y) nics (same_Some o.cpu q.cpu cpus) o.kind q.kind refl refl same
+
+    one_station : (s t : Station) → IsStationOf plans s → IsStationOf plans t → holds_as (charged s) a (Some p) ≡ true → holds_as (charged t) a (Some p) ≡ true → side_number s ≡ side_number t → s ≡ t
+    one_station s t u v e f same = u.is ∙ met u.op v.op u.about v.about u.there v.there (wide a.op.rank) first second sides ∙ sym v.is
+      where
+        first : holds_as (charged_by (wide a.op.rank) (station_of u.op u.about)) a (Some p) ≡ true
+        first = subst (λ (z : Station). holds_as (charged_by (wide a.op.rank) z) a (Some p) ≡ true) u.is (held_there s e)
+
+        second : holds_as (charged_by (wide a.op.rank) (station_of v.op v.about)) a (Some p) ≡ true
+        second = subst (λ (z : Station). holds_as (charged_by (wide a.op.rank) z) a (Some p) ≡ true) v.is (held_there t f)
+
+        sides : side_number (station_of u.op u.about) ≡ side_number (station_of v.op v.about)
+        sides = sym (ap side_number u.is) ∙ same ∙ ap side_number v.is
 
 module _ (plans : List Plan) (wide : IsOneWide plans) where
-  -- what is listed is an operation
-  op_of : (i : ℕ) (x : OpId) → slice_get (operations plans) i ≡ Some x → (o : Op) × (op_at plans x ≡ Some o)
-  op_of i x at =
-      let a = listed_op plans x (i, slice_get_within (operations plans) i x at, get_or_from_slice_get (operations plans) i x x at) in (a.op, a.is)
+  -- what is listed is the station of an operation
+  station_there : (i : ℕ) (s : Station) → slice_get (stations_among plans (operations plans)) i ≡ Some s → IsStationOf plans s
+  station_there i s at =
+      let one = of_one plans (operations plans) s i at in
+      let listed = listed_op plans one.op (one.slot, slice_get_within (operations plans) one.slot one.op one.at, get_or_from_slice_get (operations plans) one.slot one.op one.op one.at) in
+      record { op = one.op; about = listed.op; there = listed.is; is = one.is ∙ ap (station_as one.op) listed.is }
+
+  -- what an action of an operation holds is charged to a station
+  abbrev is_charged : Timed → Op → Station → Bool
+  is_charged a p s = holds_as (charged plans wide s) a (Some p)
+
+  one_of_side : (a : Timed) (p : Op) → op_at plans a.op ≡ Some p → (n : ℕ) → count_by (of_side n (is_charged a p)) (stations_among plans (operations plans)) ≤ 1
+  one_of_side a p is n =
+      count_one (of_side n (is_charged a p)) (stations_among plans (operations plans)) (stations_once plans) same
+    where
+      same : (i j : ℕ) (s t : Station) → slice_get (stations_among plans (operations plans)) i ≡ Some s → slice_get (stations_among plans (operations plans)) j ≡ Some t → of_side n (is_charged a p) s ≡ true → of_side n (is_charged a p) t ≡ true → s ≡ t
+      same i j s t at_s at_t e f =
+          let u = and_parts (is_charged a p s) (side_number s == n) e in
+          let v = and_parts (is_charged a p t) (side_number t == n) f in
+          one_station plans wide a p is s t (station_there i s at_s) (station_there j t at_t) u.0 v.0 (eqb-true (side_number s) n u.1 ∙ sym (eqb-true (side_number t) n v.1))
 
   three_at_most : (a : Timed) → count_by (λ s. holds_as (charged plans wide s) a (op_at plans a.op)) (stations_among plans (operations plans)) ≤ 3
   three_at_most a = go (op_at plans a.op) refl
@@ -239,15 +353,7 @@ module _ (plans : List Plan) (wide : IsOneWide plans) where
       go : (q : Option Op) → op_at plans a.op ≡ q → count_by (λ s. holds_as (charged plans wide s) a q) (stations_among plans (operations plans)) ≤ 3
       go None is = omega (arith, count_none (λ s. false) (stations_among plans (operations plans)) (λ i s e. refl))
       go (Some p) is =
-          let rank = a.op.rank in
-          let once = stations_once plans in
-          omega (arith, count_three (calc_at rank p) (send_at rank p) (recv_at rank p) (λ s. holds_as (charged plans wide s) a (Some p)) (stations_among plans (operations plans)) each, count_once (calc_at rank p) (stations_among plans (operations plans)) once, count_once (send_at rank p) (stations_among plans (operations plans)) once, count_once (recv_at rank p) (stations_among plans (operations plans)) once)
-        where
-          each : (i : ℕ) (s : Station) → slice_get (stations_among plans (operations plans)) i ≡ Some s → holds_as (charged plans wide s) a (Some p) ≡ true → IsOneOf a.op.rank p s
-          each i s at t =
-              let one = of_one plans (operations plans) s i at in
-              let o = op_of one.slot one.op one.at in
-              is_meant plans wide a p is s one.op o.0 o.1 (one.is ∙ ap (station_as one.op) o.1) t
+          omega (arith, count_three (is_charged a p) (stations_among plans (operations plans)), one_of_side a p is 0, one_of_side a p is 1, one_of_side a p is 2)
 
   -- what an action adds to all of them
   one_action : (a : Timed) (h : List Timed) (xs : List Station) → sum_by (λ s. times_held plans (a ∷ h) (charged plans wide s)) xs ≡ count_by (λ s. holds_as (charged plans wide s) a (op_at plans a.op)) xs + sum_by (λ s. times_held plans h (charged plans wide s)) xs

@@ -1,21 +1,30 @@
 -- How much a run costs where what it shares is of one kind.
-use Rattle.std.specs.Prelude.{ℕ, ◌≡◌, ◌⊎◌, ◌≤◌, ◌+◌, ◌*◌, List, Some, length}
+use Rattle.std.specs.Prelude.{ℕ, ◌≡◌, ◌⊎◌, ◌≤◌, ◌+◌, ◌*◌, false, List, Some, length}
 use Rattle.goal_graph.specs.declared.action.OpId.{OpId}
 use Rattle.goal_graph.specs.declared.action.Timed.{Timed}
 use Rattle.goal_graph.specs.declared.plan.Op.{Op}
+use Rattle.goal_graph.specs.Fault.{is_calc}
 use Rattle.goal_graph.specs.Schedule.{Plan, op_at, operations}
 use Rattle.sim_params.specs.Costs.{CostModel}
 use Rattle.sim_params.specs.Run.{IsRun}
 use Rattle.sim_events.specs.Cost.{most_moves, cost_of_start, cost_of_run}
 
--- all operations of a rank have one number of this kind
-abbrev pub HasOne : (Op → ℕ) → List Plan → ℕ → Type 0
-HasOne number plans rank =
-    (x y : OpId) (o p : Op) → x.rank ≡ rank → y.rank ≡ rank → op_at plans x ≡ Some o → op_at plans y ≡ Some p → number o ≡ number p
+-- all operations of a rank use one cpu
+abbrev pub HasOneCpu : List Plan → ℕ → Type 0
+HasOneCpu plans rank =
+    (x y : OpId) (o p : Op) → x.rank ≡ rank → y.rank ≡ rank → op_at plans x ≡ Some o → op_at plans y ≡ Some p → o.cpu ≡ p.cpu
 
--- all operations of each rank use one cpu, or all of them one interface
+-- all messages of a rank, its sends and receives, use one NIC; calcs use none
+abbrev pub HasOneNic : List Plan → ℕ → Type 0
+HasOneNic plans rank =
+    (x y : OpId) (o p : Op)
+    → x.rank ≡ rank → y.rank ≡ rank → op_at plans x ≡ Some o → op_at plans y ≡ Some p
+    → is_calc o.kind ≡ false → is_calc p.kind ≡ false
+    → o.nic ≡ p.nic
+
+-- on each rank all operations use one cpu, or all messages one NIC
 abbrev pub IsOneWide : List Plan → Type 0
-IsOneWide plans = (rank : ℕ) → HasOne (λ o. o.cpu) plans rank ⊎ HasOne (λ o. o.nic) plans rank
+IsOneWide plans = (rank : ℕ) → HasOneCpu plans rank ⊎ HasOneNic plans rank
 
 -- then stations change their places at most once an operation, and six times an action
 abbrev pub MovesAreFew : Type 0

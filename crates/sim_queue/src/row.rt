@@ -48,14 +48,3 @@ pub fn row_28<L: Ledger>(
     put_number(&mut queue, 11, 5, steps);
     Ok(queue)
 }
-
-/// Does the same, under the number of its row in a table of tests.
-pub fn row_28<L: Ledger>(
-    alloc: Global,
-    steps: &mut Steps<L>,
-) -> Result<SlotHeap<Counted<u64>>, NoMemory>
-    ensures keys { IfOk result (λ q. q ≡ twelve_keys) }
-    ensures counted { steps.new ≤ steps.old + 120 }
-{
-    heap_of_twelve(alloc, steps)
-}
