@@ -100,7 +100,7 @@ module _ (plans : List Plan) (first : Store) (h : List Act) (a : Act) (now : IsI
   not_class : (c : Class) (x : OpId) → (place a.class == place c) ≡ false → is_act c x a ≡ false
   not_class c x e = and_left (place a.class == place c) (same_op a.op x) e
 
-  -- any other action leaves all as it is
+  -- any other action changes nothing
   pub kept_others : (place a.class == 2) ≡ false → (place a.class == 1) ≡ false → map kept_after (operations plans) ≡ map kept_before (operations plans)
   kept_others d s =
       same_tables _ _ (operations plans) (λ i m e. kept_same m (not_class Data m d) (inl d) (λ x p. not_class Serve x s))

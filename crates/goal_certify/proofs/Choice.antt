@@ -117,7 +117,7 @@ module _ (plans : List Plan) (h : List Act) (x : OpId) where
   serve_some k m e =
       of_kind Serve (Recv k.room k.from k.tag) k.kind ∙ ap (λ (o : Option OpId). not (happened Serve x h) && is_served plans no_send h o) e
 
-  -- the table tells what has happened
+  -- the table has what has happened
   pub done_known : (c : Class) → is_done (entry_known plans h x) c ≡ happened c x h
   done_known Arrive = refl
   done_known Serve = refl

@@ -77,7 +77,7 @@ module _ (plans : List Plan) (rest : List Act) (x : OpId) where
       go None e k t = absurd (both_ways false refl t)
       go (Some m) e k t = (partner_of_receive plans rest x m k e).posted
 
-  -- what is posted now has no partner that had handed over its bytes before
+  -- what is posted now has no partner that had transferred its data before
   not_sent : IsInterleaving plans no_send (after Post) → (m : OpId) → partner (pairs plans (after Post)) x ≡ Some m → happened Data m (after Post) ≡ true → ⊥
   not_sent now m f t =
       elim (happened_cases Data m (act_of Post x) rest t) [ inl was ↦ early was | inr new ↦ other (is_act_class Data m (act_of Post x) new) ]
@@ -100,7 +100,7 @@ module _ (plans : List Plan) (rest : List Act) (x : OpId) where
       go None f t = both_ways false refl t
       go (Some m) f t = not_sent now m f t
 
-  -- the partner of a receive that is posted now hands over its bytes
+  -- the partner of a receive that is posted now transfers its data
   hands_over : IsInterleaving plans no_send (after Post) → (y : OpId) → partner (pairs plans (after Post)) x ≡ Some y → may_act plans (after Post) Data y ≡ true
   hands_over now y e =
       let met = partner_of_receive plans (after Post) x y (allowed_post plans no_send rest x now.1).0 e in
@@ -108,7 +108,7 @@ module _ (plans : List Plan) (rest : List Act) (x : OpId) where
       let taken = is_some_from (partner (pairs plans (after Post)) y) x (partners_mutual plans no_send (after Post) x y now e) in
       data_is plans (after Post) y (fits_send plans x y met.fit) ∙ (λ i. not (fresh i) && taken i)
 
-  -- the partner of a send that hands over its bytes now takes them
+  -- the partner of a send that transfers its data now takes them
   takes : IsInterleaving plans no_send (after Data) → (y : OpId) → partner (pairs plans (after Data)) x ≡ Some y → may_act plans (after Data) Serve y ≡ true
   takes now y e =
       let k = partner_is_receive plans (after Data) x y (allowed_data plans no_send rest x now.1).0 e in

@@ -1,4 +1,4 @@
--- What is told of parcels, where their values are told as sums.
+-- Parcels whose values are stored as sums, as contracts see them.
 use Rattle.std.proofs.Common.{ℕ, zero, suc, replicate, ◌≡◌, ◌<◌, List, [], ◌∷◌, length, set, get_or, All, Option, Some, None, refl, sym, ap, ap₂, ◌∙◌, subst, arith}
 use Rattle.std.specs.Option.{option_map}
 use Rattle.std.proofs.lemmas.Option.{same_Some, slice_get-get_or}

@@ -108,7 +108,7 @@ module _ (plans : List Plan) (a : Act) (h : List Act) (now : IsInterleaving plan
   newly_served : (x : OpId) → is_served plans no_send (a ∷ h) (partner (pairs plans (a ∷ h)) x) ≡ true → (is_served plans no_send h (partner (pairs plans h) x) ≡ true) ⊎ MayMove x
   newly_served x e = go (partner (pairs plans (a ∷ h)) x) refl e
     where
-      -- its send had handed over its bytes before, so the two were paired
+      -- its send had transferred its data before, so the two were paired
       before : (m : OpId) → partner (pairs plans (a ∷ h)) x ≡ Some m → happened Data m h ≡ true → is_served plans no_send h (partner (pairs plans h) x) ≡ true
       before m f was =
           let y = cases_some (partner (pairs plans h) m) (data_paired plans no_send h m now.0 was) in

@@ -47,7 +47,7 @@ module _ (entries : List Entry) (sorted : IsSorted entry_cmp entries) (rise : Do
   pub paired : (pairs : ℕ) → length entries ≡ 2 * pairs → DoAlternate entries pairs → ArePaired entries pairs
   paired pairs all are = record { all = all; alternate = are; single = one_at }
 
--- the two of each of so many pairs have as many slots
+-- the two operations of each of the first pairs have the same number of slots
 abbrev pub AreAlike : List Plan → List Entry → ℕ → Type 0
 AreAlike plans entries n = (k : ℕ) (d : Entry) → k < n → length (slots plans (get_or entries (2 * k) d).op) ≡ length (slots plans (get_or entries (2 * k + 1) d).op)
 

@@ -70,7 +70,7 @@ module _ (plans : List Plan) (rank : ℕ) where
     pub last_left_out : get_or done op false ≡ false
     last_left_out = subst (λ (k : ℕ). get_or done k false ≡ false) last (p.left_out (length front) (omega (arith, long)))
 
-    -- the path goes on to an operation that its last one needs
+    -- the path is extended by an operation that its last one needs
     pub path_longer : IsAccepted plans → (next : ℕ) → IsMissing plans done (op_id rank op) next → IsPath done (path ++ next ∷ [])
     path_longer accepted next m = record {
       exist = λ i l. elim (cases_lt i (length path)) [

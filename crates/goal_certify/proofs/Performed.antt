@@ -18,7 +18,7 @@ use Rattle.goal_certify.specs.WalkSoFar.{WalkSoFar, act_of, acts, with_class, wi
 use Rattle.goal_certify.specs.WalkQueue.{may_act}
 use Rattle.goal_certify.proofs.AfterAction.{AfterMet, after_met, table_known, partner_there}
 
--- one action more is the newest
+-- another action is the newest
 acts_push : (items : List Action) (a : Action) → acts (items ++ a ∷ []) ≡ act_of a ∷ acts items
 acts_push items a = ap (map act_of) (reverse-append items (a ∷ []))
 

@@ -13,7 +13,7 @@ use Rattle.goal_graph.proofs.ForCallers.{listed_op, allowed_listed}
 use Rattle.goal_blocks.specs.Walk.{no_send}
 use Rattle.goal_certify.specs.WalkQueue.{may_act}
 
--- what stands in the list of operations exists
+-- an operation in the list of operations exists
 pub listed_exists : (plans : List Plan) (i : _) (x : OpId) → slice_get (operations plans) i ≡ Some x → IsOp plans x
 listed_exists plans i x e =
     let a = listed_op plans x (i, slice_get_within (operations plans) i x e, get_or_from_slice_get (operations plans) i x x e) in

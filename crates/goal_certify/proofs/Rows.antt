@@ -112,7 +112,7 @@ module _ (old new : List ℕ) (row : ℕ) (others : List ℕ) (other places : �
         | inr apart ↦ inl (sym (ap (λ w. bit w k) (j.rest (32 * r + k / 64) (λ a b. omega arith))) ∙ h)
       ]
 
--- one bit more
+-- another bit
 module _ (old : List ℕ) (row number : ℕ) (inside : 32 * row + 32 ≤ length old) (few : number < 2048) where
   abbrev with_bit : List ℕ
   with_bit = set old (32 * row + number / 64) (bit_or (get_or old (32 * row + number / 64) 0) (1 * 2 ^ (number % 64) % 2 ^ 64))

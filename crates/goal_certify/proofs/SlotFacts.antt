@@ -138,7 +138,7 @@ read_light plans small x is ranks s same light ks vs e f =
     let most = read_bound ranks x.rank s ks (omega (arith, rank_below plans x is, same)) low light in
     omega (arith, most, ap length e, slots_few plans small x is, ap size_of f, size_read (s x.rank) ks)
 
--- one note more
+-- another note
 add_last : (rank : ℕ) (added : List Adding) (a : Adding) (s : Store) → add_all rank (added ++ a ∷ []) s ≡ set_slot rank a.to (merge (add_all rank added s rank a.to) (add_all rank added s rank a.from)) (add_all rank added s)
 unfolding add_all
 add_last rank [] a s = refl

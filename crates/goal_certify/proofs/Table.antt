@@ -32,7 +32,7 @@ in_whole : {X : Type 0} (xs : List X) (i : ℕ) (x : X) → Contains (take i xs)
 in_whole {X} xs i x c =
     subst (λ (ys : List X). Contains ys x) (take-append-drop i xs) (Contains-append_left (take i xs) (drop i xs) x c)
 
--- one touch more is marked
+-- another touch is marked
 pub marked_more : (only_writes : Bool) (touches : List Touch) (i : ℕ) (e : Touch) (old new : List ℕ) → i < length touches → AreMarked only_writes (take i touches) old → 32 * (get_or touches i e).slot + 32 ≤ length new → length old ≤ length new → (is_marked only_writes (get_or touches i e) ≡ true → has new (get_or touches i e).slot (get_or touches i e).op ≡ true) → (All (λ (t : Touch). t.op < 2048) touches) → ((r k : ℕ) → k < 2048 → has old r k ≡ true → has new r k ≡ true) → ((r k : ℕ) → k < 2048 → has new r k ≡ true → (has old r k ≡ true) ⊎ ((is_marked only_writes (get_or touches i e) ≡ true) × (r ≡ (get_or touches i e).slot) × (k ≡ (get_or touches i e).op))) → AreMarked only_writes (take (i + 1) touches) new
 marked_more only_writes touches i e old new inside before room grown adds few_ops keeps no_more = record {
   has_all = λ t c m.

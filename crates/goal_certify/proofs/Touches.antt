@@ -32,7 +32,7 @@ flat_map_in {A} {B} f (z ∷ xs) x y (zero, b, e) d =
 flat_map_in {A} {B} f (z ∷ xs) x y (suc k, b, e) d =
     subst (λ (zs : List B). Contains zs y) (sym (flat_map-cons f z xs)) (Contains-append_right (f z) (flat_map f xs) y (flat_map_in f xs x y (k, omega (arith, b), e) d))
 
--- one slot more
+-- another slot
 pub slots_more : (lo n : ℕ) → slots_from lo (n + 1) ≡ slots_from lo n ++ (lo + n) ∷ []
 unfolding slots_from
 slots_more lo zero = let e : lo + 0 ≡ lo = omega arith in ap (λ (k : ℕ). k ∷ []) (sym e)
@@ -55,7 +55,7 @@ same_number k = eq-eqb k k refl
 is_number : (k n : ℕ) → (k == n) ≡ true → k ≡ n
 is_number k n h = eqb-true k n h
 
--- one touch more of an operation that moves slots
+-- another touch of an operation that moves slots
 pub moved_none : (op : ℕ) (writes : Bool) (lo : ℕ) (ts : List Touch) → ts ≡ ts ++ moved op writes (slots_from lo (lo - lo))
 unfolding moved slots_from
 moved_none op writes lo ts =
@@ -197,7 +197,7 @@ module _ (plans : List Plan) (rank : ℕ) (p : Plan) (at : slice_get plans rank 
             test false e cs = absurd (omega (arith, cs.1))
         by_note (Adds of from to) cn cs = absurd (omega (arith, cs.1))
 
-  -- what a calc adds stands in a note
+  -- the slots of an addition are those of a note
   note_of : (k : ℕ) (a : Adding) → Contains (flat_map (added_by k) p.notes) a → Contains p.notes (Adds k a.from a.to)
   note_of k a c = let m = in_flat_map (added_by k) p.notes a c in by_note m.0 m.1 m.2
     where

@@ -1,4 +1,4 @@
--- Rows that tell for each operation of a rank which operations end before it starts.
+-- Rows that say for each operation of a rank which operations end before it starts.
 use Rattle.std.specs.Prelude.{ℕ, ◌≡◌, ◌<◌, Bool, true, false, List, length, slice_index_or, All, Contains}
 use Rattle.goal_graph.specs.declared.action.OpId.{OpId}
 use Rattle.goal_graph.specs.declared.plan.Need.{Need}
@@ -10,8 +10,8 @@ use Rattle.goal_certify.specs.Rows.{has}
 abbrev pub op_id : ℕ → ℕ → OpId
 op_id rank op = record { rank = rank; op = op }
 
--- Rows are of operations of the rank. A number in a row names one that ends before the row's operation starts. Where the row is done, it has all of
--- these.
+-- Rows are of operations of the rank. A number in a row is of an operation that ends before the row's operation starts.
+-- A row that is done has all of these.
 pub record AreRows (plans : List Plan) (rank : ℕ) (rows : List ℕ) (done : ℕ → Type 0) : Type 0 where
   pub low : (op k : ℕ) → k < 2048 → has rows op k ≡ true → (op < length (ops_at plans rank)) × (k < length (ops_at plans rank))
   pub sound : (op k : ℕ) → k < 2048 → has rows op k ≡ true → EndsBefore plans (op_id rank k) (op_id rank op)
@@ -21,7 +21,7 @@ pub record AreRows (plans : List Plan) (rank : ℕ) (rows : List ℕ) (done : �
 abbrev pub HasNeedsDone : List Plan → List Bool → OpId → Type 0
 HasNeedsDone plans done x = All (λ (d : Need). slice_index_or done d.op false ≡ true) (needs plans x)
 
--- x needs this operation, whose row is not done
+-- x needs this operation, and the row of it is not done
 pub record IsMissing (plans : List Plan) (done : List Bool) (x : OpId) (op : ℕ) : Type 0 where
   pub need : Need
   pub needed : Contains (needs plans x) need

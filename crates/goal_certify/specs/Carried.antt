@@ -1,4 +1,4 @@
--- What is kept of values along the walk: those of the slots, and what is under way.
+-- The values that are kept along the walk: those of the slots, and those under way.
 use Rattle.std.specs.Prelude.{ℕ, ◌+◌, ◌^◌, ◌≡◌, ◌<◌, ◌≤◌, ◌⊎◌, List, ◌∷◌, map, drop, length, take, All, Option, Some, None, if◌then◌else◌}
 use Rattle.std.specs.List.{sum_by}
 use Rattle.std.specs.Option.{option_map}
@@ -21,7 +21,7 @@ use Rattle.goal_certify.specs.declared.walk.parcel.Parcel.{Parcel}
 use Rattle.goal_certify.specs.declared.walk.parcel.Holdings.{Holdings}
 use Rattle.goal_certify.specs.WalkSoFar.{WalkSoFar, act_of}
 
--- what is told of a parcel: the values that are under way, and how many contributions these are
+-- a parcel in contracts: the values that are under way, and how many contributions these have
 pub record Told : Type 0 where
   pub payload : List Value
   pub size : ℕ
@@ -29,11 +29,11 @@ pub record Told : Type 0 where
 abbrev pub told_of : List Value → Parcel → Told
 told_of sums p = record { payload = lent_values sums p.lent; size = p.size }
 
--- the same of each parcel that there is
+-- the same for each parcel in a table
 abbrev pub told_in : List Value → List (Option Parcel) → List (Option Told)
 told_in sums parcels = map (option_map (told_of sums)) parcels
 
--- what it lends are sums that there are
+-- what the parcel lends are sums that exist
 abbrev pub IsKnown : List Value → Option Parcel → Type 0
 IsKnown sums None = Unit {0}
 IsKnown sums (Some p) = IsLent sums p.lent
@@ -46,16 +46,16 @@ abbrev pub parcel_size : Option Told → ℕ
 parcel_size None = 0
 parcel_size (Some p) = p.size
 
--- what a send that is under way has read
+-- the parcel of a send that has read these values
 abbrev pub parcel_of : List Value → Told
 parcel_of vs = record { payload = vs; size = size_of vs }
 
--- what is kept of the send m: what it has read, while that is under way
+-- the parcel of the send m, while it is under way
 abbrev pub kept_of : List Plan → List Act → Held → OpId → Option Told
 kept_of plans h held m = if is_under_way plans h m then Some (parcel_of (held.payload m)) else None
 
--- There is a parcel for each send that is under way, in the order of all operations. Never were too many contributions
--- held.
+-- There is a parcel for each send that is under way, in the order of all operations. There were never too many
+-- contributions held.
 pub record IsCarrying (plans : List Plan) (first : Store) (h : List Act) (s : Kept) (parcels : List (Option Told)) (count : ℕ) : Type 0 where
   pub values_are : values s ≡ (held_after plans no_send first h).store
   pub ranks : s.ranks ≡ length plans
@@ -63,12 +63,12 @@ pub record IsCarrying (plans : List Plan) (first : Store) (h : List Act) (s : Ke
   pub counted : count ≡ carried plans h (held_after plans no_send first h)
   pub light : IsLight plans first h
 
--- the same of values that are told as sums
+-- the same of values that are stored as sums
 pub record IsHolding (plans : List Plan) (first : Store) (h : List Act) (s : Summed) (parcels : List (Option Parcel)) (count : ℕ) : Type 0 where
   pub carrying : IsCarrying plans first h s.kept (told_in s.sums parcels) count
   pub known : All (IsKnown s.sums) parcels
 
--- memory ran out, or so many contributions are too many
+-- memory ran out, or this number of contributions is too much
 abbrev pub IsOver : (ℕ → Type 0) → CertFault → Type 0
 IsOver P fault = (fault ≡ NoMemory) ⊎ ((total : ℕ) × (fault ≡ Weight total) × P total)
 
@@ -76,34 +76,34 @@ IsOver P fault = (fault ≡ NoMemory) ⊎ ((total : ℕ) × (fault ≡ Weight to
 abbrev pub Holds : List Plan → Store → List Act → Holdings → Type 0
 Holds plans first h held = IsHolding plans first h held.store held.parcels.items held.carried
 
--- what was held before the last action is held after it, as that action changes it
+-- what was held before the last action is held after it, with the changes of that action
 abbrev pub FollowsOn : WalkSoFar → Holdings → Holdings → Type 0
 FollowsOn w old new = (first : Store) → Holds w.plans first (drop 1 w.history) old → Holds w.plans first w.history new
 
--- the last action makes it too much
+-- with the last action, too much is held
 abbrev pub GrowsTooHeavy : WalkSoFar → Holdings → CertFault → Type 0
 GrowsTooHeavy w old fault =
     (first : Store) → Holds w.plans first (drop 1 w.history) old → IsOver (λ total. IsFirstTooHeavy w.plans first w.history total) fault
 
--- what is asked of an action that has just happened: the walk is that of a small schedule, the table that of its notes, and before it
--- this was held
+-- the conditions for an action that has just happened: the walk is of a small schedule, the table is of its notes, and
+-- `old` was held before the action
 pub record IsTaken (w : WalkSoFar) (table : List Plan) (a : Action) (old : Holdings) : Type 0 where
   pub small : IsSmall w.plans
   pub table_is : table ≡ w.plans
   pub newest : w.history ≡ act_of a ∷ drop 1 w.history
   pub held : (first : Store) × Holds w.plans first (drop 1 w.history) old
 
--- what is asked of a schedule whose receives take as many values as were sent
+-- the conditions for a schedule whose receives take as many values as were sent
 pub record HasEqualEnds (plans : List Plan) : Type 0 where
   pub channels : HasNoWildcard plans
   pub lengths : HasEqualLengths plans
 
--- after the first of these notes after which it is too much so many contributions are held, others included
+-- after the first of these notes with which too much is held, `total` contributions are held, `others` included
 abbrev pub AddsOver : ℕ → ℕ → List Adding → Store → ℕ → ℕ → Type 0
 AddsOver ranks rank added store others total =
     (n : ℕ) × (stored ranks (add_all rank (take n added) store) + others ≡ total) × IsTooHeavy total × ((k : ℕ) → k < n → stored ranks (add_all rank (take k added) store) + others ≤ 2 ^ 24)
 
--- after each of these notes few enough are held, others included
+-- after each of these notes, few enough are held, `others` included
 abbrev pub AddsWithin : ℕ → ℕ → List Adding → Store → ℕ → Type 0
 AddsWithin ranks rank added store others =
     (n : ℕ) → stored ranks (add_all rank (take n added) store) + others ≤ 2 ^ 24

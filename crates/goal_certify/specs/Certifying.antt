@@ -1,4 +1,4 @@
--- The answers of certification.
+-- The faults that certification returns.
 use Rattle.std.specs.Prelude.{List, length}
 use Rattle.goal_graph.specs.Schedule.{Plan}
 use Rattle.goal_blocks.specs.declared.cert_fault.CertFault.{CertFault}

@@ -1,4 +1,4 @@
--- The ends of channels: that of its sends, and that of its receives.
+-- The two ends of a channel: one of its sends, and one of its receives.
 use Rattle.std.specs.Prelude.{ℕ, ◌+◌, ◌*◌, ◌<◌, ◌≡◌, true, false, not, List, length, slice_index_or, Contains, Option, Some, None, All}
 use Rattle.std.specs.declared.cmp.Ordering.{Ordering}
 use Rattle.std.specs.Ordering.{nat_cmp, bool_cmp, ordering_then, is_lt}
@@ -10,7 +10,7 @@ use Rattle.goal_graph.specs.Order.{IsBefore}
 use Rattle.goal_certify.specs.declared.ends.End.{End}
 use Rattle.goal_certify.specs.declared.ends.Entry.{Entry}
 
--- the end at which an operation x of that kind stands; a calc has none, and neither has a receive with a wildcard
+-- the end of an operation x of this kind; a calc has none, and neither has a receive with a wildcard
 abbrev pub end_in : OpId → Option Kind → Option End
 end_in x (Some (Send bytes to tag)) = Some (record { source = x.rank; target = to; tag = tag; is_send = true })
 end_in x (Some (Recv room (Some from) (Some tag))) =
@@ -24,7 +24,7 @@ end_of plans x = end_in x (kind_at plans x)
 abbrev pub other_end : End → End
 other_end e = record e { is_send = not e.is_send }
 
--- the orders of ends, and of the operations that stand at them
+-- the orders of ends, and of the operations at them
 abbrev pub end_cmp : End → End → Ordering
 end_cmp d e =
     ordering_then (nat_cmp d.source e.source) (ordering_then (nat_cmp d.target e.target) (ordering_then (nat_cmp d.tag e.tag) (bool_cmp d.is_send e.is_send)))
@@ -40,7 +40,7 @@ pub record AreEndsOf (plans : List Plan) (entries : List Entry) : Type 0 where
   pub listed : (x : OpId) (e : End) → end_of plans x ≡ Some e → Contains entries (record { end = e; op = x })
   pub right : All (λ (a : Entry). end_of plans a.op ≡ Some a.end) entries
 
--- x is the least operation at that end
+-- x is the least operation at this end
 pub record IsFirstAt (entries : List Entry) (e : End) (x : OpId) : Type 0 where
   pub listed : Contains entries (record { end = e; op = x })
   pub none_before : (y : OpId) → IsBefore y x → Contains entries (record { end = e; op = y }) → ⊥
@@ -49,12 +49,12 @@ pub record IsFirstAt (entries : List Entry) (e : End) (x : OpId) : Type 0 where
 abbrev pub DoRise : List Entry → Type 0
 DoRise entries = (k : ℕ) (d : Entry) → k + 1 < length entries → is_lt (end_cmp (slice_index_or entries k d).end (slice_index_or entries (k + 1) d).end) ≡ true
 
--- at the places of each of so many pairs stand a receive and a send of its channel
+-- in each of the first `pairs` pairs of entries, there are a receive and a send of its channel
 pub record DoAlternate (entries : List Entry) (pairs : ℕ) : Type 0 where
   pub same : (k : ℕ) (d : Entry) → k < pairs → (slice_index_or entries (2 * k + 1) d).end ≡ other_end (slice_index_or entries (2 * k) d).end
   pub receives : (k : ℕ) (d : Entry) → k < pairs → (slice_index_or entries (2 * k) d).end.is_send ≡ false
 
--- so they all stand, and at each end one alone
+-- so all entries are in pairs, and each end has one operation
 pub record ArePaired (entries : List Entry) (pairs : ℕ) : Type 0 where
   pub all : length entries ≡ 2 * pairs
   pub alternate : DoAlternate entries pairs

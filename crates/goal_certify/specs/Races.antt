@@ -1,4 +1,4 @@
--- The first race of a rank, as the code looks for it.
+-- The first race of a rank, as the code searches it.
 use Rattle.std.specs.Prelude.{ℕ, ◌≡◌, ◌<◌, ◌≤◌, ◌⊎◌, ◌&&◌, ◌==◌, Bool, true, not, nat_lt, if◌then◌else◌, List, Contains, Option, Some, None}
 use Rattle.goal_graph.specs.Schedule.{Plan}
 use Rattle.goal_graph.specs.Order.{IsLess}
@@ -13,11 +13,11 @@ use Rattle.goal_certify.specs.Table.{meets}
 abbrev pub is_open : List ℕ → List ℕ → ℕ → ℕ → Bool
 is_open before shared x y = has shared x y && (not (has before y x) && not (has before x y))
 
--- each of these rows has the number of each row that has its own
+-- if a row has the number of another row, this one has the number of the first
 abbrev pub IsMutual : List ℕ → Type 0
 IsMutual rows = (x y : ℕ) → x < 2048 → y < 2048 → has rows x y ≡ true → has rows y x ≡ true
 
--- what the touch meets of lesser numbers ends before its operation starts
+-- the operations of lesser numbers that the touch meets end before its operation starts
 abbrev pub IsOrdered : List ℕ → List ℕ → List ℕ → Touch → Type 0
 IsOrdered before touchers writers t =
     (k : ℕ) → k < t.op → meets touchers writers t k ≡ true → has before t.op k ≡ true
@@ -34,7 +34,7 @@ IsFirstOpen before shared count None = (x y : ℕ) → x < y → y < count → i
 IsFirstOpen before shared count (Some p) =
     (p.first < p.second) × (p.second < count) × (is_open before shared p.first p.second ≡ true) × ((x y : ℕ) → x < y → y < count → (x < p.first) ⊎ ((x ≡ p.first) × (y < p.second)) → is_open before shared x y ≡ true → ⊥)
 
--- the least slot of the touches of x that meet one of y
+-- the least slot at which a touch of the first operation meets one of the second
 abbrev pub IsLeastSlot : List ℕ → List ℕ → List Touch → Pair → Option ℕ → Type 0
 IsLeastSlot touchers writers touches p None =
     (t : Touch) → Contains touches t → t.op ≡ p.first → meets touchers writers t p.second ≡ true → ⊥
@@ -50,12 +50,12 @@ IsFirstOfRank plans rank None = (a : RaceAt) → a.rank ≡ rank → IsRace plan
 IsFirstOfRank plans rank (Some r) =
     IsRace plans (race_at rank r) × ((a : RaceAt) → a.rank ≡ rank → IsLess (race_key a) (race_key (race_at rank r)) → IsRace plans a → ⊥)
 
--- the lesser one of two slots, of which the first may be missing
+-- the lesser of two slots, of which the first may be missing
 abbrev pub lesser : Option ℕ → ℕ → ℕ
 lesser None slot = slot
 lesser (Some other) slot = if nat_lt other slot then other else slot
 
--- with one touch more
+-- the same with another touch
 abbrev pub least_with : List ℕ → List ℕ → Pair → Option ℕ → Touch → Option ℕ
 least_with touchers writers p least t =
     if (t.op == p.first) && meets touchers writers t p.second then Some (lesser least t.slot) else least

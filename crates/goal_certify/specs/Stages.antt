@@ -1,5 +1,5 @@
--- Certification looks for the faults in stages, each of which looks for some kinds of faults that follow one another in
--- the order in which they are told.
+-- Certification has stages. Each of them searches some kinds of faults, which are adjacent in the order in which faults
+-- are searched.
 use Rattle.std.specs.Prelude.{ℕ, ◌≡◌, ◌<◌, ◌≤◌, ◌⊎◌, Bool, List, length}
 use Rattle.goal_graph.specs.Schedule.{Plan}
 use Rattle.goal_blocks.specs.declared.cert_fault.CertFault.{CertFault}
@@ -23,31 +23,31 @@ pub record IsFirstOf (plans : List Plan) (first : Store) (wanted : ℕ → ℕ �
   pub under : fault_place fault < end
   pub none_before : HasNone plans first wanted from (fault_place fault)
 
--- The answers of a stage whose kinds of faults say nothing of the values of slots: none of these kinds,
+-- What a stage returns whose kinds of faults do not depend on the values of slots: none of these kinds,
 abbrev pub IsFree : List Plan → ℕ → ℕ → Type 0
 IsFree plans from end =
     (first : Store) (wanted : ℕ → ℕ → Value → Bool) → HasNone plans first wanted from end
 
--- or the first fault, or want of memory.
+-- or the first fault, or `NoMemory`.
 abbrev pub IsStopped : List Plan → ℕ → ℕ → CertFault → Type 0
 IsStopped plans from end fault =
     (fault ≡ NoMemory) ⊎ ((first : Store) (wanted : ℕ → ℕ → Value → Bool) → IsFirstOf plans first wanted from end fault)
 
--- The answers of a stage whose kinds of faults speak of the values of slots, where a collective is done in a segment: none of
+-- What a stage returns whose kinds of faults depend on the values of slots, for a collective in a segment: none of
 -- these kinds,
 abbrev pub IsFreeIn : Collective → Segment → List Plan → ℕ → ℕ → Type 0
 IsFreeIn what segment plans from end = HasNone plans (initial_in what segment.width segment.block (length plans)) (wanted_in what segment.width segment.block (length plans)) from end
 
--- or the first fault, or want of memory.
+-- or the first fault, or `NoMemory`.
 abbrev pub IsStoppedIn : Collective → Segment → List Plan → ℕ → ℕ → CertFault → Type 0
 IsStoppedIn what segment plans from end fault = (fault ≡ NoMemory) ⊎ IsFirstOf plans (initial_in what segment.width segment.block (length plans)) (wanted_in what segment.width segment.block (length plans)) from end fault
 
--- Faults that tell of values: too many are held at a moment, or a slot holds the wrong one at the end.
+-- Faults of values: too many are held, or a slot holds the wrong one at the end.
 abbrev pub SpeaksOfValues : CertFault → Type 0
 SpeaksOfValues (Weight total) = Unit {0}
 SpeaksOfValues (Wrong rank slot) = Unit {0}
 SpeaksOfValues _ = ⊥
 
--- no operation is without an end in the walk
+-- each operation has an end in the walk
 abbrev pub NoneStalls : List Plan → Type 0
 NoneStalls plans = (op : OpId) → IsLeast op_key (IsStalled plans) op → ⊥

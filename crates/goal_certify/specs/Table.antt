@@ -1,10 +1,10 @@
--- Rows of bits with a row for each slot: which operations of a rank touch it, or write it. And rows for each operation:
--- with which operations it shares a slot that one of the two writes.
+-- Rows of bits for each slot: which operations of a rank touch it, or write it. And rows for each operation: with which
+-- operations it shares a slot that one of the two writes.
 use Rattle.std.specs.Prelude.{ℕ, ◌≡◌, ◌+◌, ◌*◌, ◌<◌, ◌≤◌, ◌||◌, Bool, true, not, List, length, Contains, if◌then◌else◌}
 use Rattle.goal_certify.specs.declared.races.touches.Touch.{Touch}
 use Rattle.goal_certify.specs.Rows.{has}
 
--- whether a touch has a place in the rows: all do, or only those that write
+-- whether a touch is in the rows: all are, or only those that write
 abbrev pub is_marked : Bool → Touch → Bool
 is_marked only_writes t = not only_writes || t.writes
 
@@ -18,7 +18,7 @@ pub record AreMarked (only_writes : Bool) (touches : List Touch) (rows : List �
   pub no_more : (s k : ℕ) → k < 2048 → has rows s k ≡ true → (t : Touch) × Contains touches t × (is_marked only_writes t ≡ true) × (t.slot ≡ s) × (t.op ≡ k)
   pub room : (t : Touch) → Contains touches t → 32 * t.slot + 32 ≤ length rows
 
--- the touch and one of the operation k of the same slot, of which one writes
+-- whether the operation k has a touch of the same slot, and one of the two touches writes
 abbrev pub meets : List ℕ → List ℕ → Touch → ℕ → Bool
 meets touchers writers t k = if t.writes then has touchers t.slot k else has writers t.slot k
 

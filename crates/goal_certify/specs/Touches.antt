@@ -11,11 +11,11 @@ use Rattle.goal_blocks.specs.Slots.{slots_from, touched, written}
 use Rattle.goal_certify.specs.declared.races.touches.Touch.{Touch}
 use Rattle.goal_certify.specs.Before.{op_id}
 
--- an operation reads or writes these slots
+-- the touches of an operation that reads or writes these slots
 unfoldable pub moved : ℕ → Bool → List ℕ → List Touch
 moved op writes slots = map (λ (s : ℕ). record { op = op; slot = s; writes = writes }) slots
 
--- the touches by a note, where its operation is of that kind
+-- the touches by a note, if its operation is of this kind
 abbrev pub touches_in : Option Kind → Note → List Touch
 touches_in (Some (Send bytes to tag)) (Moves op lo hi) = moved op false (slots_from lo (hi + 1 - lo))
 touches_in (Some (Recv room from tag)) (Moves op lo hi) = moved op true (slots_from lo (hi + 1 - lo))

@@ -1,4 +1,4 @@
--- Places in a set, as bits of words.
+-- A set of places, as bits of words.
 use Rattle.std.specs.Prelude.{ℕ, ◌≡◌, ◌*◌, ◌/◌, ◌%◌, ◌^◌, ◌==◌, ◌<◌, ◌≤◌, Bool, true, List, length, map, slice_index, Option, Some, None, if◌then◌else◌}
 use Rattle.std.specs.Int.{bit_at}
 use Rattle.std.specs.List.{range_with_len}
@@ -7,11 +7,11 @@ use Rattle.std.specs.List.{range_with_len}
 unfoldable pub is_on : List ℕ → ℕ → Bool
 is_on words k = bit_at (slice_index words (k / 64)) (k % 64) == 1
 
--- each place below a count, where its bit is 1
+-- each place below a count, if its bit is 1
 unfoldable pub turns_of : List ℕ → ℕ → List (Option ℕ)
 turns_of words count = map (λ (k : ℕ). if is_on words k then Some k else None) (range_with_len 0 count)
 
--- the bits of so many places, and the heads that tell which words have a bit that is 1
+-- the bits of `count` places, and the heads, whose bits say which words are not 0
 pub record AreTurns (words heads : List ℕ) (count : ℕ) : Type 0 where
   pub fits : count < 2 ^ 32
   pub room : count < 64 * length words

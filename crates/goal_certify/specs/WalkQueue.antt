@@ -1,5 +1,5 @@
--- Which operations may act next, in a queue by their places in the order of all, and how far their needs have been
--- looked at.
+-- Which operations may act next, as a queue of their places in the order of all operations, and how many of their needs
+-- have been found to be met.
 use Rattle.std.specs.Prelude.{ℕ, ◌≡◌, ◌⊎◌, Bool, true, false, List, length, Option, Some, None, Contains, slice_get, slice_set}
 use Rattle.goal_graph.specs.declared.action.OpId.{OpId}
 use Rattle.goal_graph.specs.declared.action.Class.{Class}
@@ -18,12 +18,12 @@ use Rattle.sim_heaps.specs.Map.{key_at}
 use Rattle.goal_progress.specs.declared.cursor.Cursor.{Cursor}
 use Rattle.goal_progress.specs.Cursors as progress
 
--- the class of the action of an operation of that kind that is the moment which a dependency waits for
+-- the class of the action that a dependency waits for, at an operation of this kind
 abbrev pub class_at : When → Option Kind → Class
 class_at AfterEnd k = last_class false k
 class_at AfterStart k = first_class k
 
--- an action of that class may let the partner act: a post lets the send hand over its bytes, and that the receive take them
+-- an action of this class may let the partner act: a Post lets a send transfer its data, a Data a receive take them
 abbrev pub moves_partner : Class → Bool
 moves_partner Arrive = false
 moves_partner Serve = false
@@ -32,18 +32,18 @@ moves_partner Post = true
 moves_partner Begin = false
 
 module _ (plans : List Plan) where
-  -- y is named in a list of needs of x's rank by one that waits for the action of that class of x
+  -- in a list of needs of x's rank, y waits for the action of this class of x
   pub record IsNamedAt (needs : List Need) (class : Class) (x y : OpId) : Type 0 where
     pub need : Need
     pub listed : Contains needs need
     pub named : y ≡ needed x need
     pub at : class_at need.when (kind_at plans x) ≡ class
 
-  -- y needs x, and waits for the action of that class
+  -- y needs x, and waits for its action of this class
   abbrev pub WaitsAt : Class → OpId → OpId → Type 0
   WaitsAt class x y = IsNamedAt (waiting_on plans x) class x y
 
-  -- an action of that class of x may let one of y happen: y is x, or its partner, or waits for that action
+  -- an action of this class of x may let one of y happen: y is x, or its partner, or waits for this action
   abbrev pub IsMoved : List Act → Class → OpId → OpId → Type 0
   IsMoved h class x y =
       (y ≡ x) ⊎ (((moves_partner class ≡ true) × (partner (pairs plans h) x ≡ Some y)) ⊎ WaitsAt class x y)
@@ -56,17 +56,17 @@ module _ (plans : List Plan) where
     abbrev pub IsIdle : OpId → Type 0
     IsIdle x = (class : Class) → may_act class x ≡ false
 
-    -- the class of the action of x that may happen, none where none may
+    -- the class of the action of x that may happen, or `None` if none may
     abbrev pub IsChoice : OpId → Option Class → Type 0
     IsChoice x None = IsIdle x
     IsChoice x (Some class) = may_act class x ≡ true
 
-    -- an operation that may act has its place as its key, any other has none
+    -- the key of an operation that may act is its place; any other has none
     abbrev pub IsKeyOf : ℕ → OpId → Option ℕ → Type 0
     IsKeyOf slot x None = IsIdle x
     IsKeyOf slot x (Some k) = (k ≡ slot) × ((class : Class) × (may_act class x ≡ true))
 
-    -- each operation has its key in its slot, but those that are due
+    -- each operation has its key in its slot, except those that are due
     pub record IsQueueBut (Due : ℕ → OpId → Type 0) (keys : List (Option ℕ)) : Type 0 where
       pub each : length keys ≡ length (operations plans)
       pub bounds : (slot : ℕ) (x : OpId) → slice_get (operations plans) slot ≡ Some x → IsKeyOf slot x (key_at keys slot) ⊎ Due slot x
@@ -75,7 +75,7 @@ module _ (plans : List Plan) where
     abbrev pub IsQueue : List (Option ℕ) → Type 0
     IsQueue keys = IsQueueBut (λ slot x. ⊥) keys
 
-    -- the slot of x has got the key of x, and the others are as they were
+    -- the slot of x got the key of x, and the other slots are unchanged
     pub record IsRefreshed (x : OpId) (old new : List (Option ℕ)) : Type 0 where
       pub slot : ℕ
       pub is_slot : slice_get (operations plans) slot ≡ Some x
@@ -91,7 +91,7 @@ module _ (plans : List Plan) where
     abbrev pub AreCursors : List Cursor → Type 0
     AreCursors = progress.AreCursors plans no_send h
 
-    -- what a walker keeps of its history, each action of which was the first of those that might happen
+    -- what a walker keeps of its history, in which each action was the first of those that could happen
     pub record Follows (keys : List (Option ℕ)) (cursors : List Cursor) : Type 0 where
       pub queue : IsQueue keys
       pub are_cursors : AreCursors cursors

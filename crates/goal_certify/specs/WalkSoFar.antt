@@ -1,4 +1,4 @@
--- What a walker keeps of what has happened so far.
+-- The actions of a walk so far, and what a walker keeps of them.
 use Rattle.std.specs.Prelude.{◌≡◌, Bool, true, List, ◌∷◌, ◌++◌, filter, map, reverse, Option, Some, None, if◌then◌else◌}
 use Rattle.goal_graph.specs.declared.action.OpId.{OpId}
 use Rattle.goal_graph.specs.declared.action.Class.{Class}
@@ -14,7 +14,7 @@ use Rattle.sim_match.specs.PostsAndArrivals.{PostsAndArrivals, is_post_or_arriva
 use Rattle.goal_certify.specs.declared.walk.action.Action.{Action}
 use Rattle.goal_certify.specs.declared.walk.entry.Entry.{Entry}
 
--- the plans of the schedule, and what has happened so far, newest first
+-- the plans of the schedule, and the actions so far, the newest first
 pub record WalkSoFar : Type 0 where
   pub plans : List Plan
   pub history : List Act
@@ -22,19 +22,19 @@ pub record WalkSoFar : Type 0 where
 abbrev pub act_of : Action → Act
 act_of a = record { class = a.class; op = a.op }
 
--- after one action more
+-- after another action
 abbrev pub with_action : WalkSoFar → Action → WalkSoFar
 with_action w a = record { plans = w.plans; history = act_of a ∷ w.history }
 
--- the later list of actions begins with the other: it is that, and then more
+-- the later list of actions is the other with newer actions before it, or itself
 abbrev pub IsLater : List Act → List Act → Type 0
 IsLater h later = (more : List Act) × (later ≡ more ++ h)
 
--- actions that are kept oldest first
+-- actions that are kept with the oldest first
 abbrev pub acts : List Action → List Act
 acts items = map act_of (reverse items)
 
--- whether the action of that class has happened, by what is kept of its operation
+-- whether the action of this class has happened, by what is kept of its operation
 abbrev pub is_done : Entry → Class → Bool
 is_done e Arrive = e.arrived
 is_done e Serve = e.served
@@ -42,7 +42,7 @@ is_done e Data = e.sent
 is_done e Post = e.posted
 is_done e Begin = e.begun
 
--- it has happened too
+-- this action has happened too
 abbrev pub with_class : Class → Entry → Entry
 with_class Arrive e = record e { arrived = true }
 with_class Serve e = record e { served = true }
@@ -54,12 +54,12 @@ with_class Begin e = record e { begun = true }
 abbrev pub with_pairing : OpId → OpId → (OpId → Entry) → OpId → Entry
 with_pairing y m f = with_entry y (record (f y) { paired = Some m }) f
 
--- where y has a partner, the entries of the two say that they are paired
+-- if y has a partner, the entries of the two say that they are paired
 abbrev pub with_partner : OpId → Option OpId → (OpId → Entry) → OpId → Entry
 with_partner y None f = f
 with_partner y (Some m) f = with_pairing m y (with_pairing y m f)
 
--- the operation that the rule of matching pairs with x, where the action of that class of x is the next
+-- the operation that the rule of matching pairs with x if the action of this class of x is next
 abbrev pub met : List Plan → List Act → Class → OpId → Option OpId
 met plans h Arrive x = receive_for plans h x
 met plans h Serve x = None
@@ -67,7 +67,7 @@ met plans h Data x = None
 met plans h Post x = send_for plans h x
 met plans h Begin x = None
 
--- the posts and arrivals, where an action of that class of x is the next
+-- the posts and arrivals if an action of this class of x is next
 abbrev pub more_met : List Act → Class → OpId → List Act
 more_met h class x = if is_post_or_arrival_class class then record { class = class; op = x } ∷ h else h
 

@@ -1,4 +1,4 @@
-// The certifier: the stages, in the order in which faults are told.
+//! The certifier: the stages, in the order of faults.
 ghost use Rattle.std.specs.Prelude.{◌≡◌, ◌⊎◌, length, OnOk, IfErr, IsOkUnless, IsErrOf};
 ghost use Rattle.goal_blocks.specs.declared.cert_fault.CertFault.{CertFault};
 ghost use Rattle.goal_blocks.specs.Collectives.{initial, wanted};
@@ -15,7 +15,7 @@ use goal_blocks::{CertFault, Collective, Segment, laws_of_certified_schedules, l
 use goal_graph::Sched;
 use std::alloc::Global;
 
-// The first fault that lies in the plans of a schedule: in its sizes, channels and races.
+/// Returns the first fault in the plans of a schedule: in its sizes, channels and races. `Ok` if there is none.
 pub fn check_plans(alloc: Global, sched: &Sched) -> Result<(), CertFault>
     ensures free { OnOk result (IsFree sched.now 0 6) }
     ensures fault { IfErr result (IsStopped sched.now 0 6) }
@@ -36,19 +36,19 @@ fn find_fault(alloc: Global, sched: &Sched, what: Collective) -> Result<(), Cert
 
 /// Certifies a schedule for a collective.
 ///
-/// What is certified does what the collective wants in every interleaving and whatever is eager: it ends, each send
-/// meets the receive of its channel, and each slot holds at the end what is wanted of it.
+/// A certified schedule does what the collective wants in every interleaving, whichever sends are eager: each operation
+/// ends, each send is paired with the receive of its channel, and each slot holds at the end what is wanted of it.
 ///
 /// # Errors
 ///
-/// The first fault of the schedule, exactly where it has one. Any answer may give way to `NoMemory`, which says nothing
-/// of the schedule.
+/// The first fault of the schedule, exactly if it has one. Every call may also return `NoMemory`, which says nothing of
+/// the schedule.
 pub fn certify(alloc: Global, sched: &Sched, what: Collective) -> Result<(), CertFault>
     ensures certified { OnOk result (IsCertifiedFor what sched.now) }
     ensures right { OnOk result (IsRightFor what sched.now) }
     ensures fault { IfErr result (λ fault. fault ≡ CertFault.NoMemory ⊎ IsFaultFor what sched.now fault) }
 
-    // Each schedule has its answer, where there is memory.
+    // With enough memory, the result is that of the schedule.
     ensures accepts { IsCertifiedFor what sched.now → IsOkUnless result CertFault.NoMemory }
     ensures faults { (fault : CertFault) → IsFaultFor what sched.now fault → IsErrOf result fault ⊎ IsErrOf result CertFault.NoMemory }
 {

@@ -1,4 +1,4 @@
-// The faults of channels: wildcards, two operations at one end, ends without another, and lengths that differ.
+//! The faults of channels: wildcards, two operations at one end, ends without the other, and lengths that differ.
 ghost use Rattle.std.specs.Prelude.{◌≡◌, ◌↔◌, length, map, OnOk, IfErr, IfSome, IfNone, IsTrue};
 ghost use Rattle.goal_graph.specs.declared.action.OpId.{OpId};
 ghost use Rattle.goal_graph.specs.Schedule.{operations};
@@ -112,7 +112,7 @@ fn receive_of(sched: &Sched, ends: &Ends, send: OpId) -> Option<OpId>
     }
 }
 
-// The receive of the channel of a send, where it has another number of slots.
+// The receive of the channel of a send, if its number of slots differs.
 fn other_length(sched: &Sched, ends: &Ends, counts: &[u64], send: OpId) -> Option<OpId>
     requires exists { IsOp sched.now send }
     requires ends { AreEndsOf sched.now ends.now }
@@ -147,8 +147,8 @@ fn check_lengths(sched: &Sched, ends: &Ends, counts: &[u64]) -> Result<(), CertF
     Ok(())
 }
 
-// Whether the operations stand in pairs at the ends of channels, the two of each with as many slots. One pass, in which
-// nobody is looked for.
+// Whether the operations are in pairs at the ends of channels, the two of each with the same number of slots. It takes
+// one pass, without searches.
 fn are_sound(sched: &Sched, ends: &Ends, counts: &[u64]) -> bool
     requires ends { AreEndsOf sched.now ends.now }
     requires no_wildcard { HasNoWildcard sched.now }
@@ -167,8 +167,9 @@ fn are_sound(sched: &Sched, ends: &Ends, counts: &[u64]) -> bool
     true
 }
 
-/// The first fault of channels: a wildcard, then two operations at one end of a channel, then an end without another,
-/// then numbers of slots that differ. The operations are looked up by their ends only where there is such a fault.
+/// Returns the first fault of channels: a wildcard, then two operations at one end of a channel, then an end without
+/// the other, then numbers of slots that differ. The operations are searched by their ends only if there is such a
+/// fault.
 pub fn check_channels(alloc: Global, sched: &Sched) -> Result<(), CertFault>
     ensures free { OnOk result (IsFree sched.now 1 5) }
     ensures fault { IfErr result (IsStopped sched.now 1 5) }

@@ -1,4 +1,4 @@
-// The ends of channels, sorted: which operations send into a channel, and which receive from it.
+//! The ends of channels, sorted: which operations send into a channel, and which receive from it.
 ghost use Rattle.std.specs.Prelude.{◌≡◌, ◌+◌, ◌*◌, ◌<◌, ◌≤◌, false, length, slice_index_or, Contains, IfOk, IfSome, IfNone, IsTrue, Some};
 ghost use Rattle.goal_graph.specs.declared.action.OpId.{OpId};
 ghost use Rattle.goal_certify.specs.declared.ends.Entry.{Entry};
@@ -11,14 +11,18 @@ use std::marker::Model;
 /// One end of a channel: that of its sends, or that of its receives.
 #[derive(Clone, Copy, PartialEq, Eq, PartialOrd, Ord)]
 pub struct End {
+    /// The rank that sends.
     pub source: u32,
+    /// The rank that receives.
     pub target: u32,
+    /// The tag.
     pub tag: u32,
+    /// Whether it is the end of the sends.
     pub is_send: bool,
 }
 
 impl End {
-    /// The end at which an operation of that kind stands. A calc and a receive with a wildcard have none.
+    /// Returns the end of an operation of this kind. A calc and a receive with a wildcard have none.
     pub fn of(id: OpId, kind: Kind) -> Option<End>
         ensures { result ≡ end_in id (Some kind) }
     {
@@ -43,7 +47,7 @@ impl End {
         }
     }
 
-    /// The other end of the channel.
+    /// Returns the other end of the channel.
     pub fn other(self) -> End
         ensures { result ≡ other_end self }
     {
@@ -63,14 +67,16 @@ fn are_two_ends(receive: End, send: End) -> bool
     !receive.is_send && send == receive.other()
 }
 
-/// An operation with the end at which it stands.
+/// An operation and its end.
 #[derive(Clone, Copy, PartialEq, Eq, PartialOrd, Ord)]
 pub struct Entry {
+    /// The end.
     pub end: End,
+    /// The operation.
     pub op: OpId,
 }
 
-/// The operations at ends, sorted by end and then by rank and number. Contracts see the list of them.
+/// The operations at ends, sorted by end and then by rank and number. Contracts see a list of them.
 #[derive(Drop)]
 pub struct Ends {
     sorted: Vec<Entry>,
@@ -91,7 +97,7 @@ impl Model for Ends {
 }
 
 impl Ends {
-    /// The operations of a schedule that stand at an end.
+    /// Returns the operations of a schedule that have an end. `Err` means out of memory.
     pub fn of(alloc: Global, sched: &Sched) -> Result<Ends, AllocError>
         ensures { IfOk result (λ ends. AreEndsOf sched.now ends) }
     {
@@ -106,7 +112,7 @@ impl Ends {
         Ok(Ends { sorted })
     }
 
-    /// The least operation at that end, found in as many steps as their count has binary digits.
+    /// Returns the least operation at this end, in as many steps as the number of operations has binary digits.
     pub fn first(&self, end: End) -> Option<OpId>
         ensures found { IfSome result (IsFirstAt self.now end) }
         ensures none { IfNone result ((x : OpId) → Contains self.now (record { end = end; op = x }) → ⊥) }
@@ -118,7 +124,7 @@ impl Ends {
         }
     }
 
-    // Whether no two operations stand at one end.
+    // Whether no two operations have the same end.
     fn do_rise(&self) -> bool
         ensures { IsTrue result → DoRise self.now }
     {
@@ -132,7 +138,7 @@ impl Ends {
         true
     }
 
-    // Whether at the places of each of so many pairs a receive and the send of its channel stand.
+    // Whether in each of the first `pairs` pairs there are a receive and the send of its channel.
     fn do_alternate(&self, pairs: usize) -> bool
         requires { 2 * pairs ≤ length self.now }
         ensures { IsTrue result → DoAlternate self.now pairs }
@@ -147,8 +153,8 @@ impl Ends {
         true
     }
 
-    /// How many pairs there are, where the operations stand in pairs: at each end one alone, and the receive of a channel
-    /// right before its send.
+    /// Returns the number of pairs if the operations are in pairs: each end has one operation, and the receive of a
+    /// channel is right before its send.
     pub fn pairs(&self) -> Option<usize>
         ensures { IfSome result (ArePaired self.now) }
     {
@@ -159,7 +165,7 @@ impl Ends {
         None
     }
 
-    /// The two operations of the pair of that number, the receive first.
+    /// Returns the two operations of the pair of this number, the receive first.
     pub fn pair(&self, number: usize) -> (OpId, OpId)
         requires { 2 * number + 1 < length self.now }
         ensures receive { (d : Entry) → result.0 ≡ (slice_index_or self.now (2 * number) d).op }

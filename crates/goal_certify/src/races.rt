@@ -1,10 +1,10 @@
-// Races: two operations of a rank touch one slot, one of them writes it, and neither is before the other.
-//
-// Needs never leave a rank, so it goes rank by rank. `before` makes for each operation a row of bits: those that end
-// before it starts. `table` makes for each slot the row of the operations that touch it and of those that write it. In most
-// ranks what shares a slot is in the order of the numbers, which `ordered` sees touch by touch. In the others `table` makes
-// from its rows for each operation the row of those with which it shares a slot that one of the two writes, and `search`
-// takes the least pair in these rows, and its least slot.
+//! Races: two operations of a rank touch one slot, one of them writes it, and neither ends before the other starts.
+//!
+//! Needs never leave a rank, so it goes rank by rank. `before` makes for each operation a row of bits: the operations
+//! that end before it starts. `table` makes for each slot the row of the operations that touch it, and of those that
+//! write it. In most ranks the operations that share a slot are ordered as their numbers are, which `ordered` tests
+//! touch by touch. For the other ranks `table` makes a row for each operation: those with which it shares a slot that
+//! one of the two writes. `search` finds the least pair in these rows, and its least slot.
 ghost use Rattle.std.specs.Prelude.{◌≡◌, ◌*◌, ◌<◌, ◌≤◌, true, false, length, OnOk, IfOk, IfErr};
 ghost use Rattle.goal_graph.specs.Schedule.{ops_at};
 ghost use Rattle.goal_blocks.specs.Certification.{IsSmall};
@@ -31,11 +31,11 @@ use std::alloc::{AllocError, Global};
 use table::{mark, shared_rows, wipe};
 use touches::{Touch, touches_of_rank};
 
-/// Whether two operations of a rank race.
+/// Searches two operations of a rank that race.
 ///
 /// # Errors
 ///
-/// The least race, or want of memory.
+/// The least race, or `NoMemory`.
 pub fn check_races(alloc: Global, sched: &Sched) -> Result<(), CertFault>
     requires small { IsSmall sched.now }
     ensures free { OnOk result (IsFree sched.now 5 6) }
@@ -66,11 +66,14 @@ pub fn check_races(alloc: Global, sched: &Sched) -> Result<(), CertFault>
     Ok(())
 }
 
-/// Two operations of a rank and a slot.
+/// Two operations of a rank that race, and their slot.
 #[derive(Clone, Copy)]
 pub(crate) struct RankRace {
+    /// The lesser operation.
     pub first: u32,
+    /// The greater operation.
     pub second: u32,
+    /// The least slot that both touch and one of them writes.
     pub slot: u32,
 }
 

@@ -1,4 +1,4 @@
-// The first fault of certification: what is too large to be certified.
+//! The first fault of certification: what is too large to be certified.
 ghost use Rattle.std.specs.Prelude.{◌≡◌, ◌≤◌, ◌↔◌, ◌^◌, All, Any, length, sum_by, OnOk, OnSome, IfErr, IfSome, IfNone, IsTrue};
 ghost use Rattle.goal_blocks.specs.Certification.{NamesLowSlots, moved_count};
 ghost use Rattle.goal_certify.specs.Stages.{IsFree, IsStopped};
@@ -26,7 +26,7 @@ fn names_low_slots(note: Note) -> bool
     }
 }
 
-/// How many slots a note moves.
+/// Returns how many slots a note moves.
 pub fn count_moved(note: Note) -> u64
     ensures moved { result ≡ moved_count note }
     ensures few { result ≤ 2 ^ 32 }
@@ -37,7 +37,7 @@ pub fn count_moved(note: Note) -> u64
     }
 }
 
-// How many slots the notes of a rank move; none where one of them names a slot that is too high.
+// How many slots the notes of a rank move, or `None` if one of them names a slot that is too high.
 fn count_all_moved(notes: &[Note]) -> Option<u64>
     requires { length notes.now ≤ MAX_NOTES }
     ensures low { OnSome result (All NamesLowSlots notes.now) }
@@ -55,8 +55,8 @@ fn count_all_moved(notes: &[Note]) -> Option<u64>
     Some(count)
 }
 
-/// The least rank that has too many operations, or a note that names a slot that is too high, or whose moves and those
-/// of all lesser ranks name too many slots. One pass over the notes.
+/// Searches the least rank that has too many operations, or a note with a slot that is too high, or whose moves and
+/// those of all lesser ranks name too many slots. It takes one pass over the notes.
 pub fn check_sizes(sched: &Sched) -> Result<(), CertFault>
     ensures free { OnOk result (IsFree sched.now 0 1) }
     ensures fault { IfErr result (IsStopped sched.now 0 1) }

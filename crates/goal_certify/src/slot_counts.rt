@@ -1,4 +1,4 @@
-// How many slots each operation moves.
+//! How many slots each operation moves.
 ghost use Rattle.std.specs.Prelude.{ℕ, ◌≡◌, ◌<◌, ◌≤◌, length, map, sum_by, slice_index, IfOk};
 ghost use Rattle.goal_graph.specs.Schedule.{operations};
 ghost use Rattle.goal_blocks.specs.Slots.{moved_by, slots};
@@ -8,7 +8,7 @@ use goal_graph::{Note, Sched};
 use goal_limits::MAX_NOTES;
 use std::alloc::{AllocError, Global};
 
-/// The number of slots of each operation of a schedule, by rank and number.
+/// Returns how many slots each operation of a schedule moves, by rank and number. `Err` means out of memory.
 pub fn slot_counts(alloc: Global, sched: &Sched) -> Result<Vec<u64>, AllocError>
     ensures { IfOk result (λ counts. counts.items ≡ map (λ x. length (slots sched.now x)) (operations sched.now)) }
 {
@@ -20,7 +20,7 @@ pub fn slot_counts(alloc: Global, sched: &Sched) -> Result<Vec<u64>, AllocError>
     Ok(counts)
 }
 
-// The number of slots of each of so many operations of a rank that has these notes.
+// How many slots each of the first `ops` operations of a rank with these notes moves.
 fn counts_of_rank(alloc: Global, notes: &[Note], ops: usize) -> Result<Vec<u64>, AllocError>
     requires { length notes.now ≤ MAX_NOTES }
     ensures long { IfOk result (λ counts. length counts.items ≡ ops) }

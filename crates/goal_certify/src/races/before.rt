@@ -1,4 +1,4 @@
-// Which operations of a rank end before each of them starts.
+//! Which operations of a rank end before each of them starts.
 ghost use Rattle.std.specs.Prelude.{ℕ, ◌≡◌, ◌+◌, ◌*◌, ◌<◌, ◌≤◌, ◌⊎◌, true, false, [], length, OnOk, MatchOption, slice_index_or};
 ghost use Rattle.goal_graph.specs.declared.plan.When.TheVariants.{AfterEnd};
 ghost use Rattle.goal_graph.specs.Schedule.{ops_at};
@@ -12,7 +12,7 @@ use crate::races::rows::{join_within, make_room, put};
 use goal_graph::{Need, OpId, Sched, When};
 use std::alloc::{AllocError, Global};
 
-/// Each operation of the rank gets in its row those that end before it starts.
+/// Puts into the row of each operation of the rank the operations that end before it starts.
 pub(crate) fn rows_before(
     alloc: Global,
     sched: &Sched,
@@ -55,8 +55,8 @@ fn fill_all(
     Ok(())
 }
 
-// The row of an operation is done, after those of what it needs. On the path from the operation to the next one to be done, each
-// operation needs the one after it. The path is empty before and after.
+// Does the row of an operation, after those of what it needs. On the path from the operation to the next one to be
+// done, each operation needs the one after it. The path is empty before and after.
 fn fill(
     sched: &Sched,
     id: OpId,
@@ -110,7 +110,7 @@ fn first_missing(sched: &Sched, id: OpId, done: &[bool]) -> Option<u32>
     None
 }
 
-// The row of an operation gets what the rows of its needs have, and those that it needs to end.
+// Puts into the row of an operation what the rows of its needs have, and those that must have ended.
 fn gather(sched: &Sched, id: OpId, rows: &mut [u64], done: &[bool])
     requires exists { IsOp sched.now id }
     requires few { length (ops_at sched.now id.rank) ≤ 2048 }
@@ -127,8 +127,8 @@ fn gather(sched: &Sched, id: OpId, rows: &mut [u64], done: &[bool])
     }
 }
 
-// The row gets what the row of what is needed has, and what is needed where its end is. The numbers of a row stand in so many
-// words.
+// Puts into a row what the row of the needed operation has, and this operation if its end is needed. `words` is how
+// many words of a row may have numbers.
 fn take(rows: &mut [u64], op: usize, need: Need, words: usize)
     requires op { 32 * op + 32 ≤ length rows.old }
     requires needed { 32 * need.op + 32 ≤ length rows.old }

@@ -1,4 +1,4 @@
-// Whether the operations that share a slot are in the order of their numbers.
+//! Whether the operations that share a slot are in the order of their numbers.
 ghost use Rattle.std.specs.Prelude.{ℕ, ◌≡◌, ◌+◌, ◌*◌, ◌/◌, ◌<◌, ◌≤◌, true, false, All, length, IsTrue};
 ghost use Rattle.goal_certify.specs.Rows.{has};
 ghost use Rattle.goal_certify.specs.Table.{meets, AreMarked};
@@ -7,7 +7,8 @@ ghost use Rattle.goal_certify.specs.Races.{IsOrdered};
 use crate::races::rows::WORDS;
 use crate::races::touches::Touch;
 
-/// Whether each operation that a touch meets, and whose number is less, ends before the operation of the touch starts.
+/// Returns whether each operation that a touch meets, and whose number is less, ends before the operation of the touch
+/// starts.
 pub(crate) fn are_ordered(
     before: &[u64],
     touches: &[Touch],
@@ -28,7 +29,7 @@ pub(crate) fn are_ordered(
     true
 }
 
-// Whether this is so of the touch.
+// Whether this holds of the touch.
 fn is_ordered(before: &[u64], touch: Touch, touchers: &[u64], writers: &[u64]) -> bool
     requires few { touch.op < 2048 }
     requires before { 32 * touch.op + 32 ≤ length before.now }
@@ -40,7 +41,7 @@ fn is_ordered(before: &[u64], touch: Touch, touchers: &[u64], writers: &[u64]) -
     is_covered(others, touch.slot, before, touch.op)
 }
 
-// Whether the row has each number below its own that the other row has. It looks at 64 numbers at once.
+// Whether the row has each number below its own that the other row has. It compares 64 numbers at once.
 fn is_covered(others: &[u64], other: u32, rows: &[u64], row: u32) -> bool
     requires few { row < 2048 }
     requires other { 32 * other + 32 ≤ length others.now }

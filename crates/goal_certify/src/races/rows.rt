@@ -1,13 +1,13 @@
-// Rows of bits, one after another: each row is a set of numbers below 2,048.
+//! Rows of bits, one after another: each row is a set of numbers below 2,048.
 ghost use Rattle.std.specs.Prelude.{ℕ, ◌≡◌, ◌≢◌, ◌+◌, ◌*◌, ◌<◌, ◌≤◌, ◌⊎◌, true, length, OnOk};
 ghost use Rattle.goal_certify.specs.Rows.{has};
 
 use std::alloc::AllocError;
 
-/// A row has so many words of 64 bits.
+/// The number of words of 64 bits of a row.
 pub(crate) const WORDS: usize = 32;
 
-/// Whether the row has the number.
+/// Returns whether the row has the number.
 pub(crate) fn is_in(rows: &[u64], row: usize, number: u32) -> bool
     requires row { 32 * row + 32 ≤ length rows.now }
     requires number { number < 2048 }
@@ -17,7 +17,7 @@ pub(crate) fn is_in(rows: &[u64], row: usize, number: u32) -> bool
     (word >> (number % 64)) & 1 == 1
 }
 
-/// The row gets the number.
+/// Puts the number into the row.
 pub(crate) fn put(rows: &mut [u64], row: usize, number: u32)
     requires row { 32 * row + 32 ≤ length rows.old }
     requires number { number < 2048 }
@@ -29,7 +29,7 @@ pub(crate) fn put(rows: &mut [u64], row: usize, number: u32)
     rows[WORDS * row + number as usize / 64] |= 1 << (number % 64);
 }
 
-/// The row gets what a row of other ones has.
+/// Puts what a row of another table has into the row.
 pub(crate) fn join(rows: &mut [u64], row: usize, others: &[u64], other: usize)
     requires row { 32 * row + 32 ≤ length rows.old }
     requires other { 32 * other + 32 ≤ length others.now }
@@ -43,7 +43,7 @@ pub(crate) fn join(rows: &mut [u64], row: usize, others: &[u64], other: usize)
     }
 }
 
-/// The row gets what another one of these rows has, whose numbers stand in so many words.
+/// Puts what another row of this table has into the row. `words` is how many words of it may have numbers.
 pub(crate) fn join_within(rows: &mut [u64], row: usize, other: usize, words: usize)
     requires row { 32 * row + 32 ≤ length rows.old }
     requires other { 32 * other + 32 ≤ length rows.old }
@@ -60,7 +60,7 @@ pub(crate) fn join_within(rows: &mut [u64], row: usize, other: usize, words: usi
     }
 }
 
-/// The row does not have the number, nor any other of its word.
+/// Removes the number from the row, and all others of its word.
 pub(crate) fn clear(rows: &mut [u64], row: usize, number: u32)
     requires row { 32 * row + 32 ≤ length rows.old }
     requires number { number < 2048 }
@@ -70,7 +70,7 @@ pub(crate) fn clear(rows: &mut [u64], row: usize, number: u32)
     rows[WORDS * row + number as usize / 64] = 0;
 }
 
-/// The first rows are empty. They had numbers below their count alone, and no row behind them had one.
+/// Empties the first rows. They had only numbers below their count, and no row after them had a number.
 pub(crate) fn clear_rows(rows: &mut [u64], count: usize)
     requires few { count ≤ 2048 }
     requires room { 32 * count ≤ length rows.old }
@@ -83,7 +83,7 @@ pub(crate) fn clear_rows(rows: &mut [u64], count: usize)
     }
 }
 
-// The row has no number in so many words.
+// Empties the first `words` words of the row.
 fn clear_words(rows: &mut [u64], row: usize, words: usize)
     requires row { 32 * row + 32 ≤ length rows.old }
     requires words { words ≤ 32 }
@@ -95,7 +95,7 @@ fn clear_words(rows: &mut [u64], row: usize, words: usize)
     }
 }
 
-/// There are rows up to this one. New ones are empty.
+/// Extends the table up to this row. New rows are empty.
 pub(crate) fn make_room(rows: &mut Vec<u64>, row: usize) -> Result<(), AllocError>
     requires { row < 65536 }
     ensures room { OnOk result (32 * row + 32 ≤ length rows.new.items) }

@@ -1,4 +1,4 @@
-// The least pair of operations that race, and their least slot.
+//! The least pair of operations that race, and their least slot.
 ghost use Rattle.std.specs.Prelude.{ℕ, ◌≡◌, ◌+◌, ◌*◌, ◌/◌, ◌<◌, ◌≤◌, true, false, length, All};
 ghost use Rattle.goal_certify.specs.Rows.{has};
 ghost use Rattle.goal_certify.specs.Table.{meets, AreMarked};
@@ -10,11 +10,14 @@ use crate::races::touches::Touch;
 /// Two operations of a rank, the lesser first.
 #[derive(Clone, Copy)]
 pub(crate) struct Pair {
+    /// The lesser operation.
     pub first: u32,
+    /// The greater operation.
     pub second: u32,
 }
 
-/// The least pair of operations that share a slot which one writes, and of which neither ends before the other starts.
+/// Returns the least pair of operations that share a slot which one of them writes, and of which neither ends before
+/// the other starts.
 pub(crate) fn first_open(before: &[u64], shared: &[u64], count: u32) -> Option<Pair>
     requires few { count ≤ 2048 }
     requires before { 32 * count ≤ length before.now }
@@ -33,7 +36,7 @@ pub(crate) fn first_open(before: &[u64], shared: &[u64], count: u32) -> Option<P
     None
 }
 
-// Whether there is such a pair: most schedules have none, and of these it looks at 64 operations at once.
+// Whether there is such a pair. Most schedules have none, and then 64 operations are compared at once.
 fn is_any_open(before: &[u64], shared: &[u64], count: u32) -> bool
     requires few { count ≤ 2048 }
     requires before { 32 * count ≤ length before.now }
@@ -65,8 +68,8 @@ fn is_open_below(before: &[u64], shared: &[u64], second: u32) -> bool
     false
 }
 
-// The same of the operations whose bits stand in one word. Those below the first that does not end before this one starts
-// are passed together.
+// The same for the operations whose bits are in one word. Those below the first that does not end before this one
+// starts are passed together.
 fn is_open_in_word(before: &[u64], shared: &[u64], second: u32, place: u32) -> bool
     requires few { second < 2048 }
     requires place { place < 32 }
@@ -105,7 +108,7 @@ fn next_open(before: &[u64], shared: &[u64], first: u32, count: u32) -> Option<u
     None
 }
 
-// The operation itself, or the first one behind it whose bit stands in the next word, where the row has none in this one.
+// The operation itself, or the first one whose bit is in the next word, if the row has none in this one.
 fn skip(shared: &[u64], first: u32, second: u32) -> u32
     requires second { second < 2048 }
     requires shared { 32 * first + 32 ≤ length shared.now }
@@ -131,7 +134,7 @@ fn is_open(before: &[u64], shared: &[u64], first: u32, second: u32) -> bool
         && !is_in(before, first as usize, second)
 }
 
-/// The least slot that both touch and one of them writes.
+/// Returns the least slot that both touch and one of them writes.
 pub(crate) fn least_slot(
     touches: &[Touch],
     touchers: &[u64],
@@ -150,7 +153,7 @@ pub(crate) fn least_slot(
     least
 }
 
-// The least slot with one touch more.
+// The least slot with another touch.
 fn least_with(
     least: Option<u32>,
     touch: Touch,
@@ -180,7 +183,7 @@ fn is_met(touch: Touch, touchers: &[u64], writers: &[u64], op: u32) -> bool
     is_in(others, touch.slot as usize, op)
 }
 
-// The lesser one of two slots, of which the first may be missing.
+// The lesser of two slots, of which the first may be missing.
 fn lesser(least: Option<u32>, slot: u32) -> u32
     ensures { result ≡ lesser least slot }
 {

@@ -1,4 +1,4 @@
-// Which operations of a rank touch one slot.
+//! Which operations of a rank touch one slot.
 ghost use Rattle.std.specs.Prelude.{ℕ, ◌≡◌, ◌+◌, ◌*◌, ◌<◌, ◌≤◌, ◌⊎◌, true, false, length, All, Contains, OnOk, IfOk};
 ghost use Rattle.goal_certify.specs.Rows.{has};
 ghost use Rattle.goal_certify.specs.Table.{is_marked, AreEmpty, AreMarked, meets, AreShared};
@@ -7,7 +7,7 @@ use crate::races::rows::{WORDS, clear, join, make_room, put};
 use crate::races::touches::Touch;
 use std::alloc::{AllocError, Global};
 
-/// The row of each slot gets the operations that touch it, or only those that write it.
+/// Puts into the row of each slot the operations that touch it, or only those that write it. `Err` means out of memory.
 pub(crate) fn mark(
     rows: &mut Vec<u64>,
     touches: &[Touch],
@@ -24,7 +24,7 @@ pub(crate) fn mark(
     Ok(())
 }
 
-// The row of the slot gets the operation.
+// Puts the operation into the row of the slot.
 fn mark_one(rows: &mut Vec<u64>, touch: Touch, only_writes: bool) -> Result<(), AllocError>
     requires op { touch.op < 2048 }
     requires slot { touch.slot < 65536 }
@@ -41,7 +41,7 @@ fn mark_one(rows: &mut Vec<u64>, touch: Touch, only_writes: bool) -> Result<(), 
     Ok(())
 }
 
-// The row gets the number where the test holds.
+// Puts the number into the row if the test holds.
 fn put_if(rows: &mut [u64], row: usize, number: u32, test: bool)
     requires row { 32 * row + 32 ≤ length rows.old }
     requires number { number < 2048 }
@@ -55,7 +55,7 @@ fn put_if(rows: &mut [u64], row: usize, number: u32, test: bool)
     }
 }
 
-/// The rows of these slots are empty. Of a row only the words that have a number are written.
+/// Empties the rows of these slots. Only the words of a row that have a number are written.
 pub(crate) fn wipe(rows: &mut [u64], touches: &[Touch], only_writes: bool)
     requires ops { All (λ t. t.op < 2048) touches.now }
     requires marked { AreMarked only_writes touches.now rows.old }
@@ -66,7 +66,7 @@ pub(crate) fn wipe(rows: &mut [u64], touches: &[Touch], only_writes: bool)
     }
 }
 
-/// For each operation a row of those with which it shares a slot that one of the two writes.
+/// Returns for each operation the row of those with which it shares a slot that one of the two writes.
 pub(crate) fn shared_rows(
     alloc: Global,
     touches: &[Touch],
@@ -86,7 +86,7 @@ pub(crate) fn shared_rows(
     Ok(rows)
 }
 
-// The row of each operation gets those that its touches meet.
+// Puts into the row of each operation those that its touches meet.
 fn share_all(rows: &mut [u64], touches: &[Touch], touchers: &[u64], writers: &[u64])
     requires empty { AreEmpty rows.old }
     requires room { All (λ t. 32 * t.op + 32 ≤ length rows.old) touches.now }
@@ -99,7 +99,7 @@ fn share_all(rows: &mut [u64], touches: &[Touch], touchers: &[u64], writers: &[u
     }
 }
 
-// The row of the operation gets those that its touch meets.
+// Puts into the row of the operation those that its touch meets.
 fn share(rows: &mut [u64], touch: Touch, touchers: &[u64], writers: &[u64])
     requires op { 32 * touch.op + 32 ≤ length rows.old }
     requires touchers { 32 * touch.slot + 32 ≤ length touchers.now }

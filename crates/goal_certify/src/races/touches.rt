@@ -1,4 +1,4 @@
-// Which slots the operations of a rank touch.
+//! Which slots the operations of a rank touch.
 ghost use Rattle.std.specs.Prelude.{◌≡◌, ◌≤◌, ◌+◌, ◌-◌, [], ◌∷◌, ◌++◌, true, false, All, flat_map, slice_get, OnOk, IfOk};
 ghost use Rattle.std.specs.Option.{option_map};
 ghost use Rattle.goal_blocks.specs.Certification.{NamesLowSlots};
@@ -8,20 +8,23 @@ ghost use Rattle.goal_certify.specs.Touches.{touches_of, moved};
 use goal_graph::{Kind, Note, Op, RankPlan};
 use std::alloc::{AllocError, Global};
 
-/// An operation touches a slot.
+/// That an operation touches a slot.
 #[derive(Clone, Copy)]
 pub(crate) struct Touch {
+    /// The operation, by its number at its rank.
     pub op: u32,
+    /// The slot.
     pub slot: u32,
+    /// Whether it writes the slot.
     pub writes: bool,
 }
 
-/// The touches of a rank, in the order of its notes.
+/// Returns the touches of a rank, in the order of its notes. `Err` means out of memory.
 pub(crate) fn touches_of_rank(alloc: Global, plan: &RankPlan) -> Result<Vec<Touch>, AllocError>
     requires { All NamesLowSlots plan.now.notes }
     ensures { IfOk result (λ touches. touches.items ≡ flat_map (touches_of plan.now.ops) plan.now.notes) }
 {
-    // an addition touches two slots, and a move mostly one
+    // an addition touches two slots, and a move usually one
     let mut touches = Vec::with_capacity(alloc, 2 * plan.notes.len())?;
     for note in &plan.notes {
         push_touches(&mut touches, &plan.ops, *note)?;
@@ -47,7 +50,7 @@ fn push_touches(touches: &mut Vec<Touch>, ops: &[Op], note: Note) -> Result<(), 
     }
 }
 
-// What the operation of a number is, if there is one.
+// The kind of the operation of this number, if it exists.
 fn kind_of(ops: &[Op], op: u32) -> Option<Kind>
     ensures { result ≡ option_map (λ o. o.kind) (slice_get ops.now op) }
 {

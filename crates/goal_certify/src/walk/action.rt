@@ -1,10 +1,12 @@
-// An action that has happened, or may.
+//! An action that has happened, or may.
 
 use goal_graph::{Class, OpId};
 
 /// A class of action, of one operation; for `Arrive` and `Data` that is the send.
 #[derive(Clone, Copy)]
 pub struct Action {
+    /// The class.
     pub class: Class,
+    /// The operation; for `Arrive` and `Data` the send.
     pub op: OpId,
 }

@@ -1,4 +1,4 @@
-// What a walker keeps of each operation, in a table in the order of all operations.
+//! What a walker keeps of each operation, in a table in the order of all operations.
 ghost use Rattle.std.specs.Prelude.{◌≡◌, length, map, IfSome};
 ghost use Rattle.goal_graph.specs.declared.action.OpId.{OpId};
 ghost use Rattle.goal_graph.specs.Schedule.{operations};
@@ -9,18 +9,24 @@ ghost use Rattle.goal_certify.specs.WalkSoFar.{is_done, with_class, with_entry, 
 use goal_graph::{Class, OpId, Sched};
 use goal_progress::entry_of_mut;
 
-/// Which actions of an operation have happened, and the operation that it is paired with.
+/// Which actions of an operation have happened, and its partner.
 #[derive(Clone, Copy)]
 pub struct Entry {
+    /// Whether the send has arrived.
     pub arrived: bool,
+    /// Whether the receive has taken its message.
     pub served: bool,
+    /// Whether the send has transferred its data.
     pub sent: bool,
+    /// Whether the receive has been posted.
     pub posted: bool,
+    /// Whether the calc or the send has begun.
     pub begun: bool,
+    /// The operation with which it is paired, once it is.
     pub paired: Option<OpId>,
 }
 
-/// Of an operation that has done nothing.
+/// The entry of an operation that has done nothing.
 pub const BLANK: Entry = Entry {
     arrived: false,
     served: false,
@@ -30,7 +36,7 @@ pub const BLANK: Entry = Entry {
     paired: None,
 };
 
-/// Whether the action of this class has happened.
+/// Returns whether the action of this class has happened.
 pub fn is_done(entry: Entry, class: Class) -> bool
     ensures { result ≡ is_done entry class }
 {
@@ -43,7 +49,7 @@ pub fn is_done(entry: Entry, class: Class) -> bool
     }
 }
 
-/// The entry once the action of this class has happened too.
+/// Returns the entry after the action of this class.
 pub fn with_class(entry: Entry, class: Class) -> Entry
     ensures { result ≡ with_class class entry }
 {
@@ -69,7 +75,7 @@ fn pair(sched: &Sched, entries: &mut [Entry], id: OpId, with: OpId)
     entry_of_mut(entries, sched, with).paired = Some(id);
 }
 
-/// Writes the entry of an operation and, where it has a partner, that the two are paired.
+/// Writes the entry of an operation and, if it has a partner, that the two are paired.
 pub fn write_met(
     sched: &Sched,
     entries: &mut [Entry],

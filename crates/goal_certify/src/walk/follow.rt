@@ -1,4 +1,4 @@
-// The queue of a walker: which operations may act, and how it follows what happens.
+//! The queue of a walker: which operations may act, and how it is updated after an action.
 ghost use Rattle.std.specs.Prelude.{◌≡◌, [], ◌∷◌, drop, ◌⊎◌, true, IfSome, IfNone, Some, length};
 ghost use Rattle.goal_graph.specs.declared.action.OpId.{OpId};
 ghost use Rattle.goal_graph.specs.declared.action.Class.{Class};
@@ -17,7 +17,7 @@ use super::turns::Turns;
 use goal_graph::{Class, OpId};
 use goal_progress::{Cursor, entry_of_mut};
 
-/// Gives each operation its key, before the first action: those may act that need none.
+/// Puts the key of each operation that may act before the first action: those without needs.
 pub fn fill(state: &State, queue: &mut Turns)
     requires start { state.now.history ≡ [] }
     requires each { length queue.old ≡ length (operations state.now.plans) }
@@ -28,7 +28,7 @@ pub fn fill(state: &State, queue: &mut Turns)
     }
 }
 
-// Gives an operation its key, before the first action.
+// Puts the key of an operation, before the first action.
 fn fill_one(state: &State, queue: &mut Turns, id: OpId)
     requires exists { IsOp state.now.plans id }
     requires start { state.now.history ≡ [] }
@@ -44,7 +44,7 @@ fn fill_one(state: &State, queue: &mut Turns, id: OpId)
     queue.take(slot);
 }
 
-/// The action that happens next, none where none may happen.
+/// Returns the action that happens next, or `None` if none may happen.
 pub fn next(state: &State, queue: &Turns) -> Option<Action>
     requires { IsQueue state.now.plans state.now.history queue.now }
     ensures may { IfSome result (λ a. may_act state.now.plans state.now.history a.class a.op ≡ true) }
@@ -62,8 +62,8 @@ pub fn next(state: &State, queue: &Turns) -> Option<Action>
     })
 }
 
-/// Gives their keys to those whose next action may be another after this action, the last that has happened: its operation, the partner of that, and
-/// the operations that wait for it.
+/// Updates the keys of the operations whose next action may be another after this action, the last that has happened:
+/// its operation, the partner of this, and the operations that wait for it.
 pub fn follow(state: &State, queue: &mut Turns, cursors: &mut [Cursor], action: Action)
     requires exists { IsOp state.now.plans action.op }
     requires newest { state.now.history ≡ act_of action ∷ drop 1 state.now.history }
@@ -77,7 +77,8 @@ pub fn follow(state: &State, queue: &mut Turns, cursors: &mut [Cursor], action: 
     follow_waiting(state, queue, cursors, action);
 }
 
-// Gives its key to the operation of an action, the last that has happened. Its needs are not looked at: it has started.
+// Updates the key of the operation of an action, the last that has happened. Its needs are not tested, because it has
+// started.
 fn follow_own(state: &State, queue: &mut Turns, action: Action)
     requires exists { IsOp state.now.plans action.op }
     requires each { length queue.old ≡ length (operations state.now.plans) }
@@ -91,7 +92,7 @@ fn follow_own(state: &State, queue: &mut Turns, action: Action)
     }
 }
 
-// Whether an action of that class may let the partner act.
+// Whether an action of this class may let the partner act.
 fn moves_partner(class: Class) -> bool
     ensures { result ≡ moves_partner class }
 {
@@ -101,8 +102,8 @@ fn moves_partner(class: Class) -> bool
     }
 }
 
-// Gives its key to the partner of the operation of an action, the last that has happened, if it has one and the action lets it
-// act.
+// Updates the key of the partner of an action's operation, if it has one and the action may let it act. The action is
+// the last that has happened.
 fn follow_partner(state: &State, queue: &mut Turns, action: Action)
     requires exists { IsOp state.now.plans action.op }
     requires newest { state.now.history ≡ act_of action ∷ drop 1 state.now.history }
@@ -121,7 +122,7 @@ fn follow_partner(state: &State, queue: &mut Turns, action: Action)
     queue.put(state.sched().index(partner));
 }
 
-// Gives their keys to the operations that wait for this action.
+// Updates the keys of the operations that wait for this action.
 fn follow_waiting(state: &State, queue: &mut Turns, cursors: &mut [Cursor], action: Action)
     requires exists { IsOp state.now.plans action.op }
     requires rest { IsQueueBut state.now.plans state.now.history (λ slot. WaitsAt state.now.plans action.class action.op) queue.old }
@@ -142,7 +143,7 @@ fn follow_waiting(state: &State, queue: &mut Turns, cursors: &mut [Cursor], acti
     }
 }
 
-// The class of the action of an operation that may happen, if one may. Its needs are looked at from its cursor on.
+// The class of the action of an operation that may happen, if one may. Its needs are tested from its cursor on.
 fn choice_from(state: &State, cursors: &mut [Cursor], id: OpId) -> Option<Class>
     requires exists { IsOp state.now.plans id }
     requires cursors { AreCursors state.now.plans state.now.history cursors.old }
@@ -153,7 +154,7 @@ fn choice_from(state: &State, cursors: &mut [Cursor], id: OpId) -> Option<Class>
     state.choice(id, cursor)
 }
 
-// Gives an operation its key where it may act, and takes the key where it may not.
+// Puts the key of an operation if it may act, and removes the key if it may not.
 fn refresh(state: &State, queue: &mut Turns, cursors: &mut [Cursor], id: OpId)
     requires exists { IsOp state.now.plans id }
     requires each { length queue.old ≡ length (operations state.now.plans) }

@@ -1,19 +1,23 @@
-// What is held along the walk: the values of slots, and what is under way.
+//! What is held along the walk: the values of slots, and those under way.
 
 use goal_values::{Lent, SlotValues};
 
-/// The values that are under way to a receive, and how many contributions these are.
+/// The values that are under way to a receive, and how many contributions these have.
 #[derive(Drop)]
 pub struct Parcel {
+    /// The values.
     pub lent: Lent,
+    /// The number of their contributions.
     pub size: u64,
 }
 
-/// The values of slots, a parcel for each send that has read and whose receive has not taken, in the order of all operations, and how
-/// many contributions the parcels have.
+/// The values of slots, and a parcel for each send that has read its values and whose receive has not taken them.
 #[derive(Drop)]
 pub struct Holdings {
+    /// The values of slots.
     pub store: SlotValues,
+    /// The parcel of each send, if it is under way, in the order of all operations.
     pub parcels: Vec<Option<Parcel>>,
+    /// The number of contributions of all parcels.
     pub carried: u64,
 }

@@ -1,4 +1,4 @@
-// The seventh fault of certification: an operation that has no end in the walk.
+//! The seventh fault of certification: an operation that has no end in the walk.
 ghost use Rattle.std.specs.Prelude.{◌≡◌, OnOk, IfErr};
 ghost use Rattle.goal_blocks.specs.Walk.{IsWalk};
 ghost use Rattle.goal_certify.specs.Stages.{IsFree, IsStopped};
@@ -6,7 +6,7 @@ ghost use Rattle.goal_certify.specs.Stages.{IsFree, IsStopped};
 use super::Walker;
 use goal_blocks::CertFault;
 
-/// The least operation that has no end in the walk, after a walker has gone to the end of it.
+/// Searches the least operation that has no end in the walk, after the walker has finished.
 pub fn check_stalls(walker: &mut Walker) -> Result<(), CertFault>
     ensures plans { walker.new.plans ≡ walker.old.plans }
     ensures free { OnOk result (IsFree walker.new.plans 6 7) }

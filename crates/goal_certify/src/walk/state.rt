@@ -1,4 +1,4 @@
-// What has happened so far, and what may happen next of each operation.
+//! The actions so far, and what may happen next of each operation.
 ghost use Rattle.std.specs.Prelude.{◌≡◌, ◌↔◌, [], ◌∷◌, drop, true, false, Some, IfOk, IsTrue};
 ghost use Rattle.goal_graph.specs.declared.action.Class.{Class};
 ghost use Rattle.goal_graph.specs.declared.action.Class.TheVariants.{Arrive, Serve, Data, Post, Begin};
@@ -23,19 +23,19 @@ use sim_order::Past;
 use std::alloc::Global;
 use std::marker::Model;
 
-/// A schedule under way, none of whose sends is eager. Contracts see it as the plans of the schedule and what has
-/// happened so far, newest first.
+/// A schedule during its walk, in which no send is eager. Contracts see it as the plans of the schedule and the actions
+/// so far, the newest first.
 pub struct State<'a> {
     sched: &'a Sched,
-    // what has happened, oldest first
+    // the actions so far, the oldest first
     history: Past<Action>,
     // what is known of each operation, in the order of all
     entries: Vec<Entry>,
-    // who is paired with whom
+    // the matcher
     matcher: Matcher<'a>,
 }
 
-// It goes by a call, as a walker does.
+// It is dropped by a call, as a walker is.
 impl Drop for State<'_> {
     fn drop(self) {
         let State {
@@ -58,7 +58,8 @@ impl<'a> Model for State<'a> {
 }
 
 impl<'a> State<'a> {
-    /// A schedule before its first action. It takes all memory of the walk; no later call takes any.
+    /// Creates the state of a schedule before its first action. It allocates all memory of the walk; no later call
+    /// allocates any. `Err` means out of memory.
     pub fn new(alloc: Global, sched: &'a Sched) -> Result<State<'a>, NoMemory>
         ensures plans { IfOk result (λ s. s.plans ≡ sched.now) }
         ensures empty { IfOk result (λ s. s.history ≡ []) }
@@ -75,14 +76,14 @@ impl<'a> State<'a> {
         })
     }
 
-    /// The schedule.
+    /// Returns the schedule.
     pub fn sched(&self) -> &'a Sched
         ensures { result.now ≡ self.now.plans }
     {
         self.sched
     }
 
-    /// What holds of every state: its schedule is accepted, and what has happened is an interleaving.
+    /// What holds of every state: its schedule is accepted, and the actions so far are an interleaving.
     pub fn known(&self)
         ensures accepted { IsAccepted self.now.plans }
         ensures each { IsInterleaving self.now.plans no_send self.now.history }
@@ -98,7 +99,7 @@ impl<'a> State<'a> {
         *entry_of(&self.entries, self.sched, id)
     }
 
-    /// The operation that another is paired with, once it is.
+    /// Returns the operation with which another is paired, once it is.
     pub fn partner(&self, id: OpId) -> Option<OpId>
         requires { IsOp self.now.plans id }
         ensures { result ≡ partner (pairs self.now.plans self.now.history) id }
@@ -106,8 +107,8 @@ impl<'a> State<'a> {
         self.entry(id).paired
     }
 
-    /// The class of the action of an operation that may happen next, if one may. While it has not started its cursor
-    /// goes on to the first need that is not met, or past all: the next call looks from there on.
+    /// Returns the class of the action of an operation that may happen next, if one may. While it has not started, its
+    /// cursor advances to the first need that is not met, or past all, and the next call starts there.
     pub fn choice(&self, id: OpId, cursor: &mut Cursor) -> Option<Class>
         requires op { IsOp self.now.plans id }
         requires cursor { IsCursorOf self.now.plans self.now.history id cursor.old }
@@ -153,7 +154,8 @@ impl<'a> State<'a> {
         None
     }
 
-    /// The class of the action of an operation that may happen after this one of it, the last that has happened.
+    /// Returns the class of the action of an operation that may happen after this one, its own and the last that has
+    /// happened.
     pub fn choice_after(&self, action: Action) -> Option<Class>
         requires op { IsOp self.now.plans action.op }
         requires newest { self.now.history ≡ act_of action ∷ drop 1 self.now.history }
@@ -195,7 +197,7 @@ impl<'a> State<'a> {
         None
     }
 
-    /// The class of the action of an operation that may happen, where one may. Its needs are not looked at.
+    /// Returns the class of the action of an operation that may happen, if one may. Its needs are not tested.
     pub fn class_of(&self, id: OpId) -> Class
         requires op { IsOp self.now.plans id }
         requires some { (class : Class) × (may_act self.now.plans self.now.history class id ≡ true) }
@@ -258,7 +260,7 @@ impl<'a> State<'a> {
         !entry.arrived && entry.begun
     }
 
-    // Whether a send may hand over its bytes: once it is paired.
+    // Whether a send may transfer its data: once it is paired.
     fn may_hand_over(&self, send: OpId) -> bool
         requires { IsSend self.now.plans send }
         ensures { result ≡ may_act self.now.plans self.now.history Data send }
@@ -267,7 +269,7 @@ impl<'a> State<'a> {
         !entry.sent && entry.paired.is_some()
     }
 
-    // Whether a receive may take its message: once its send has handed it over.
+    // Whether a receive may take its message: once its send has transferred the data.
     fn may_serve(&self, recv: OpId) -> bool
         requires { IsReceive self.now.plans recv }
         ensures { result ≡ may_act self.now.plans self.now.history Serve recv }
@@ -316,7 +318,7 @@ impl Progress for State<'_> {
     }
 }
 
-// Tells the matcher of an action. Answers the operation that it pairs with that of the action.
+// Gives an action to the matcher. Returns the operation that this pairs with that of the action.
 fn meet(matcher: &mut Matcher, action: Action) -> Option<OpId>
     requires receive { action.class ≡ Post → IsReceive matcher.old.plans action.op }
     requires send { action.class ≡ Arrive → IsSend matcher.old.plans action.op }
@@ -332,7 +334,7 @@ fn meet(matcher: &mut Matcher, action: Action) -> Option<OpId>
     }
 }
 
-// The class of the action from which the start of an operation of this kind is counted.
+// The class of the action that determines the start of an operation of this kind.
 fn first_class(kind: Kind) -> Class
     ensures { result ≡ first_class (Some kind) }
 {
@@ -342,7 +344,7 @@ fn first_class(kind: Kind) -> Class
     }
 }
 
-// The class of the action from which its end is counted.
+// The class of the action that determines its end.
 fn last_class(kind: Kind) -> Class
     ensures { result ≡ last_class false (Some kind) }
 {
@@ -353,7 +355,7 @@ fn last_class(kind: Kind) -> Class
     }
 }
 
-// The class of the action of an operation of this kind that is the moment which a dependency waits for.
+// The class of the action that a dependency waits for, at an operation of this kind.
 fn class_at(when: When, kind: Kind) -> Class
     ensures { result ≡ class_at when (Some kind) }
 {
@@ -363,7 +365,7 @@ fn class_at(when: When, kind: Kind) -> Class
     }
 }
 
-/// Whether an action of that class of an operation of this kind is the moment which a dependency waits for.
+/// Returns whether a dependency waits for the action of this class, at an operation of this kind.
 pub fn is_moment(class: Class, when: When, kind: Kind) -> bool
     ensures { IsTrue result ↔ class_at when (Some kind) ≡ class }
 {

@@ -1,4 +1,4 @@
-// The queue of a walker: a set of places, of which the least is found at once.
+//! The queue of a walker: a set of places, which finds the least at once.
 ghost use Rattle.std.specs.Prelude.{ℕ, ◌≡◌, ◌≢◌, ◌+◌, ◌*◌, ◌/◌, ◌^◌, ◌<◌, ◌≤◌, true, false, nat_lt, IsTrue, Some, None, IfSome, IfNone, IfOk, length, replicate, slice_set, slice_index};
 ghost use Rattle.sim_heaps.specs.Map.{key_at, IsEmptyMap, IsLeast};
 ghost use Rattle.goal_certify.specs.Turns.{is_on};
@@ -7,8 +7,9 @@ use goal_limits::NoMemory;
 use std::alloc::Global;
 use std::marker::Model;
 
-/// The places below a count, in a set. They are the bits of words, and a bit above tells of each word whether it has one, so
-/// that 4,096 places are passed at once where none of them is there. Contracts see for each place itself, where it is there.
+/// A set of places below a count. The places are bits of words, and a bit above says of each word whether it is 0, so
+/// 4,096 places without an element are passed at once. Contracts see a list that has for each place itself, if it is in
+/// the set.
 #[derive(Drop)]
 pub struct Turns {
     words: Vec<u64>,
@@ -28,7 +29,7 @@ impl Model for Turns {
 }
 
 impl Turns {
-    /// A set of none of so many places. It takes all its memory here.
+    /// Creates an empty set for `count` places. It allocates all its memory here. `Err` means out of memory.
     pub fn new(alloc: Global, count: u32) -> Result<Turns, NoMemory>
         ensures { IfOk result (λ q. q ≡ replicate count None) }
     {
@@ -42,7 +43,7 @@ impl Turns {
         })
     }
 
-    /// The place is there.
+    /// Puts a place into the set.
     pub fn put(&mut self, place: u32)
         requires { place < length self.old }
         ensures { self.new ≡ slice_set self.old place (Some place) }
@@ -52,7 +53,7 @@ impl Turns {
         put_bit(&mut self.heads, at / 64);
     }
 
-    /// The place is not there.
+    /// Removes a place from the set.
     pub fn take(&mut self, place: u32)
         requires { place < length self.old }
         ensures { self.new ≡ slice_set self.old place None }
@@ -64,7 +65,7 @@ impl Turns {
         }
     }
 
-    /// The least place that is there.
+    /// Returns the least place in the set.
     pub fn least(&self) -> Option<u32>
         ensures none { IfNone result (IsEmptyMap self.now) }
         ensures least { IfSome result (λ place. IsLeast nat_lt self.now place place) }
@@ -78,7 +79,7 @@ impl Turns {
     }
 }
 
-// The place of the first word that is not 0.
+// The index of the first word that is not 0.
 fn first_some(words: &[u64]) -> Option<usize>
     ensures within { IfSome result (λ at. at < length words.now) }
     ensures some { IfSome result (λ at. 0 < slice_index words.now at) }
@@ -93,7 +94,7 @@ fn first_some(words: &[u64]) -> Option<usize>
     None
 }
 
-// The place of the lowest bit of a word that is not 0.
+// The index of the lowest 1 bit of a word that is not 0.
 fn lowest(words: &[u64], word: usize) -> usize
     requires within { word < length words.now }
     requires few { word < 2 ^ 32 }
@@ -105,7 +106,7 @@ fn lowest(words: &[u64], word: usize) -> usize
     64 * word + words[word].trailing_zeros() as usize
 }
 
-// The bit is 1.
+// Sets the bit to 1.
 fn put_bit(words: &mut Vec<u64>, at: usize)
     requires { at / 64 < length words.old.items }
     ensures on { is_on words.new.items at ≡ true }
@@ -116,7 +117,7 @@ fn put_bit(words: &mut Vec<u64>, at: usize)
     words[at / 64] |= 1 << (at % 64);
 }
 
-// The bit is 0.
+// Sets the bit to 0.
 fn take_bit(words: &mut Vec<u64>, at: usize)
     requires { at / 64 < length words.old.items }
     ensures off { is_on words.new.items at ≡ false }

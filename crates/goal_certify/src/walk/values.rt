@@ -1,5 +1,5 @@
-// What an action changes of the values of slots and of what is under way. All is counted before it is made, so that no
-// more than 2^24 contributions are ever held.
+//! How an action changes the values of slots and those under way. Contributions are counted before they are added, so
+//! that never more than 2^24 are held.
 ghost use Rattle.std.specs.Prelude.{◌≡◌, ℕ, ◌+◌, ◌^◌, ◌<◌, ◌≤◌, Some, None, slice_index_or, slice_set, length, map, OnOk, IfOk, IfErr};
 ghost use Rattle.goal_graph.specs.Fault.{IsOp};
 ghost use Rattle.goal_blocks.specs.declared.cert_fault.CertFault.TheVariants.{NoMemory};
@@ -25,10 +25,10 @@ use goal_blocks::{CertFault, SlotTable};
 use goal_graph::{Class, Kind, OpId};
 use goal_values::SlotValues;
 
-/// The most contributions that may be held.
+/// The largest number of contributions that may be held.
 pub const MOST_HELD: u64 = 1 << 24;
 
-/// A calc adds by its notes, while so many other contributions are held.
+/// A calc adds by its notes, while `others` other contributions are held.
 pub fn add_notes(
     table: &SlotTable,
     store: &mut SlotValues,
@@ -57,7 +57,7 @@ pub fn add_notes(
     Ok(())
 }
 
-/// A send reads its slots, while so many other contributions are under way.
+/// A send reads its slots, while `others` other contributions are under way.
 pub fn hand_over(
     table: &SlotTable,
     store: &SlotValues,
@@ -110,7 +110,7 @@ pub fn take(
     Ok(())
 }
 
-// The parcel at a place, which has none then.
+// Takes the parcel at a place, which then has none.
 fn take_out(parcels: &mut Vec<Option<Parcel>>, place: usize) -> Option<Parcel>
     requires { place < length parcels.old.items }
     ensures taken { result ≡ slice_index_or parcels.old.items place None }
@@ -119,7 +119,7 @@ fn take_out(parcels: &mut Vec<Option<Parcel>>, place: usize) -> Option<Parcel>
     parcels[place].take()
 }
 
-// The place gets this parcel.
+// Puts a parcel at a place.
 fn put_in(parcels: &mut Vec<Option<Parcel>>, place: usize, parcel: Parcel)
     requires { place < length parcels.old.items }
     ensures { parcels.new.items ≡ slice_set parcels.old.items place (Some parcel) }
@@ -175,7 +175,7 @@ fn serve(
     }
 }
 
-// A send hands over its values.
+// A send reads the values that it sends.
 fn send(
     walker: &Walker,
     table: &SlotTable,
@@ -198,7 +198,7 @@ fn send(
     Ok(())
 }
 
-/// What an action that has just happened changes of what is held.
+/// Applies an action that has just happened to what is held.
 pub fn apply(
     walker: &Walker,
     table: &SlotTable,
@@ -223,7 +223,7 @@ pub fn apply(
     }
 }
 
-/// Walks to the end with what is held, or to the first moment at which that is too much.
+/// Walks to the end with what is held, or to the first action after which too much is held.
 pub fn carry(walker: &mut Walker, table: &SlotTable, held: &mut Holdings) -> Result<(), CertFault>
     requires small { IsSmall walker.old.plans }
     requires ends { HasEqualEnds walker.old.plans }
