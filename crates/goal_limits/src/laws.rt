@@ -7,7 +7,7 @@ use crate::limits::{
     MAX_PER_BYTE, MAX_RANKS, MAX_ROUNDS,
 };
 
-/// Each constant of this crate is its number in `specs/Limits`.
+/// Each constant of this crate is its number in `specs/Limits`, and `MAX_BUDGET`, which has none there, is 2^63-1.
 pub fn laws_of_limits()
     ensures ranks { MAX_RANKS ≡ rank_limit }
     ensures ops { MAX_OPS ≡ op_limit }

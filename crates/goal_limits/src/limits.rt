@@ -1,4 +1,5 @@
-//! The limits of a schedule, its parts, its input and its parameters. `specs/Limits` has the same numbers.
+//! The limits of a schedule, its parts, its input and its parameters. `specs/Limits` has the same numbers,
+//! except for the time budget.
 
 /// The most ranks of a schedule: 2^16. A schedule has at least one.
 pub const MAX_RANKS: u32 = 65_536;
