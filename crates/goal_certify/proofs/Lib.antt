@@ -34,3 +34,5 @@ pub mod Started
 pub mod Pairs
 pub mod FirstSegment
 pub mod SegmentAnswers
+pub mod AtOnceAnswers
+pub mod Apart

@@ -69,7 +69,7 @@ module _ (what : Collective) (width : ℕ) (plans : List Plan) where
       none_told told (inr is) all = absurd (excluded told is (all told.block is.block))
 
       -- there is at most one
-      one_found : (told found : SegmentFault) → IsSegmentFault what width count plans told → IsSegmentFault what width count plans found → told ≡ found
+      pub one_found : (told found : SegmentFault) → IsSegmentFault what width count plans told → IsSegmentFault what width count plans found → told ≡ found
       one_found told found is other =
           ⊎_elim (λ less. absurd (excluded told is (other.certified_before told.block less))) (λ le. ⊎_elim (λ less. absurd (excluded found other (is.certified_before found.block less))) (λ more. here (omega (arith, le, more))) (cases_lt found.block told.block)) (cases_lt told.block found.block)
         where

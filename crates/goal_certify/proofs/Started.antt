@@ -1,8 +1,9 @@
 -- The walk with its values at its start and at its end.
-use Rattle.std.proofs.Common.{⊎_elim, ℕ, zero, suc, ◌^◌, ◌<◌, ◌≤◌, ◌≡◌, ◌⊎◌, inl, inr, Bool, true, false, cond, nat_lt, List, [], ◌∷◌, length, map, replicate, Option, None, refl, sym, ap, ◌∙◌, subst, arith}
+use Rattle.std.proofs.Common.{⊎_elim, ℕ, zero, suc, ◌^◌, ◌<◌, ◌≤◌, ◌≡◌, ◌⊎◌, inl, inr, Bool, true, false, cond, nat_lt, List, [], ◌∷◌, length, map, replicate, All, Option, None, refl, sym, ap, ◌∙◌, subst, arith}
 use Rattle.std.specs.List.{sum_by}
 use Rattle.std.proofs.lemmas.Bool.{both_ways, cases_Bool, ltb-true}
 use Rattle.std.proofs.lemmas.List.Sums.{sum_by-cons}
+use Rattle.std.proofs.lemmas.List.Elements.{All-replicate}
 use Rattle.goal_graph.specs.declared.action.OpId.{OpId}
 use Rattle.goal_graph.specs.declared.action.Class.TheVariants.{Data}
 use Rattle.goal_graph.specs.Schedule.{Plan, operations}
@@ -19,10 +20,14 @@ use Rattle.goal_blocks.specs.Values.{Value, Store, Held, held_after, value}
 use Rattle.goal_blocks.specs.Weight.{stored, carried, weight}
 use Rattle.goal_blocks.specs.Faults.{IsLeast, SlotAt, slot_key, IsFirstTooHeavy}
 use Rattle.goal_values.specs.Kept.{Kept, values}
+use Rattle.goal_values.specs.Summed.{Summed}
+use Rattle.goal_certify.specs.declared.walk.parcel.Parcel.{Parcel}
 use Rattle.goal_certify.specs.Stages.{HasNone, IsFirstOf}
-use Rattle.goal_certify.specs.Carried.{Told, parcel_size, kept_of, IsCarrying, IsOver}
+use Rattle.goal_certify.specs.Left.{IsLeft}
+use Rattle.goal_certify.specs.Carried.{Told, told_in, parcel_size, kept_of, IsKnown, IsCarrying, IsHolding, IsOver}
 use Rattle.goal_certify.proofs.Carried.{carried_kept}
 use Rattle.goal_certify.proofs.Carrying.{weight_opened}
+use Rattle.goal_certify.proofs.Holding.{none_told}
 use Rattle.goal_certify.proofs.ValueStage.{weight_first, values_none, wrong_first}
 
 module _ (plans : List Plan) (first : Store) where
@@ -78,29 +83,50 @@ wanted_inside what ranks r k v unwanted = go (nat_lt r ranks) refl unwanted
     go true e q = ltb-true r ranks e
     go false e q = absurd (both_ways true q refl)
 
-module _ (plans : List Plan) (what : Collective) (width block : ℕ) (w : List Act) (s : Kept) (parcels : List (Option Told)) (count : ℕ) (is_walk : IsWalk plans w) (so_far : IsCarrying plans (initial_in what width block (length plans)) w s parcels count) where
+-- the walk is at its end with these values
+pub left_at_end : (plans : List Plan) (first : Store) (w : List Act) (s : Kept) (parcels : List (Option Told)) (count : ℕ) → IsWalk plans w → IsCarrying plans first w s parcels count → IsLeft plans first s
+left_at_end plans first w s parcels count is_walk so_far = record {
+  walk = w;
+  is_walk = is_walk;
+  values_are = so_far.values_are;
+  ranks = so_far.ranks;
+  light = so_far.light;
+}
+
+module _ (plans : List Plan) (what : Collective) (width block : ℕ) (s : Kept) (left : IsLeft plans (initial_in what width block (length plans)) s) where
   abbrev first : Store
   first = initial_in what width block (length plans)
 
   abbrev wish : ℕ → ℕ → Value → Bool
   wish = wanted_in what width block (length plans)
 
+  abbrev w : List Act
+  w = left.walk
+
   -- what is read of the store is what the walk leaves
   read : (rank slot : ℕ) → wanted_in what width block s.ranks rank slot (values s rank slot) ≡ wish rank slot (value plans no_send first w rank slot)
   read rank slot =
-      ap (λ (n : ℕ). wanted_in what width block n rank slot (values s rank slot)) so_far.ranks ∙ ap (λ (v : Store). wish rank slot (v rank slot)) so_far.values_are
+      ap (λ (n : ℕ). wanted_in what width block n rank slot (values s rank slot)) left.ranks ∙ ap (λ (v : Store). wish rank slot (v rank slot)) left.values_are
 
   pub ended_right : ((rank slot : ℕ) → wanted_in what width block s.ranks rank slot (values s rank slot) ≡ true) → HasNone plans first wish 7 9
   ended_right right =
-      values_none plans first wish w is_walk so_far.light (λ rank slot inside. sym (read rank slot) ∙ right rank slot)
+      values_none plans first wish w left.is_walk left.light (λ rank slot inside. sym (read rank slot) ∙ right rank slot)
 
   pub ended_wrong : (rank slot : ℕ) → IsLeast slot_key (λ (a : SlotAt). wanted_in what width block s.ranks a.rank a.slot (values s a.rank a.slot) ≡ false) (record { rank = rank; slot = slot }) → IsFirstOf plans first wish 7 9 (Wrong rank slot)
   ended_wrong rank slot least =
       let unwanted = sym (read rank slot) ∙ least.holds in
-      wrong_first plans first wish w is_walk so_far.light rank slot (wanted_inside what (length plans) rank (exchange width block slot) _ unwanted) unwanted (λ other less inside. ⊎_elim (λ e. e) (λ e. absurd (least.none_less other less (read other.rank other.slot ∙ e))) (cases_Bool (wish other.rank other.slot (value plans no_send first w other.rank other.slot))))
+      wrong_first plans first wish w left.is_walk left.light rank slot (wanted_inside what (length plans) rank (exchange width block slot) _ unwanted) unwanted (λ other less inside. ⊎_elim (λ e. e) (λ e. absurd (least.none_less other less (read other.rank other.slot ∙ e))) (cases_Bool (wish other.rank other.slot (value plans no_send first w other.rank other.slot))))
 
--- what stopped the walk with its values is the first fault of the last two kinds
-pub stopped_over : (plans : List Plan) (first : Store) (wanted : ℕ → ℕ → Value → Bool) (h : List Act) (fault : CertFault) → IsInterleaving plans no_send h → TakesFirst plans h → IsOver (λ total. IsFirstTooHeavy plans first h total) fault → (fault ≡ NoMemory) ⊎ IsFirstOf plans first wanted 7 9 fault
-stopped_over plans first wanted h fault run takes (inl e) = inl e
-stopped_over plans first wanted h fault run takes (inr over) =
-    inr (subst (λ (f : CertFault). IsFirstOf plans first wanted 7 9 f) (sym over.1) (weight_first plans first wanted h over.0 run takes over.2))
+-- what stopped the walk with its values is the first fault of the last two kinds, whatever is wanted
+pub stopped_over : (plans : List Plan) (first : Store) (h : List Act) (fault : CertFault) → IsInterleaving plans no_send h → TakesFirst plans h → IsOver (λ total. IsFirstTooHeavy plans first h total) fault → (fault ≡ NoMemory) ⊎ ((wanted : ℕ → ℕ → Value → Bool) → IsFirstOf plans first wanted 7 9 fault)
+stopped_over plans store h fault run takes (inl e) = inl e
+stopped_over plans store h fault run takes (inr over) =
+    inr (λ wanted. subst (λ (f : CertFault). IsFirstOf plans store wanted 7 9 f) (sym over.1) (weight_first plans store wanted h over.0 run takes over.2))
+
+-- before the first step nothing is under way
+module _ (plans : List Plan) (first : Store) (s : Summed) (parcels : List (Option Parcel)) (is : values s.kept ≡ first) (ranks : s.kept.ranks ≡ length plans) (none : parcels ≡ replicate (length (operations plans)) None) (light : stored (length plans) first ≤ 2 ^ 24) where
+  pub begun : (h : List Act) → h ≡ [] → IsHolding plans first h s parcels 0
+  begun h start = record {
+    carrying = subst (λ (acts : List Act). IsCarrying plans first acts s.kept (told_in s.sums parcels) 0) (sym start) (started plans first s.kept (told_in s.sums parcels) is ranks (ap (told_in s.sums) none ∙ none_told s.sums (length (operations plans))) light);
+    known = subst (All (IsKnown s.sums)) (sym none) (All-replicate (IsKnown s.sums) (length (operations plans)) None tt);
+  }

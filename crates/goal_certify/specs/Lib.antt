@@ -1,6 +1,7 @@
 -- What a reader must believe.
 pub mod Certifying
 pub mod Segments
+pub mod AtOnce
 -- What only the code keeps.
 pub mod Stages
 pub mod Ends
@@ -13,9 +14,11 @@ pub mod Touches
 pub mod Table
 pub mod Races
 pub mod Carried
+pub mod Left
 -- What the clauses cite of lower crates.
 pub use Rattle.goal_blocks.specs.Certification
 pub use Rattle.goal_blocks.specs.Certified
 pub use Rattle.goal_blocks.specs.Collectives
 pub use Rattle.goal_blocks.specs.Faults
 pub use Rattle.goal_blocks.specs.Segments as Blocks
+pub use Rattle.goal_blocks.specs.Joined

@@ -1,6 +1,7 @@
 //! Whether a schedule does what a collective wants, in every interleaving: the first fault of it, or none.
 #![tactic(auto)]
 
+mod at_once;
 mod certifier;
 mod channels;
 mod ends;
@@ -10,6 +11,7 @@ mod sizes;
 mod slot_counts;
 mod walk;
 
+pub use at_once::{AtOnceFault, certify_at_once};
 pub use certifier::certify;
 pub use goal_blocks::CertFault;
 pub use segments::{SegmentFault, certify_segments};

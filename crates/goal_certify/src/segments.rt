@@ -24,7 +24,8 @@ pub struct SegmentFault {
 ///
 /// Each segment is certified from the start that the collective has in its block, and for what it wants there at the end, so
 /// the other blocks are empty at the start, unless the collective names slots beyond `width`. What is certified in all blocks
-/// is right in all of them, in every interleaving and whatever is eager. It takes a walk for each segment.
+/// is right in all of them, in every interleaving and whatever is eager, each from its own start: that segments keep apart is
+/// what `certify_at_once` certifies. It takes a walk for each segment.
 ///
 /// # Errors
 ///

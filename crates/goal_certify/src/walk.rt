@@ -22,12 +22,13 @@ mod outcome;
 mod parcel;
 mod stalls;
 mod state;
+mod stray;
 mod turns;
 mod values;
 
 use action::Action;
 use follow::{fill, follow, next};
-pub use outcome::check_walk;
+pub use outcome::{check_walk, find_stray};
 use state::State;
 use turns::Turns;
 

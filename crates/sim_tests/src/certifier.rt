@@ -1,10 +1,10 @@
 //! Small schedules of two ranks, each with its first fault.
 ghost use Rattle.std.specs.Prelude.{◌<◌};
 
-use crate::plans::noted_plan;
+use crate::plans::{CALC, noted_plan, one_rank};
 use crate::same::same;
 use goal_blocks::{CertFault, Collective, Segment};
-use goal_certify::{SegmentFault, certify, certify_segments};
+use goal_certify::{AtOnceFault, SegmentFault, certify, certify_at_once, certify_segments};
 use goal_graph::{Kind, Note, Op, OpId, PlanFault, RankPlan, Sched};
 use std::alloc::Global;
 use std::test::Fail;
@@ -222,6 +222,53 @@ fn certifies_blocks_of_slots(rt: HostRuntime) -> Result<(), Fail> {
     let other = certify_segments(rt.alloc(), &sched, what, 3, 2);
     let fault = CertFault::Wrong { rank: 1, slot: 4 };
     same(&rt, &other, &Err(SegmentFault { block: 1, fault }));
+    Ok(())
+}
+
+// Four segments of a broadcast that keep apart; a block without slots holds none.
+#[test]
+fn certifies_segments_at_once(rt: HostRuntime) -> Result<(), Fail> {
+    let what = Collective::Bcast { root: 0 };
+    let whole = slot_by_slot(rt.alloc(), 0, 3, 0)?;
+    same(
+        &rt,
+        &certify_at_once(rt.alloc(), &whole, what, 1, 4),
+        &Ok(()),
+    );
+    same(
+        &rt,
+        &certify_at_once(rt.alloc(), &whole, what, 0, 4),
+        &Err(AtOnceFault::Narrow),
+    );
+    Ok(())
+}
+
+// One rank adds slot 0 to slot 1: each segment of an allreduce is certified by itself, and both are not at once.
+#[test]
+fn tells_what_one_segment_adds_to_another(rt: HostRuntime) -> Result<(), Fail> {
+    let what = Collective::Allreduce;
+    let adds = Note::Adds {
+        op: 0,
+        from: 0,
+        to: 1,
+    };
+    let mixed = one_rank(rt.alloc(), &[CALC], &[], &[adds])?;
+    same(
+        &rt,
+        &certify_segments(rt.alloc(), &mixed, what, 1, 2),
+        &Ok(()),
+    );
+    let from = 0;
+    let found = certify_at_once(rt.alloc(), &mixed, what, 1, 2);
+    same(
+        &rt,
+        &found,
+        &Err(AtOnceFault::Stray {
+            from,
+            rank: 0,
+            slot: 1,
+        }),
+    );
     Ok(())
 }
 

@@ -1,51 +1,23 @@
 // The last three kinds of faults, those of the walk: operations without an end in it, more contributions than may be held
 // at a moment of it, and slots that do not hold at its end what is wanted of them.
-ghost use Rattle.std.specs.Prelude.{◌≡◌, ◌+◌, ◌*◌, ◌^◌, ◌≤◌, [], None, length, replicate, OnOk, IfOk, IfErr};
+ghost use Rattle.std.specs.Prelude.{◌≡◌, ◌+◌, ◌*◌, ◌^◌, ◌≤◌, [], None, replicate, OnOk, IfOk, IfErr, IfSome, IfNone};
 ghost use Rattle.goal_blocks.specs.Channels.{HasNoWildcard};
-ghost use Rattle.goal_blocks.specs.Segments.{initial_in};
+ghost use Rattle.goal_blocks.specs.declared.cert_fault.CertFault.TheVariants.{Wrong, NoMemory};
+ghost use Rattle.goal_blocks.specs.Segments.{IsCertifiedIn};
 ghost use Rattle.goal_blocks.specs.Certification.{IsSmall, HasEqualLengths};
-ghost use Rattle.goal_certify.specs.Carried.{Holds, HasEqualEnds};
+ghost use Rattle.goal_certify.specs.AtOnce.{IsCertifiedApart, IsFaultApart};
+ghost use Rattle.goal_certify.specs.Left.{IsLeftIn, IsTooMuchIn};
 ghost use Rattle.goal_certify.specs.Stages.{IsFreeIn, IsStoppedIn, SpeaksOfValues, NoneStalls};
 
 use super::Walker;
 use super::parcel::{Holdings, Parcel};
 use super::stalls::check_stalls;
+use super::stray::first_stray;
 use super::values::{MOST_HELD, carry};
-use goal_blocks::{CertFault, Collective, Segment, SlotTable, initial_size};
+use goal_blocks::{CertFault, Collective, Segment, SlotTable, initial_size, laws_of_faults};
 use goal_graph::Sched;
 use goal_values::SlotValues;
 use std::alloc::{AllocError, Global};
-
-// Walks from the start of a segment to the end with the values of a collective, and looks at what they are then.
-fn walk_values(
-    walker: &mut Walker,
-    table: &SlotTable,
-    held: &mut Holdings,
-    what: Collective,
-    segment: Segment,
-) -> Result<(), CertFault>
-    requires fits { segment.block * segment.width + segment.width ≤ 2 ^ 32 }
-    requires small { IsSmall walker.old.plans }
-    requires ends { HasEqualEnds walker.old.plans }
-    requires table { table.now ≡ walker.old.plans }
-    requires held { Holds walker.old.plans (initial_in what segment.width segment.block (length walker.old.plans)) walker.old.history held.old }
-    ensures plans { walker.new.plans ≡ walker.old.plans }
-    ensures free { OnOk result (IsFreeIn what segment walker.old.plans 7 9) }
-    ensures fault { IfErr result (IsStoppedIn what segment walker.old.plans 7 9) }
-{
-    match carry(walker, table, held) {
-        Ok(()) => {}
-        Err(fault) => {
-            walker.known();
-            return Err(fault);
-        }
-    }
-    match held.store.first_wrong(what, segment) {
-        Ok(Some((rank, slot))) => Err(CertFault::Wrong { rank, slot }),
-        Ok(None) => Ok(()),
-        Err(_) => Err(CertFault::NoMemory),
-    }
-}
 
 // Nothing is under way of so many operations.
 fn no_parcels(alloc: Global, count: u32) -> Result<Vec<Option<Parcel>>, AllocError>
@@ -56,6 +28,49 @@ fn no_parcels(alloc: Global, count: u32) -> Result<Vec<Option<Parcel>>, AllocErr
         parcels.push(None)?;
     }
     Ok(parcels)
+}
+
+// Walks from the start of a segment to the end with the values of a collective: what the slots hold then, or the first
+// moment at which more contributions are held than may be. The walker has not taken a step before.
+fn final_values(
+    alloc: Global,
+    walker: &mut Walker,
+    what: Collective,
+    segment: Segment,
+) -> Result<SlotValues, CertFault>
+    requires fits { segment.block * segment.width + segment.width ≤ 2 ^ 32 }
+    requires small { IsSmall walker.old.plans }
+    requires no_wildcard { HasNoWildcard walker.old.plans }
+    requires lengths { HasEqualLengths walker.old.plans }
+    requires start { walker.old.history ≡ [] }
+    ensures plans { walker.new.plans ≡ walker.old.plans }
+    ensures left { IfOk result (λ s. IsLeftIn what segment walker.old.plans s.kept) }
+    ensures fault { IfErr result (IsTooMuchIn what segment walker.old.plans) }
+{
+    let sched = walker.sched();
+    let ranks = sched.plans().len() as u32;
+    let held = initial_size(ranks, what);
+    if held > MOST_HELD {
+        return Err(CertFault::Weight { held });
+    }
+    let Ok(table) = SlotTable::new(alloc, sched) else {
+        return Err(CertFault::NoMemory);
+    };
+    let store = SlotValues::new(alloc, ranks, what, segment);
+    let parcels = no_parcels(alloc, sched.count())?;
+    let mut held = Holdings {
+        store,
+        parcels,
+        carried: 0,
+    };
+    match carry(walker, &table, &mut held) {
+        Ok(()) => {}
+        Err(fault) => {
+            walker.known();
+            return Err(fault);
+        }
+    }
+    Ok(held.store)
 }
 
 // The first moment of the walk at which more contributions are held than may be, or else the least slot that does not
@@ -75,23 +90,15 @@ fn check_values(
     ensures free { OnOk result (IsFreeIn what segment walker.old.plans 7 9) }
     ensures fault { IfErr result (IsStoppedIn what segment walker.old.plans 7 9) }
 {
-    let sched = walker.sched();
-    let ranks = sched.plans().len() as u32;
-    let held = initial_size(ranks, what);
-    if held > MOST_HELD {
-        return Err(CertFault::Weight { held });
+    let store = match final_values(alloc, walker, what, segment) {
+        Ok(store) => store,
+        Err(fault) => return Err(fault),
+    };
+    match store.first_wrong(what, segment) {
+        Ok(Some((rank, slot))) => Err(CertFault::Wrong { rank, slot }),
+        Ok(None) => Ok(()),
+        Err(_) => Err(CertFault::NoMemory),
     }
-    let Ok(table) = SlotTable::new(alloc, sched) else {
-        return Err(CertFault::NoMemory);
-    };
-    let store = SlotValues::new(alloc, ranks, what, segment);
-    let parcels = no_parcels(alloc, sched.count())?;
-    let mut held = Holdings {
-        store,
-        parcels,
-        carried: 0,
-    };
-    walk_values(walker, &table, &mut held, what, segment)
 }
 
 /// The faults of the walk, which is walked once: an operation without an end in it, or else the first moment at which
@@ -117,4 +124,30 @@ pub fn check_walk(
     let found = check_values(alloc, &mut walker, what, segment);
     check_stalls(&mut walker)?;
     found
+}
+
+/// The least slot that lies in the block of another segment, of so many, and is not empty at the end of the walk, where a
+/// schedule that is certified in a segment begins with that segment alone. `NoMemory` where memory ran out.
+pub fn find_stray(
+    alloc: Global,
+    sched: &Sched,
+    what: Collective,
+    segment: Segment,
+    count: u32,
+) -> Result<Option<(u32, u32)>, CertFault>
+    requires fits { segment.block * segment.width + segment.width ≤ 2 ^ 32 }
+    requires blocks { count * segment.width ≤ 2 ^ 32 }
+    requires certified { IsCertifiedIn what segment.width segment.block sched.now }
+    ensures none { IfOk result (λ found. IfNone found (IsCertifiedApart what segment.width count segment.block sched.now)) }
+    ensures some { IfOk result (λ found. IfSome found (λ p. IsFaultApart what segment.width count segment.block sched.now (Wrong p.0 p.1))) }
+    ensures fault { IfErr result (λ fault. fault ≡ NoMemory) }
+{
+    laws_of_faults();
+    let Ok(mut walker) = Walker::new(alloc, sched) else {
+        return Err(CertFault::NoMemory);
+    };
+    match final_values(alloc, &mut walker, what, segment) {
+        Ok(store) => Ok(first_stray(&store, sched.plans().len() as u32, segment, count)),
+        Err(fault) => Err(fault),
+    }
 }

@@ -1,41 +1,29 @@
--- At the start the slots hold what the collective has, and nothing is under way.
-use Rattle.std.proofs.Common.{ℕ, ◌^◌, ◌≤◌, inr, List, All, length, replicate, None, sym, ap, ◌∙◌, subst}
-use Rattle.goal_graph.specs.Schedule.{Plan, operations}
-use Rattle.goal_graph.specs.Action.{Act}
-use Rattle.goal_blocks.specs.Collectives.{initial}
-use Rattle.goal_blocks.specs.Segments.{initial_in, wanted_in}
-use Rattle.goal_blocks.proofs.ForCallers.{stored_exchanged}
-use Rattle.goal_blocks.specs.Weight.{stored}
-use Rattle.std.proofs.lemmas.List.Elements.{All-replicate}
-use Rattle.goal_certify.specs.Carried.{told_in, IsKnown, IsCarrying}
-use Rattle.goal_certify.proofs.Holding.{none_told}
-use Rattle.goal_certify.proofs.Started.{started, started_heavy}
+-- What is wrong of what the walk has left, or what stopped it.
+use Rattle.std.proofs.Common.{◌≡◌, ◌⊎◌, inl, inr, ℕ, Bool, List, length}
+use Rattle.goal_graph.specs.Schedule.{Plan}
+use Rattle.goal_blocks.specs.declared.cert_fault.CertFault.{CertFault}
+use Rattle.goal_blocks.specs.declared.cert_fault.CertFault.TheVariants.{NoMemory}
+use Rattle.goal_blocks.specs.declared.collective.Collective.{Collective}
+use Rattle.goal_blocks.specs.declared.segment.Segment.{Segment}
+use Rattle.goal_blocks.specs.Segments.{wanted_in}
+use Rattle.goal_certify.specs.Left.{IsTooMuchIn}
+use Rattle.goal_certify.specs.Stages.{IsStoppedIn}
+use Rattle.goal_certify.proofs.Started.{ended_right, ended_wrong}
 use Rattle.goal_certify.proofs.walk.outcome.check_values.Goals as goal
 
-pub returns-then-held-gt-MOST_HELD-clause-fault : goal.returns-then-held-gt-MOST_HELD-clause-fault
-returns-then-held-gt-MOST_HELD-clause-fault c =
-    let plans = c.args.walker.now.plans in
-    let read = c.plans.ensures.plans ∙ c.sched-sched.ensures in
-    let size = c.initial_size-held.ensures ∙ ap (λ (ps : List Plan). stored (length ps) (initial c.args.what (length ps))) read ∙ sym (stored_exchanged c.args.segment.width c.args.segment.block c.args.what (length plans) c.requires.fits) in
-    inr (started_heavy plans (initial_in c.args.what c.args.segment.width c.args.segment.block (length plans)) (wanted_in c.args.what c.args.segment.width c.args.segment.block (length plans)) c.initial_size-held.result size c.if-held-gt-MOST_HELD.true)
+stopped_in : (what : Collective) (segment : Segment) (plans : List Plan) (fault : CertFault) → IsTooMuchIn what segment plans fault → IsStoppedIn what segment plans 7 9 fault
+stopped_in what segment plans fault (inl e) = inl e
+stopped_in what segment plans fault (inr is) =
+    inr (is (wanted_in what segment.width segment.block (length plans)))
 
-pub walk_values-requires-clause-held : goal.walk_values-requires-clause-held
-walk_values-requires-clause-held c =
-    let plans = c.args.walker.now.plans in
-    let what = c.args.what in
-    let s = c.new-store.result in
-    let read = c.plans.ensures.plans ∙ c.sched-sched.ensures in
-    let size = c.initial_size-held.ensures ∙ ap (λ (ps : List Plan). stored (length ps) (initial what (length ps))) read ∙ sym (stored_exchanged c.args.segment.width c.args.segment.block what (length plans) c.requires.fits) in
-    let first = c.new-store.ensures.values ∙ ap (λ (ps : List Plan). initial_in what c.args.segment.width c.args.segment.block (length ps)) read in
-    let ranks = c.new-store.ensures.ranks ∙ ap (λ (ps : List Plan). length ps) read in
-    let count = c.count.ensures.count ∙ ap (λ (ps : List Plan). length (operations ps)) c.sched-sched.ensures in
-    let none = c.in_ok-parcels.ensures ∙ ap (λ (n : ℕ). replicate n None) count in
-    let light = subst (λ (n : ℕ). n ≤ 2 ^ 24) size c.if-held-gt-MOST_HELD.false in
-    let parcels = c.in_ok-parcels.parcels.items in
-    let first_values = initial_in what c.args.segment.width c.args.segment.block (length plans) in
-    let told = ap (told_in s.sums) none ∙ none_told s.sums (length (operations plans)) in
-    let begun = started plans first_values s.kept (told_in s.sums parcels) first ranks told light in
-    record {
-      carrying = subst (λ (h : List Act). IsCarrying plans first_values h s.kept (told_in s.sums parcels) 0) (sym c.requires.start) begun;
-      known = subst (All (IsKnown s.sums)) (sym none) (All-replicate (IsKnown s.sums) (length (operations plans)) None tt);
-    }
+pub returns-in-Err-clause-fault : goal.returns-in-Err-clause-fault
+returns-in-Err-clause-fault c =
+    stopped_in c.args.what c.args.segment c.args.walker.now.plans c.in-Err.fault c.in-Err.ensures.fault
+
+pub returns-in-Ok-Some-clause-fault : goal.returns-in-Ok-Some-clause-fault
+returns-in-Ok-Some-clause-fault c =
+    inr (ended_wrong c.args.walker.now.plans c.args.what c.args.segment.width c.args.segment.block c.in-Ok.store.kept c.in-Ok.ensures.left c.in-Ok-Some.rank c.in-Ok-Some.slot (rw c.in-Ok-Some.field-0-is at c.in-Ok-Some.ensures))
+
+pub returns-in-Ok-None-clause-free : goal.returns-in-Ok-None-clause-free
+returns-in-Ok-None-clause-free c =
+    ended_right c.args.walker.now.plans c.args.what c.args.segment.width c.args.segment.block c.in-Ok.store.kept c.in-Ok.ensures.left (rw c.in-Ok-None.field-0-is at c.in-Ok-None.ensures)
