@@ -1,5 +1,5 @@
-//! The output of a command, from what it works on.
-ghost use Rattle.std.specs.Prelude.{ℕ, ◌≡◌, ◌≢◌, ◌≤◌, List, length, Option, IfOk, IfErr};
+// From what a command works on to what it makes of it.
+ghost use Rattle.std.specs.Prelude.{ℕ, ◌≡◌, ◌≢◌, ◌<◌, ◌≤◌, List, length, Option, IfOk, IfErr};
 ghost use Rattle.goal_limits.specs.declared.limits.TheConstants.{MAX_INPUT};
 ghost use Rattle.sim_params.specs.Costs.{CostModel};
 ghost use Rattle.sim_params.specs.Numbers.{numbers};
@@ -25,8 +25,11 @@ use goal_views::show_run;
 use goal_words::{Costing, RunView, Sentence, View};
 use sim_classes::{Machine, MachineFault, read_machine};
 use sim_events::EngineFault;
+use sim_order::Steps;
 use sim_params::{LogGops, Params};
 use std::alloc::Global;
+use std::marker::Brand;
+use std::sync::ledger::{Blank, Ledger};
 
 /// Why a command has no output.
 pub enum Stop {
@@ -84,23 +87,34 @@ fn machine_for(alloc: Global, sched: &Sched, text: &[u8]) -> Result<Machine, Sto
     Ok(machine)
 }
 
-// Returns a view of the run of a schedule with parameters.
-fn run_with(alloc: Global, sched: &Sched, params: Params, how: RunView) -> Result<Output<'_>, Stop>
+// A view of the run of a schedule with parameters.
+fn run_with<'a, L: Ledger, M: Ledger, N: Ledger>(
+    alloc: Global,
+    sched: &'a Sched,
+    params: Params,
+    how: RunView,
+    steps: &mut Steps<L>,
+    looks: &mut Steps<M>,
+    reads: &mut Steps<N>,
+) -> Result<Output<'a>, Stop>
     ensures paid { IfOk result (λ output. (text : List ℕ)
         → IsPaidRun (ByNumbers (numbers params)) how text sched.now (text_of output) output.ending) }
     ensures stop { IfErr result (λ stop. (text : List ℕ) → IsUnpaid (ByNumbers (numbers params)) text sched.now stop) }
 {
-    let run = show_run(alloc, sched, LogGops { params }, how)?;
+    let run = show_run(alloc, sched, LogGops { params }, how, steps, looks, reads)?;
     let pages = Pages::of_run(run.lines);
     Ok(Output::new(run.head, pages, run.tail, ending_if(run.stuck)))
 }
 
-// Returns a view of the run of a schedule on the machine in a text.
-fn run_on<'a>(
+// A view of the run of a schedule on the machine of a text.
+fn run_on<'a, L: Ledger, M: Ledger, N: Ledger>(
     alloc: Global,
     sched: &'a Sched,
     text: &[u8],
     how: RunView,
+    steps: &mut Steps<L>,
+    looks: &mut Steps<M>,
+    reads: &mut Steps<N>,
 ) -> Result<Output<'a>, Stop>
     requires short { length text.now ≤ MAX_INPUT }
     ensures paid { IfOk result (λ output. (name : List ℕ)
@@ -108,9 +122,46 @@ fn run_on<'a>(
     ensures stop { IfErr result (λ stop. (name : List ℕ) → IsUnpaid (ByMachine name) text.now sched.now stop) }
 {
     let machine = machine_for(alloc, sched, text)?;
-    let run = show_run(alloc, sched, machine, how)?;
+    let run = show_run(alloc, sched, machine, how, steps, looks, reads)?;
     let pages = Pages::of_run_on(run.lines);
     Ok(Output::new(run.head, pages, run.tail, ending_if(run.stuck)))
+}
+
+// A view of the run of a schedule with what its actions cost, with counters of its own.
+fn run_counted<'a, L: Ledger, M: Ledger, N: Ledger>(
+    alloc: Global,
+    for_steps: Blank,
+    for_looks: Blank,
+    for_reads: Blank,
+    sched: &'a Sched,
+    costs: &Costing,
+    text: &[u8],
+    how: RunView,
+) -> Result<Output<'a>, Stop>
+    requires steps_name { for_steps.name ≡ L.name }
+    requires steps_parts { for_steps.parts ≡ L.parts }
+    requires steps_some { 0 < for_steps.parts }
+    requires looks_name { for_looks.name ≡ M.name }
+    requires looks_parts { for_looks.parts ≡ M.parts }
+    requires looks_some { 0 < for_looks.parts }
+    requires reads_name { for_reads.name ≡ N.name }
+    requires reads_parts { for_reads.parts ≡ N.parts }
+    requires reads_some { 0 < for_reads.parts }
+    requires short { length text.now ≤ MAX_INPUT }
+    requires costed { costs.now ≢ Costing.None }
+    ensures paid { IfOk result (λ output.
+        IsPaidRun (pricing costs.now) how text.now sched.now (text_of output) output.ending) }
+    ensures stop { IfErr result (λ stop. IsUnpaid (pricing costs.now) text.now sched.now stop) }
+{
+    let mut steps = Steps::<L>::new(for_steps);
+    let mut looks = Steps::<M>::new(for_looks);
+    let mut reads = Steps::<N>::new(for_reads);
+    let (steps, looks, reads) = (&mut steps, &mut looks, &mut reads);
+    match costs {
+        Costing::Params(params) => run_with(alloc, sched, *params, how, steps, looks, reads),
+        Costing::Machine(_) => run_on(alloc, sched, text, how, steps, looks, reads),
+        Costing::None => unreachable!(),
+    }
 }
 
 // Returns a view of the run of a schedule with its costs.
@@ -127,11 +178,16 @@ fn run_costed<'a>(
         IsPaidRun (pricing costs.now) how text.now sched.now (text_of output) output.ending) }
     ensures stop { IfErr result (λ stop. IsUnpaid (pricing costs.now) text.now sched.now stop) }
 {
-    match costs {
-        Costing::Params(params) => run_with(alloc, sched, *params, how),
-        Costing::Machine(_) => run_on(alloc, sched, text, how),
-        Costing::None => unreachable!(),
-    }
+    run_counted::<Brand, Brand, Brand>(
+        alloc,
+        Blank::new(1),
+        Blank::new(1),
+        Blank::new(1),
+        sched,
+        costs,
+        text,
+        how,
+    )
 }
 
 // Returns the compiled file of a schedule.

@@ -3,7 +3,7 @@ use Rattle.std.proofs.Common.{◌≡◌, ℕ, ◌<◌, ◌≤◌, Bool, true, fa
 use Rattle.std.specs.List.{list_all}
 use Rattle.std.proofs.lemmas.List.Folds.{list_all_at}
 use Rattle.std.proofs.lemmas.List.{take_all, length-replicate, get_or-replicate}
-use Rattle.std.proofs.lemmas.Option.{slice_get-get_or, slice_get_within, get_or_from_slice_get}
+use Rattle.std.proofs.lemmas.Option.{slice_get_within, get_or_from_slice_get}
 use Rattle.goal_graph.specs.declared.action.OpId.{OpId}
 use Rattle.goal_graph.specs.declared.plan.Need.{Need}
 use Rattle.goal_graph.specs.declared.plan.When.{When}
@@ -51,12 +51,6 @@ module _ (plans : List Plan) (eager : OpId → Bool) (h : List Act) (x : OpId) w
   pub cursor_read : (read : List Plan) (cursors : List Cursor) (c : Cursor) → AreCursors plans eager h cursors → read ≡ plans → IsEntryOf read cursors x c → IsCursorOf plans eager h x c
   cursor_read read cursors c cur same entry =
       cur.are entry.slot x c (ap (λ (ps : List Plan). slice_get (operations ps) entry.slot) (sym same) ∙ entry.is_slot) entry.is_entry
-
-  -- the cursor in its slot
-  pub cursor_in_slot : (cursors : List Cursor) (i : ℕ) (d : Cursor) → AreCursors plans eager h cursors → slice_get (operations plans) i ≡ Some x → IsCursorOf plans eager h x (get_or cursors i d)
-  cursor_in_slot cursors i d cur at =
-      let within : i < length cursors = omega (arith, slice_get_within (operations plans) i x at, cur.each) in
-      cur.are i x (get_or cursors i d) at (slice_get-get_or cursors i d within)
 
 -- before any need has been tested
 pub cursors_start : (plans : List Plan) (eager : OpId → Bool) (h : List Act) (n : ℕ) (cursors : List Cursor) → n ≡ length (operations plans) → cursors ≡ replicate n start → AreCursors plans eager h cursors

@@ -1,8 +1,9 @@
 // From a schedule and its costs to what a view shows of its run.
-ghost use Rattle.std.specs.Prelude.{ℕ, ◌≡◌, ◌≢◌, ◌+◌, ◌*◌, ◌++◌, ◌<◌, ◌≤◌, ◌^◌, [], length, unwrap_or, OnOk, IfOk, IfErr};
+ghost use Rattle.std.specs.Prelude.{ℕ, ◌≡◌, ◌≢◌, ◌+◌, ◌*◌, ◌++◌, ◌<◌, ◌≤◌, ◌^◌, [], length, unwrap_or, List, OnOk, IfOk, IfErr};
+ghost use Rattle.goal_graph.specs.declared.action.Timed.{Timed};
 ghost use Rattle.goal_graph.specs.Schedule.{operations};
 ghost use Rattle.sim_params.specs.Budget.{budget};
-ghost use Rattle.sim_params.specs.Run.{IsFinished};
+ghost use Rattle.sim_params.specs.Run.{IsFinished, IsCompleteRun};
 ghost use Rattle.sim_params.specs.Stuck.{is_stuck};
 ghost use Rattle.sim_events.specs.Cost.{cost_of_start, cost_of_run, reads_of_run};
 ghost use Rattle.sim_events.specs.Engine.{IsEngineFault};
@@ -22,8 +23,7 @@ use sim_params::Costs;
 use sim_stuck::is_stuck;
 use sim_waits::waits;
 use std::alloc::Global;
-use std::marker::Brand;
-use std::sync::ledger::{Blank, Ledger};
+use std::sync::ledger::Ledger;
 
 // The run of a schedule with these costs, to its end. Counters count the comparisons of its queue, the looks of its matcher
 // at entries, and its looks at needs of operations.
@@ -52,35 +52,6 @@ fn run_counted<'a, C: Costs + Drop, L: Ledger, M: Ledger, N: Ledger>(
         }
         Err(fault) => Err(fault),
     }
-}
-
-// The same, with counters of its own.
-fn run<'a, C: Costs + Drop, L: Ledger, M: Ledger, N: Ledger>(
-    alloc: Global,
-    blank: Blank,
-    for_looks: Blank,
-    for_reads: Blank,
-    sched: &'a Sched,
-    costs: C,
-) -> Result<Engine<'a, C, Unkept>, EngineFault>
-    requires name { blank.name ≡ L.name }
-    requires parts { blank.parts ≡ L.parts }
-    requires some { 0 < blank.parts }
-    requires looks_name { for_looks.name ≡ M.name }
-    requires looks_parts { for_looks.parts ≡ M.parts }
-    requires looks_some { 0 < for_looks.parts }
-    requires reads_name { for_reads.name ≡ N.name }
-    requires reads_parts { for_reads.parts ≡ N.parts }
-    requires reads_some { 0 < for_reads.parts }
-    ensures fits { OnOk result (budget sched.now (C.model costs) < 2 ^ 63) }
-    ensures run { IfOk result (λ engine. IsRunOf (C.model costs) sched.now engine) }
-    ensures costs { IfOk result (λ engine. C.model engine.costs ≡ C.model costs) }
-    ensures fault { IfErr result (IsEngineFault (budget sched.now (C.model costs))) }
-{
-    let mut steps = Steps::<L>::new(blank);
-    let mut looks = Steps::<M>::new(for_looks);
-    let mut reads = Steps::<N>::new(for_reads);
-    run_counted(alloc, sched, costs, &mut steps, &mut looks, &mut reads)
 }
 
 // What a view other than the printed run shows of an engine whose run is over, a row for each; and whether an operation has no end.
@@ -152,31 +123,37 @@ fn show<'a, C: Costs + Drop>(
     }
 }
 
-/// Runs a schedule with these costs, and gives what a view shows of its run.
+/// Runs a schedule with these costs, and gives what a view shows of its run. From the start of the run to its end a counter
+/// counts the comparisons of keys, one the looks of the matcher at entries, and one the looks at needs of operations.
+///
+/// - `counted`: among 2^k operations the run makes at most `cost_of_start` and `cost_of_run` comparisons.
+/// - `looked`: the matcher counts eight looks at most for each action.
+/// - `needed`: each action counts one look at each need whose moment it may give, and no other. The number is exact.
 ///
 /// # Errors
 ///
 /// `Budget` where the time budget, this sum in nanoseconds, exceeds 2^63-1. And want of memory.
-pub fn show_run<C: Costs + Drop>(
+pub fn show_run<'a, C: Costs + Drop, L: Ledger, M: Ledger, N: Ledger>(
     alloc: Global,
-    sched: &Sched,
+    sched: &'a Sched,
     costs: C,
     view: RunView,
-) -> Result<Shown<'_, C>, EngineFault>
+    steps: &mut Steps<L>,
+    looks: &mut Steps<M>,
+    reads: &mut Steps<N>,
+) -> Result<Shown<'a, C>, EngineFault>
     ensures fits { OnOk result (budget sched.now (C.model costs) < 2 ^ 63) }
     ensures shown { IfOk result (λ run. IsShownRun view (C.model costs) sched.now
         (run.head.items ++ (unwrap_or run.lines [] ++ run.tail.items)) run.stuck) }
     ensures fault { IfErr result (IsEngineFault (budget sched.now (C.model costs))) }
+    ensures counted { OnOk result ((h : List Timed) (k : ℕ) → IsCompleteRun sched.now (C.model costs) h
+        → length (operations sched.now) ≤ 2 ^ k → steps.new ≤ steps.old + (cost_of_start k sched.now + cost_of_run k sched.now h)) }
+    ensures looked { OnOk result ((h : List Timed) → IsCompleteRun sched.now (C.model costs) h
+        → looks.new ≤ looks.old + 8 * length h) }
+    ensures needed { OnOk result ((h : List Timed) → IsCompleteRun sched.now (C.model costs) h
+        → reads.new ≡ reads.old + reads_of_run sched.now h) }
 {
-    let ran = run::<C, Brand, Brand, Brand>(
-        alloc,
-        Blank::new(1),
-        Blank::new(1),
-        Blank::new(1),
-        sched,
-        costs,
-    );
-    let engine = match ran {
+    let engine = match run_counted(alloc, sched, costs, steps, looks, reads) {
         Ok(engine) => engine,
         Err(fault) => return Err(fault),
     };

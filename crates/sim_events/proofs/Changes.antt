@@ -125,9 +125,6 @@ module _ (plans : List Plan) (costs : CostModel) (h : List Timed) (a : Timed) (q
   held_by holds held i x o at is true = held.sides i x o at is
 
   module _ (p : Op) (is_p : op_at plans a.op ≡ Some p) (w : waits_for_room a.class ≡ true) (holds : List ℕ) (resources : length holds ≡ length queue.free) (held : AreHeld plans h queue holds) where
-    ours : Pair
-    ours = pair_of queue slot
-
     held_now : (i : ℕ) (x : OpId) (o : Op) → slice_get (operations plans) i ≡ Some x → op_at plans x ≡ Some o → (b : Bool) → slice_index (held_once_more holds (pair_of queue slot)) (number b (pair_of queue i)) ≡ times_held plans (a ∷ h) (needs b (station_of x o))
     held_now i x o at is b = go (cases_eq n (pair_of queue slot).side) (cases_eq n (pair_of queue slot).cpu)
       where

@@ -47,9 +47,6 @@ module _ (plans : List Plan) (costs : CostModel) where
   free_by_number h queue free i x o at is true = free.sides i x at ∙ side_is plans costs h x o is
 
   module _ (h : List Timed) (a : Timed) (possible : Possible plans costs h a) (queue : Stationed) (q : IsOfSchedule plans costs h queue) (slot : ℕ) (here : slice_get (operations plans) slot ≡ Some a.op) (p : Op) (is_p : op_at plans a.op ≡ Some p) where
-    ours : Pair
-    ours = pair_of queue slot
-
     -- no free time falls
     pub later : (c s : ℕ) → c ≡ cpu plans costs (a ∷ h) a.op → s ≡ side plans costs (a ∷ h) a.op → IsLater queue.free (pair_of queue slot) c s
     later c s ce se = record {
@@ -72,9 +69,6 @@ module _ (plans : List Plan) (costs : CostModel) where
         go (inr d) = omega (arith, get_or-set_other queue.free (pair_of queue slot).cpu (pair_of queue slot).side c 0 d, q.free.sides slot a.op here, se, side_grows plans costs a h a.op)
 
     module _ (c s : ℕ) (ce : c ≡ cpu plans costs (a ∷ h) a.op) (se : s ≡ side plans costs (a ∷ h) a.op) where
-      now : List ℕ
-      now = held queue.free (pair_of queue slot) c s
-
       free_now : (i : ℕ) (x : OpId) (o : Op) → slice_get (operations plans) i ≡ Some x → op_at plans x ≡ Some o → (b : Bool) → slice_index (held queue.free (pair_of queue slot) c s) (number b (pair_of queue i)) ≡ free_at plans costs (a ∷ h) b x o.kind
       free_now i x o at is b = go (cases_eq n (pair_of queue slot).side) (cases_eq n (pair_of queue slot).cpu)
         where

@@ -1,5 +1,5 @@
 -- Stations and their resources are numbered one after the other.
-use Rattle.std.proofs.Common.{◌≡◌, ◌≢◌, ◌⊎◌, ◌+◌, ◌<◌, ◌≤◌, ◌++◌, ℕ, suc, Bool, true, false, All, List, [], ◌∷◌, length, get_or, take, append-nil, if◌then◌else◌, Option, Some, None, slice_get, slice_index, refl, sym, ap, ap₂, ◌∙◌, subst, arith, inl, inr}
+use Rattle.std.proofs.Common.{◌≡◌, ◌⊎◌, ◌+◌, ◌<◌, ◌≤◌, ◌++◌, ℕ, suc, Bool, true, false, All, List, [], ◌∷◌, length, get_or, take, append-nil, if◌then◌else◌, Option, Some, None, slice_get, slice_index, refl, sym, ap, ap₂, ◌∙◌, subst, arith, inl, inr}
 use Rattle.std.specs.List.{list_any}
 use Rattle.std.proofs.lemmas.Bool.{both_ways, cases_lt, or_cases}
 use Rattle.std.proofs.lemmas.List.{length-append, get_or_append_left, take_all}
@@ -101,17 +101,6 @@ module _ (stations resources : List Station) (pairs : List Pair) (is : IsNumberi
       newest : (n : ℕ) (s : Station) → slice_get after n ≡ Some s → n ≡ length pairs → station ≡ s
       newest n s at e = same_Some station s (sym has.is ∙ ap (slice_get after) (new ∙ sym e) ∙ at)
 
-  -- it was there
-  pub numbered_old : (number ≢ length pairs) → IsNumbering after resources pairs
-  numbered_old differ = go has.more has.grown has.of_it
-    where
-      go : (more : List Station) → after ≡ stations ++ more → ((i : ℕ) (s : Station) → slice_get more i ≡ Some s → s ≡ station) → IsNumbering after resources pairs
-      go [] grown of_it = subst (λ (xs : List Station). IsNumbering xs resources pairs) (sym (grown ∙ append-nil stations)) is
-      go (t ∷ more) grown of_it =
-          let first : slice_get (stations ++ t ∷ more) (length stations) ≡ Some t = get_first stations t more in
-          let at : slice_get after (length stations) ≡ Some station = ap (λ (xs : List Station). slice_get xs (length stations)) grown ∙ first ∙ ap Some (of_it 0 t refl) in
-          absurd (differ (once number (length stations) station has.is at ∙ sym is.each))
-
 -- what passes a test in a list
 any_found : (test : Station → Bool) (xs : List Station) → list_any test xs ≡ true → (i : ℕ) × (x : Station) × (slice_get xs i ≡ Some x) × (test x ≡ true)
 any_found test [] e = absurd (both_ways false refl e)
@@ -156,28 +145,6 @@ module _ (plans : List Plan) where
     pub each : (i : ℕ) (x : OpId) (o : Op) → i < n → slice_get (operations plans) i ≡ Some x → op_at plans x ≡ Some o → slice_get stations (slice_index numbers i) ≡ Some (station_of x o)
     pub within : All (λ number. number < length stations) numbers
     pub by_rank : (i : ℕ) (x : OpId) → n ≤ i → slice_get (operations plans) i ≡ Some x → IsNotAfter stations x.rank
-
-  pub numbered_none : AreNumberedTo 0 [] [] [] []
-  numbered_none = record {
-    numbering = record {
-      each = refl;
-      few = omega arith;
-      once = λ i j s e f. absurd (nothing i s e);
-      resources_once = λ i j s e f. absurd (nothing i s e);
-      cpus = λ n s p e f. absurd (nothing n s e);
-      sides = λ n s p e f. absurd (nothing n s e);
-      of_stations = λ rank last j s e. absurd (nothing j s e);
-    };
-    listed = refl;
-    count = refl;
-    few = omega arith;
-    each = λ i x o l e f. absurd (omega (arith, l));
-    within = λ k d l. absurd (omega (arith, l));
-    by_rank = λ i x l e j s f. absurd (nothing j s f);
-  }
-    where
-      nothing : (i : ℕ) (s : Station) → slice_get [] i ≡ Some s → ⊥
-      nothing i s e = omega (arith, slice_get_within [] i s e)
 
   -- operations come by rank
   in_order : (m n : ℕ) (x y : OpId) → m < n → slice_get (operations plans) m ≡ Some x → slice_get (operations plans) n ≡ Some y → x.rank ≤ y.rank

@@ -9,7 +9,7 @@ use Rattle.sim_resources.proofs.ForCallers.{get_kept, get_either}
 use Rattle.sim_events.specs.declared.station.Station.{Station}
 use Rattle.sim_events.specs.declared.station.Latest.{Latest}
 use Rattle.sim_events.specs.Stations.{cpu_place, side_place, place, latest_at, IsOneSide, IsPlain, IsNotAfter, IsNew, IsTold, ArePlaced, HasNumber}
-use Rattle.sim_events.specs.Cost.{same_station, cpu_alone, side_by, side_alone, same_choice}
+use Rattle.sim_events.specs.Cost.{same_station, side_by, side_alone, same_choice}
 
 pub same_station_true : (p q : Station) → same_station p q ≡ true → p ≡ q
 same_station_true p q e =
@@ -170,10 +170,6 @@ placed_at seen places station at number placed plain by_rank new is within next 
 pub none_then : {X P Q : Type 0} (r : Option X) → (P → Q) → IfNone r P → IfNone r Q
 none_then None f h = f h
 none_then (Some x) f h = h
-
--- the parts of a plain station
-pub plain_cpu : (s : Station) → IsPlain s → IsPlain (cpu_alone s)
-plain_cpu s p = record { cpu = p.cpu; side = tt }
 
 pub plain_side : (s : Station) → IsPlain s → IsPlain (side_alone s)
 plain_side s p = go s.sends s.receives p.side

@@ -57,9 +57,6 @@ module _ (plans : List Plan) (costs : CostModel) (a : Timed) (h : List Timed) wh
   free_of_grows x (Some (Send bytes to tag)) = omega arith
   free_of_grows x (Some (Recv room from tag)) = omega arith
 
-  pub free_grows : (x : OpId) → free plans costs h x ≤ free plans costs (a ∷ h) x
-  free_grows x = free_of_grows x (kind_at plans x)
-
   module _ (run : IsRun plans costs h) where
     -- a moment that is there stays the same
     moment_kept : (w : When) (y : OpId) → is_met plans (is_eager plans costs) (plain h) w y ≡ true → met_at plans costs (a ∷ h) w y ≡ met_at plans costs h w y

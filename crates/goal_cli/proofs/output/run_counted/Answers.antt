@@ -4,7 +4,7 @@ use Rattle.goal_words.specs.Words.{ByNumbers, ByMachine}
 use Rattle.goal_cli.specs.declared.output.Stop.{Stop}
 use Rattle.goal_cli.specs.Stop.{IsUnpaid}
 use Rattle.goal_cli.proofs.StopLemmas.{if_err}
-use Rattle.goal_cli.proofs.output.run_costed.Goals as goal
+use Rattle.goal_cli.proofs.output.run_counted.Goals as goal
 
 pub returns-in-Params-clause-stop : goal.returns-in-Params-clause-stop
 returns-in-Params-clause-stop c =
