@@ -1,9 +1,8 @@
--- Which operations exist: `operations` lists each once, by rank and number.
-use Rattle.std.proofs.Common.{ℕ, zero, suc, ◌+◌, ◌<◌, ◌≡◌, ◌≢◌, ◌↔◌, Bool, true, false, inl, inr, List, [], ◌∷◌, ◌++◌, length, Option, Some, None, All, AllPairs, Contains, sum_by, slice_get, refl, ap, sym, ◌∙◌, subst, ap₂, arith, length-append, is_some}
+-- Which operations there are: `operations` lists each once, by rank and number.
+use Rattle.std.proofs.Common.{ℕ, zero, suc, ◌+◌, ◌<◌, ◌≡◌, ◌≢◌, ◌↔◌, Bool, true, false, inl, inr, List, [], ◌∷◌, ◌++◌, Option, Some, None, All, AllPairs, Contains, slice_get, refl, ap, sym, ◌∙◌, subst, arith, is_some}
 use Rattle.std.specs.Option.{option_map, option_and_then}
 use Rattle.std.proofs.lemmas.Bool.{both_ways}
 use Rattle.std.proofs.lemmas.Option.{same_Some, none-some}
-use Rattle.std.proofs.lemmas.List.Sums.{sum_by-cons}
 use Rattle.std.proofs.lemmas.List.Kept.{AllPairs-cons}
 use Rattle.std.proofs.lemmas.List.Elements.{All-nil, All-cons, All-append, All-weaker, All-contains, Contains-append_left, Contains-append_right}
 use Rattle.goal_graph.specs.declared.action.OpId.{OpId}
@@ -18,7 +17,6 @@ use Rattle.goal_graph.specs.Order.{IsBefore}
 use Rattle.goal_graph.proofs.Persist.{is_some_from, cases_some}
 use Rattle.goal_graph.proofs.Lists.{contains_first, contains_more}
 use Rattle.goal_graph.proofs.Rules.{allowed_may}
-use Rattle.goal_graph.proofs.Places.{length-places_of_rank}
 
 abbrev pub at : ℕ → ℕ → OpId
 at rank op = record { rank = rank; op = op }
@@ -174,13 +172,3 @@ earlier_differ x y (inr l) e = omega (arith, l.1, ap (λ (z : OpId). z.op) e)
 pub operations_differ : (plans : List Plan) → AllPairs (λ (x y : OpId). x ≢ y) (operations plans)
 operations_differ plans i j d l b =
     earlier_differ _ _ (operations_in_order plans i j d l b)
-
-length-places_from : (base : ℕ) (plans : List Plan) → length (places_from base plans) ≡ sum_by (λ (p : Plan). length p.ops) plans
-unfolding places_from
-length-places_from base [] = refl
-length-places_from base (p ∷ ps) =
-    length-append (places_of_rank base 0 p.ops) (places_from (base + 1) ps) ∙ ap₂ (λ (m n : ℕ). m + n) (length-places_of_rank base 0 p.ops) (length-places_from (base + 1) ps) ∙ sym (sum_by-cons (λ (p : Plan). length p.ops) p ps)
-
--- the number of operations
-pub length-operations : (plans : List Plan) → length (operations plans) ≡ sum_by (λ (p : Plan). length p.ops) plans
-length-operations plans = length-places_from 0 plans

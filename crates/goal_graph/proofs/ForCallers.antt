@@ -22,6 +22,6 @@ pub use Rattle.goal_graph.proofs.Order.{before_cases, key_cases, less_irreflexiv
 pub use Rattle.goal_graph.proofs.OfKind.{is_op_below, kind_from_op, kind_of_op, op_of_kind, receive_is_op, send_is_op}
 pub use Rattle.goal_graph.proofs.InTurn.{run_in_turn, in_turn_run}
 pub use Rattle.goal_graph.proofs.NoLimits.{no_limit_rule, not_over}
-pub use Rattle.goal_graph.proofs.Newly.{named_rest, newly_allowed, none_left, none_named, partner_exists, still_left}
+pub use Rattle.goal_graph.proofs.Newly.{none_left, partner_exists, still_left}
 pub use Rattle.goal_graph.proofs.Entries.{at_entry, entry_at, entry_of, entry_written, fresh_table, off_entry, one_place, other_place, same_tables, within_table, written_entry, written_table}
 pub use Rattle.goal_graph.proofs.Choices.{alike_choices, alike_numbers, eqb-swapped, same_choice_itself, same_choice_true}

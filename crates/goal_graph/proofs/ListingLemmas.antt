@@ -17,9 +17,6 @@ use Rattle.goal_graph.proofs.Places.{no_plan, length-operations}
 no_op : Op
 no_op = record { kind = Calc 0; cpu = 0; nic = 0 }
 
-place : ℕ → ℕ → OpId
-place rank op = record { rank = rank; op = op }
-
 -- the places of one rank, from its operation i on, begin with that one
 pub places_of_rank-more : (rank i : ℕ) (ops : List Op) → i < length ops → places_of_rank rank i (drop i ops) ≡ record { rank = rank; op = i } ∷ places_of_rank rank (i + 1) (drop (i + 1) ops)
 unfolding places_of_rank

@@ -105,10 +105,6 @@ module _ (plans : List Plan) where
         let falls = left_falls a h i.1 in
         omega (arith, before, falls)
 
-    -- at most three actions per operation, in all
-    pub at_most_three_each : (h : List Act) → IsInterleaving plans eager h → length h ≤ 3 * length (operations plans)
-    at_most_three_each h i = omega (arith, happened_and_left h i)
-
     three_more : (a : Act) (h : List Act) (x : OpId) → ((same_op a.op x ≡ true) ⊎ (same_op a.op x ≡ false)) → allowed plans eager h a.class a.op ≡ true → count_by (λ (a : Act). same_op a.op x) h + left_of plans h x ≤ 3 → count_by (λ (a : Act). same_op a.op x) (a ∷ h) + left_of plans (a ∷ h) x ≤ 3
     three_more a h x (inl same) e before =
         let falls : left_of plans (a ∷ h) x + 1 ≤ left_of plans h x =

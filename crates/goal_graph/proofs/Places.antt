@@ -237,9 +237,6 @@ pub IsOp-below : (plans : List Plan) (x : OpId) → x.rank < length plans → x.
 IsOp-below plans x rank_in op_in =
     IsOp-from_located plans x (record { rank_in = rank_in; op_in = λ p. rw (get_or_default plans x.rank p no_plan rank_in) op_in })
 
-pub IsOp-in_rank : (plans : List Plan) (x : OpId) (p : Plan) → x.rank < length plans → x.op < length (get_or plans x.rank p).ops → IsOp plans x
-IsOp-in_rank plans x p rank_in op_in = IsOp-below plans x rank_in (rw (get_or_default plans x.rank no_plan p rank_in) op_in)
-
 -- the number of operations of a rank, as the code reads it
 pub rank_size : (plans read : List Plan) (rank : ℕ) (p : Plan) (n : ℕ) → read ≡ plans → rank < length plans → p ≡ get_or read rank p → n ≡ length p.ops → n ≡ length (get_or plans rank no_plan).ops
 rank_size plans read rank p n same inside at size =

@@ -3,7 +3,7 @@ use Rattle.std.proofs.Common.{◌≡◌, ◌≢◌, ◌⊎◌, ◌<◌, ◌≤�
 use Rattle.std.specs.List.{between}
 use Rattle.std.proofs.lemmas.Bool.{cases_eq, cases_lt}
 use Rattle.std.proofs.lemmas.List.{length-drop, length-take-le, length-append, take-append-le, take-take, drop_at, get_or-take, get_or-drop}
-use Rattle.std.proofs.lemmas.Option.{none-some, same_Some, slice_get-get_or, slice_get_within, get_or_from_slice_get}
+use Rattle.std.proofs.lemmas.Option.{same_Some, slice_get-get_or, slice_get_within, get_or_from_slice_get}
 use Rattle.std.proofs.lemmas.Slice.{between_is, take-put_mid_below, drop-put_mid}
 pub use borrow.Rule.Slice.PartMut.{put_mid, post_of}
 use Rattle.sim_heaps.proofs.ForCallers.{get_added, get_before_added, get_set_same, get_set_other}
@@ -163,11 +163,3 @@ module _ (parts : List Part) (end room : ℕ) (packed : ArePacked parts end) whe
 
   pub none_more : AreWithoutKeys parts → AreWithoutKeys (parts ++ another ∷ [])
   none_more none i p e = elim (at_end i p e) [ inl s ↦ none i p s.1 | inr s ↦ ap (λ (u : Part). u.count) (sym s.1) ]
-
--- no parts
-pub packed_none : (size : ℕ) → ArePacked [] size
-packed_none size = record {
-  apart = λ i j p q h e f. absurd (none-some p e);
-  within = λ i p e. absurd (none-some p e);
-  fits = λ i p e. absurd (none-some p e);
-}

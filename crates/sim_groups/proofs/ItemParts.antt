@@ -72,9 +72,6 @@ no_items_heap items slots none few = record {
 
 -- the top is removed
 module _ (items front : List (Item Timed)) (last : Item Timed) (are : items ≡ front ++ last ∷ []) (slots slot : ℕ) (heap : IsTopHeap event_before items slots slots) (sole : IsSoleLeast event_before (placed slots items) slot) where
-  pub some_there : 0 < length items
-  some_there = some_items event_before event_laws slots items heap.apart heap.ordered slot sole
-
   pub emptied : length front ≡ 0 → placed slots front ≡ slice_set (placed slots items) slot None
   emptied none = emptied_placed event_before event_laws slots items heap.apart heap.ordered slot sole front last are none
 

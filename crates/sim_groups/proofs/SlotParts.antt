@@ -20,9 +20,6 @@ module _ (old : List Timed) (old_places : List ℕ) (slots places : List ℕ) (n
   pub settled_slots : length slots ≡ length old_places
   settled_slots = heap.same_length ∙ length-map old_places (slice_get old)
 
-  pub settled_places : length places ≡ length old_places
-  settled_places = sym heap.inverse.same_length ∙ settled_slots
-
   pub settled_heap : (new : List Timed) (capacity : ℕ) → length new ≡ n → length old_places ≤ capacity → keys_of new places ≡ keys_of old old_places → IsSlotHeap event_before new slots places capacity
   settled_heap new capacity each room are =
       settled event_before (keys_of old old_places) new slots places n capacity each (omega (arith, settled_slots, room)) are heap

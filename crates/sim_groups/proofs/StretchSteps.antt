@@ -125,45 +125,6 @@ module _ (slots : ℕ) (places : List (Item Timed)) (s : Stretch) (is : IsStretc
       fronted_map =
           ap (placed slots) less ∙ fronted_placed slots (standing places s) is.heap (is.in_order are) slot sole
 
-    -- from the top of a heap
-    module _ (are : s.in_order ≡ false) where
-      pub whole : standing places s ≡ take s.end places
-      whole = ap (λ n. drop n (take s.end places)) (is.at_front are)
-
-      module _ (ys : List (Item Timed)) (each : length ys ≡ length (take s.end places)) where
-        abbrev left : Stretch
-        left = record { first = s.first; end = s.end - 1; in_order = s.in_order }
-
-        abbrev written : List (Item Timed)
-        written = ys ++ drop s.end places
-
-        many : length ys ≡ s.end
-        many = each ∙ length-take-le s.end places is.ends
-
-        pub long_left : length written ≡ length places
-        long_left = omega (arith, length-append ys (drop s.end places), many, length-drop s.end places, is.ends)
-
-        stay : standing written left ≡ all_but_last ys
-        stay =
-            let fewer : s.end - 1 ≡ length ys - 1 = omega (arith, many) in
-            ap (λ n. drop n (take (s.end - 1) written)) (is.at_front are)
-            ∙ take-append-le (s.end - 1) ys (drop s.end places) (omega (arith, many))
-            ∙ ap (λ n. take n ys) fewer
-
-        pub left_stretch : IsTopHeap event_before (all_but_last ys) slots slots → IsStretch event_before slots written left
-        left_stretch heap = record {
-          few = omega (arith, is.few, long_left);
-          begins = omega (arith, is.at_front are);
-          ends = omega (arith, is.ends, long_left);
-          heap = subst (λ (xs : List (Item Timed)). IsTopHeap event_before xs slots slots) (sym stay) heap;
-          in_order = λ e. both s.in_order e are;
-          at_front = is.at_front;
-        }
-
-        pub left_map : placed slots (all_but_last ys) ≡ slice_set (placed slots (take s.end places)) slot None → map_on slots written left ≡ slice_set (map_on slots places s) slot None
-        left_map is_left =
-            ap (placed slots) stay ∙ is_left ∙ ap (λ xs. slice_set (placed slots xs) slot None) (sym whole)
-
   -- an item is inserted among the others, which were moved to the front
   module _ (room : length (standing places s) < length places) where
     pub fit : s.end - s.first + 1 ≤ length places

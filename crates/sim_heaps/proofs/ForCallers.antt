@@ -1,6 +1,6 @@
 -- The lemmas that upper crates may use: they import this file alone.
 pub use Rattle.sim_heaps.proofs.Weak.{not_both, through}
-pub use Rattle.sim_heaps.proofs.Maps.{get_added, get_before_added, get_set_other, get_set_same, key_within, least_is_sole, none_of, same_maps}
+pub use Rattle.sim_heaps.proofs.Maps.{get_added, get_before_added, get_set_other, get_set_same, key_within, none_of, same_maps}
 pub use Rattle.sim_heaps.proofs.Items.{item_of, items_fit, length-placed}
 pub use Rattle.sim_heaps.proofs.ItemChanges.{added_apart, added_ordered, added_placed, emptied_placed, empty_items, some_items, taken_apart, taken_ordered, taken_placed, top_is_least}
 pub use Rattle.sim_heaps.proofs.Swapping.{length-swapped, swapped_inverse}

@@ -303,13 +303,6 @@ module _ {K : Type 0} (before : K → K → Bool) (laws : IsOrder before) (run :
     least = λ other k e. through before laws k top first.key (least.least other k e) late;
   }
 
-  pub run_is_alone : (first : Item K) → slice_get run 0 ≡ Some first → IsEmptyMap heap → IsRunFirst before run heap
-  run_is_alone first stands empty = record {
-    first = first;
-    stands = stands;
-    least = λ other k e. (let none : key_at heap other ≡ None = empty other in absurd (cc));
-  }
-
   pub heap_is_first : AreInOrder before run → (first : Item K) → slice_get run 0 ≡ Some first → (slot : ℕ) (top : K) → IsLeast before heap slot top → before top first.key ≡ true → IsHeapFirst before run heap
   heap_is_first in_order first stands slot top least early place x e = record { slot = slot; key = top; has = least.has; first = go place e }
     where
@@ -319,9 +312,6 @@ module _ {K : Type 0} (before : K → K → Bool) (laws : IsOrder before) (run :
       go : (at : ℕ) → slice_get run at ≡ Some x → before x.key top ≡ false
       go zero f = subst (λ (y : Item K). before y.key top ≡ false) (same_Some first x (sym stands ∙ f)) late
       go (suc at) f = through before laws x.key first.key top (in_order 0 (suc at) first x (omega arith) stands f) late
-
-  pub heap_is_alone : length run ≡ 0 → IsHeapFirst before run heap
-  heap_is_alone none place x e = let within = slice_get_within run place x e in absurd (omega (arith, within, none))
 
 -- an item after a run
 module _ {K : Type 0} (before : K → K → Bool) (laws : IsOrder before) (run : List (Item K)) where
@@ -355,14 +345,6 @@ module _ {K : Type 0} (before : K → K → Bool) (laws : IsOrder before) (run :
 
 -- the run is empty
 module _ {K : Type 0} (before : K → K → Bool) (heap : List (Option K)) where
-  pub no_run : length heap ≤ MAX_OPS → IsRun before [] heap
-  no_run few = record {
-    few = few;
-    apart = record { within = λ place x e. absurd (cc); apart = λ one other x y e f s. absurd (cc) };
-    beside = λ place x e. absurd (cc);
-    in_order = λ one other x y h e f. absurd (cc);
-  }
-
   pub no_run_keys : with_run [] heap ≡ heap
   unfolding placed
   no_run_keys = nothing_first heap

@@ -124,15 +124,6 @@ module _ (patterns : List Pattern) (old : ListOrder) (given : AreGiven patterns 
   has_number place kept at other None e = absurd (none-some place e)
   has_number place kept at other (Some p) e = some_kept (number old.keys.items p) (λ is. other (kept_at p place kept e at ∙ is))
 
-  -- what the code reads
-  pub kept_number : (place kept : ℕ) → slice_get old.numbers.items place ≡ Some kept → (p : Option Pattern) → list_number patterns p ≡ Some place → kept ≡ coded (list_number old.keys.items p)
-  kept_number place kept at None e = absurd (none-some place e)
-  kept_number place kept at (Some p) e = kept_at p place kept e at
-
-  pub no_number : (p : Option Pattern) → list_number patterns p ≡ None → list_number old.keys.items p ≡ None
-  no_number None e = refl
-  no_number (Some p) e = given.among p e
-
   -- a place is one of those that are kept
   pub place_within : (p : Option Pattern) (place : Option ℕ) → list_number patterns p ≡ place → IfSome place (λ (at : ℕ). at < length old.numbers.items)
   place_within p None e = tt

@@ -6,7 +6,6 @@ use Rattle.std.specs.Global.{Global}
 use Rattle.std.specs.Option.{IfSome, option_map}
 use Rattle.goal_graph.specs.declared.action.OpId.{OpId}
 use Rattle.goal_graph.specs.declared.plan.Kind.{Kind}
-use Rattle.goal_graph.specs.declared.plan.Kind.TheVariants.{Calc, Send, Recv}
 use Rattle.goal_graph.specs.Schedule.{Plan, kind_at, operations, IsSend, IsReceive}
 use Rattle.sim_match.specs.declared.pattern.Pattern.{Pattern}
 use Rattle.sim_match.specs.Patterns.{pattern_of, own_pattern, number, list_number, list_of, own_list, wild_pattern, wild_number, wild_list, lists_for}
@@ -40,23 +39,6 @@ module _ (plans : List Plan) (keys : List Pattern) (x : OpId) where
 
   pub own_codable : length keys < 2 ^ 32 - 1 → IsCodable (own_list plans keys x)
   own_codable few list e = let within = own_within list e in omega (arith, within, few)
-
-  pub wild_codable : (wild : Wild) → length keys < 2 ^ 32 - 1 → IsCodable (wild_list plans keys wild x)
-  wild_codable wild few list = go (kind_at plans x)
-    where
-      go : (k : Option Kind) → wild_number keys wild x k ≡ Some list → list < 2 ^ 32 - 1
-      go (Some (Calc nanos)) e = absurd (none-some list e)
-      go (Some (Send bytes to tag)) e = codable keys (wild_pattern wild x.rank to tag) few list e
-      go (Some (Recv room from tag)) e = absurd (none-some list e)
-      go None e = absurd (none-some list e)
-
-  -- where the schedule has no pattern it has no list
-  pub own_nowhere : length keys ≡ 0 → own_list plans keys x ≡ None
-  own_nowhere none = go (own_list plans keys x) (λ list e. own_within list e)
-    where
-      go : (o : Option ℕ) → ((list : ℕ) → o ≡ Some list → list < length keys) → o ≡ None
-      go None within = refl
-      go (Some list) within = let less = within list refl in absurd (omega (arith, none, less))
 
   pub own_of_receive : IsReceive plans x → own_list plans keys x ≡ list_of plans keys x
   own_of_receive r =

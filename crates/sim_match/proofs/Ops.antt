@@ -28,10 +28,6 @@ pub ops_other : (class : Class) (a : Act) (h : List Act) → (place a.class == p
 unfolding ops_of
 ops_other class a h e = ap (λ (b : Bool). ops_of class h ++ (if b then a.op ∷ [] else [])) e ∙ append-nil (ops_of class h)
 
-or_none : {X : Type 0} (o : Option X) → option_or o None ≡ o
-or_none None = refl
-or_none (Some x) = refl
-
 -- the oldest action of a class that passes two tests is the first of its operations that passes them
 pub oldest_found : (class : Class) (r q : OpId → Bool) (h : List Act) → oldest (λ (a : Act). (place a.class == place class) && r a.op && q a.op) h ≡ find (λ (x : OpId). r x && q x) (ops_of class h)
 unfolding oldest ops_of

@@ -21,38 +21,13 @@ no_fault_at fault n (y ∷ ys) (suc i) x e f =
     subst (λ m. fault m x ≡ None) (omega arith) (no_fault_at fault (n + 1) ys i x (option_or-none _ _ e).1 f)
 
 module _ (plans : List Plan) (accepted : IsAccepted plans) where
-  no_counts : count_fault plans ≡ None
-  unfolding plain_fault
-  no_counts = (option_or-none (count_fault plans) _ accepted.plain).0
-
   no_rank_fault : first_fault (rank_fault (length plans)) 0 plans ≡ None
   unfolding plain_fault
   no_rank_fault = (option_or-none (count_fault plans) _ accepted.plain).1
 
-  pub few_ranks : length plans ≤ 65536
-  unfolding count_fault
-  few_ranks = go (length plans == 0) refl (option_or-none _ _ no_counts).0
-    where
-      go : (b : Bool) → (length plans == 0) ≡ b → (if b then Some (Count 0 MAX_RANKS) else count_over MAX_RANKS (length plans)) ≡ None → length plans ≤ 65536
-      go true t e = absurd (cc)
-      go false t e = count_over-none MAX_RANKS (length plans) e
-
-  pub few_ops : op_count plans ≤ 2 ^ 20
-  unfolding count_fault
-  few_ops = count_over-none MAX_OPS (op_count plans) (option_or-none (count_over MAX_OPS (op_count plans)) _ (option_or-none _ _ no_counts).1).0
-
   rank_has_no_fault : (rank : ℕ) (p : Plan) → slice_get plans rank ≡ Some p → rank_fault (length plans) rank p ≡ None
   rank_has_no_fault rank p e =
       subst (λ r. rank_fault (length plans) r p ≡ None) (omega arith) (no_fault_at (rank_fault (length plans)) 0 plans rank p no_rank_fault e)
-
-  pub few_ops_at : (rank : ℕ) (p : Plan) → slice_get plans rank ≡ Some p → length p.ops ≤ 2 ^ 20
-  unfolding op_count
-  few_ops_at rank p e =
-      let within = slice_get_within plans rank p e in
-      let le = get_or-le-sum_by (λ (q : Plan). length q.ops) plans rank p within in
-      let same = get_or_from_slice_get plans rank p p e in
-      let few : op_count plans ≤ 2 ^ 20 = few_ops in
-      subst (λ (q : Plan). length q.ops ≤ 2 ^ 20) same (omega (arith, le, few))
 
   -- no operation has a fault
   op_has_no_fault : (rank op : ℕ) (p : Plan) (o : Op) → slice_get plans rank ≡ Some p → slice_get p.ops op ≡ Some o → op_fault (length plans) rank op o ≡ None

@@ -1,7 +1,6 @@
 -- The lemmas that upper crates may use: they import this file alone.
 pub use Rattle.sim_params.proofs.Grow.{mate_stays, since_kept, since_new, time_grows}
 pub use Rattle.sim_params.proofs.Interleavings.{complete_interleaving, possible_at, possible_room, run_each, run_interleaving, run_length}
-pub use Rattle.sim_params.proofs.Accepted.{few_ranks}
 pub use Rattle.sim_params.proofs.Fixed.{end_kept, end_last, paired_at_kept, start_kept, start_now}
 pub use Rattle.sim_params.proofs.BudgetBound.{possible_budget, within_budget}
 pub use Rattle.sim_params.proofs.Unique.{one_complete}

@@ -38,13 +38,7 @@ since_placed to test tried same (a ∷ h) =
     at : (l : List Timed) → tried (plain (map (placed_timed to) l)) ≡ test (plain l)
     at l = ap tried (plain_placed to l) ∙ same (plain l)
 
-greatest_same : {A : Type 0} (f g : A → ℕ) → ((x : A) → f x ≡ g x) → (xs : List A) → greatest f xs ≡ greatest g xs
-greatest_same f g same xs = λ i. greatest (λ x. same x i) xs
-
 module _ (ranks : ℕ) (to back : ℕ → ℕ) (perm : IsPermutation ranks to back) (plans other : List Plan) (placed : IsPlaced to plans other) (costs there : CostModel) (alike : AreAlike to costs there) where
-  abbrev act : Act → Act
-  act = placed_act to
-
   abbrev acts : List Timed → List Timed
   acts h = map (placed_timed to) h
 

@@ -1,5 +1,5 @@
--- The best of the slots so far, with another slot, and of all.
-use Rattle.std.proofs.Common.{◌≡◌, ℕ, ◌+◌, ◌<◌, ◌≤◌, ◌↔◌, ◌⊎◌, Bool, List, length, Option, Some, None, IsNone, IfSome, refl, subst, arith, inl, inr}
+-- The best of the slots so far, one slot more, and all.
+use Rattle.std.proofs.Common.{◌≡◌, ℕ, ◌≤◌, ◌↔◌, Bool, List, length, Option, Some, None, IsNone, IfSome, refl, subst, arith, inl, inr}
 use Rattle.std.proofs.lemmas.List.{get_or_past}
 use Rattle.std.proofs.lemmas.Bool.{cases_order}
 use Rattle.sim_order.specs.Order.{IsOrder}
@@ -7,25 +7,6 @@ use Rattle.sim_heaps.specs.Map.{key_at, IsEmptyMap, IsLeast}
 use Rattle.sim_queue.specs.Scan.{IsBestBelow}
 
 module _ {K : Type 0} (before : K → K → Bool) (laws : IsOrder before) (keys : List (Option K)) where
-  -- a slot below n + 1 is below n, or it is n
-  last_or_below : (n slot : ℕ) → slot < n + 1 → (slot < n) ⊎ (slot ≡ n)
-  last_or_below n slot h = go (cases_order slot n)
-    where
-      go : (slot ≡ n) ⊎ ((slot < n) ⊎ (n < slot)) → (slot < n) ⊎ (slot ≡ n)
-      go (inl e) = inr e
-      go (inr (inl p)) = inl p
-      go (inr (inr p)) = absurd (omega (arith, h, p))
-
-  same_key : (k key : K) → Some k ≡ Some key → k ≡ key
-  same_key k key e = cc
-
-  pub none_more : (n : ℕ) (best : Option (ℕ × K)) → IsBestBelow before keys n best → key_at keys n ≡ None → IsBestBelow before keys (n + 1) best
-  none_more n None h e = λ slot p. elim (last_or_below n slot p) [ inl q ↦ h slot q | inr q ↦ rw q e ]
-  none_more n (Some r) h e = record {
-    has = h.has;
-    least = λ other k p f. elim (last_or_below n other p) [ inl q ↦ h.least other k q f | inr q ↦ let g : key_at keys n ≡ Some k = subst (λ i. key_at keys i ≡ Some k) q f in absurd (cc) ];
-  }
-
   -- after the end no slot has a key
   pub past_end : (slot : ℕ) → length keys ≤ slot → key_at keys slot ≡ None
   past_end slot h = get_or_past keys slot None h

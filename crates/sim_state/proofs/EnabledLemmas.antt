@@ -85,10 +85,6 @@ module _ (plans : List Plan) (costs : CostModel) (h : List Timed) (x : OpId) whe
   first_happened : (c : Class) → BeginsBy c → happened c x (plain h) ≡ has_started plans x (plain h)
   first_happened c b = ap (λ (d : Class). happened d x (plain h)) (sym b.first)
 
-  -- whether it has started, as its entry tells it
-  pub start_told : (e : Entry) → e ≡ entry_known plans costs h x → is_some e.times.start ≡ has_started plans x (plain h)
-  start_told e told = ap (λ (e : Entry). is_some e.times.start) told ∙ is_known (has_started plans x (plain h)) _
-
   -- when its message or its request arrives, once it has started and while it is not paired
   pub arrival_told : IsRun plans costs h → (e : Entry) → e ≡ entry_known plans costs h x → has_started plans x (plain h) ≡ true → mate plans costs h x ≡ None → e.times.awaited ≡ time_known plans costs h Arrive x
   arrival_told run e told s none =

@@ -1,7 +1,6 @@
 -- What the fields of an engine say of its view.
 use Rattle.std.proofs.Common.{◌≡◌, ◌<◌, ◌^◌, subst}
 use Rattle.sim_params.specs.Costs.{CostModel}
-use Rattle.sim_params.specs.Run.{IsRun}
 use Rattle.sim_params.specs.Budget.{budget}
 use Rattle.sim_resources.specs.FreeTimes.{Holds}
 use Rattle.sim_state.specs.Engine.{View}
@@ -11,10 +10,6 @@ module _ {C : Type 0} (model : C → CostModel) (v w : View C) where
   -- the free times, as those of the view
   pub free_at_view : (res : Holds) → v ≡ w → AreFreeTimes v.plans (model v.costs) v.history res → AreFreeTimes w.plans (model w.costs) w.history res
   free_at_view res e = subst (λ (u : View C). AreFreeTimes u.plans (model u.costs) u.history res) e
-
-  -- what has happened is a run
-  pub run_at_view : v ≡ w → IsRun v.plans (model v.costs) v.history → IsRun w.plans (model w.costs) w.history
-  run_at_view e = subst (λ (u : View C). IsRun u.plans (model u.costs) u.history) e
 
   -- and its budget fits
   pub within_at_view : v ≡ w → budget v.plans (model v.costs) < 2 ^ 63 → budget w.plans (model w.costs) < 2 ^ 63

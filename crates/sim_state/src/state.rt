@@ -15,7 +15,7 @@ ghost use Rattle.sim_params.specs.Laws.{IsWithin};
 ghost use Rattle.sim_state.specs.Engine.{IsEngineFault, start_known, end_known};
 ghost use Rattle.sim_state.specs.Represents.{entry_known};
 ghost use Rattle.sim_state.specs.Tasks.{task_of, work_of};
-ghost use Rattle.sim_state.specs.Free.{free, side};
+ghost use Rattle.sim_state.specs.Free.{side};
 
 use crate::entry::{Entry, first_entries, read};
 use crate::fault::EngineFault;
@@ -138,19 +138,6 @@ impl<'a, C: Costs, H: History> State<'a, C, H> {
         ensures { result ≡ mate self.now.plans (C.model self.now.costs) self.now.history id }
     {
         self.entry(id).link.partner()
-    }
-
-    /// Returns when all that an operation uses is free, in nanoseconds: its cpu and, if it sends or receives, that side
-    /// of its NIC.
-    pub fn free(&self, id: OpId) -> u64
-        requires { IsOp self.now.plans id }
-        ensures { result ≡ free self.now.plans (C.model self.now.costs) self.now.history id }
-    {
-        match self.task(id) {
-            Task::Calc => self.resources.cpu(id),
-            Task::Eager | Task::Large => self.resources.cpu(id).max(self.resources.tx(id)),
-            Task::Receive => self.resources.cpu(id).max(self.resources.rx(id)),
-        }
     }
 
     /// Returns when the cpu of an operation is free, in nanoseconds.

@@ -86,19 +86,6 @@ module _ (ahead : List (Option Timed)) (waiting : Grouped Timed) (rows : Rowed) 
       go None None e f =
           ap has_key (kept.stood.tells slot ∙ ap (λ o. stand_of o (key_at waiting.keys slot)) e ∙ ap (stand_of None) f) ∙ sym (ap is_some (there ∙ ap (option_map (when_free rows.free (pair_here rows.pairs waiting slot))) (merged_waiting ahead waiting slot e ∙ f)))
 
-  -- a slot that waits, and one that does not
-  pub waits_there : (slot : ℕ) → is_waiting (slice_index_or stands slot Nowhere) ≡ true → (k : Timed) × (key_at waiting.keys slot ≡ Some k)
-  waits_there slot e = go (key_at ahead slot) (key_at waiting.keys slot) refl refl
-    where
-      go : (a w : Option Timed) → key_at ahead slot ≡ a → key_at waiting.keys slot ≡ w → (k : Timed) × (key_at waiting.keys slot ≡ Some k)
-      go a (Some k) f g = (k, g)
-      go (Some k) None f g =
-          let not : is_waiting (slice_index_or stands slot Nowhere) ≡ false = ap is_waiting (kept.stood.tells slot ∙ ap (λ o. stand_of o (key_at waiting.keys slot)) f) in
-          absurd (cc)
-      go None None f g =
-          let not : is_waiting (slice_index_or stands slot Nowhere) ≡ false = ap is_waiting (kept.stood.tells slot ∙ ap (λ o. stand_of o (key_at waiting.keys slot)) f ∙ ap (stand_of None) g) in
-          absurd (cc)
-
   pub waits_stand : (slot : ℕ) (k : Timed) → key_at waiting.keys slot ≡ Some k → slice_index_or stands slot Nowhere ≡ Waiting
   waits_stand slot k e =
       kept.stood.tells slot ∙ ap (λ o. stand_of o (key_at waiting.keys slot)) (not_ahead ahead waiting rows.pairs kept.mapped slot k e) ∙ ap (stand_of None) e
@@ -284,9 +271,6 @@ module _ (ahead : List (Option Timed)) (waiting : Grouped Timed) (rows : Rowed) 
 
   -- a slot gets a key at its own time
   module _ (slot : ℕ) (within : slot < length waiting.keys) (idle : key_at seen slot ≡ None) (key : Timed) where
-    pair_of_slot : Pair
-    pair_of_slot = pair_here rows.pairs waiting slot
-
     module _ (new_ahead : List (Option Timed)) (put : new_ahead ≡ set ahead slot (Some key)) where
       put_step : IsStep slot ahead new_ahead waiting waiting
       put_step = subst (λ x. IsStep slot ahead x waiting waiting) (sym put) (step_ahead ahead waiting rows.pairs kept.mapped slot (Some key) within (idle_waiting slot idle))

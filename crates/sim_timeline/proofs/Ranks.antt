@@ -54,10 +54,6 @@ shorter first (p ∷ plans) (suc rank) =
     omega (arith, length-append own (places_from (first + 1) (take rank plans)), length-append own (places_from (first + 1) plans), shorter (first + 1) plans rank)
 
 module _ (plans : List Plan) where
-  pub before_none : before_rank plans 0 ≡ 0
-  unfolding places_from
-  before_none = refl
-
   pub before_more : (rank : ℕ) → before_rank plans (rank + 1) ≡ before_rank plans rank + length (ops_at plans rank)
   before_more rank =
       let next : rank + 1 ≡ suc rank = omega arith in
