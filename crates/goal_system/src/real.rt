@@ -1,4 +1,4 @@
-// The real outside: files and streams of the system. They tell nothing of what they hold.
+//! The devices of the system: its files and streams. Contracts do not know their contents.
 ghost use Rattle.std.specs.Prelude.{◌≡◌, ◌≢◌, ◌≤◌, ◌<◌, ℕ, true, is_some, length, take, IfOk, IfErr, OnOk, OnErr, IsErrOf};
 ghost use Rattle.std.specs.IoError.{error_kind};
 ghost use Rattle.std.specs.Io.KnownBytes.{ReadConsumes, WriteAppends, Appends, Keeps};
@@ -23,7 +23,7 @@ pub struct RealHost<R: Files> {
 }
 
 impl<R: Files> RealHost<R> {
-    /// The files that this runtime gives, of which none is open.
+    /// Creates a host with the files of this runtime, of which none is open.
     pub fn new(rt: R) -> RealHost<R> {
         RealHost {
             rt,
@@ -36,7 +36,7 @@ impl<R: Files> RealHost<R> {
     }
 }
 
-// Counts an error; want of memory is counted nowhere.
+// Counts an error, unless memory ran out.
 fn fault_of(count: &mut u64, error: io::Error) -> IoFault
     ensures kind { result ≡ fault_of (error_kind error) }
     ensures failed { result ≡ IoFault.Failed → Rose true count.old count.new }
@@ -52,7 +52,7 @@ fn fault_of(count: &mut u64, error: io::Error) -> IoFault
     }
 }
 
-// As what an error of opening a file is told.
+// How an error of opening a file is reported.
 fn fault_of_open(error: &io::Error) -> OpenFault
     ensures { result ≡ fault_of_open (error_kind error.now) }
 {
@@ -63,8 +63,8 @@ fn fault_of_open(error: &io::Error) -> OpenFault
     }
 }
 
-// Reads into a buffer, again where a signal interrupts it. It takes from the input what it gives and no other byte, and
-// nothing where it fails: the interrupted tries take none.
+// Reads into a buffer, and tries again if a signal interrupts it. It consumes exactly the bytes that it returns, and
+// none if it fails: interrupted tries consume nothing.
 fn read_again<T: Read>(input: &mut T, buf: &mut [u8]) -> io::Result<usize>
     ensures bound { IfOk result (λ n. n ≤ length buf.new) }
     ensures bytes { ReadConsumes (T.remaining input.old) (T.remaining input.new) result buf.new }
@@ -82,8 +82,8 @@ fn read_again<T: Read>(input: &mut T, buf: &mut [u8]) -> io::Result<usize>
     Err(io::Error::from(ErrorKind::TimedOut))
 }
 
-// Writes the front of a piece, again where a signal interrupts it. It writes what it says and no other byte, and nothing
-// where it fails: the interrupted tries write none. To write nothing of a piece that is not empty is an error.
+// Writes a prefix of a piece, and tries again if a signal interrupts it. It writes exactly the bytes that it reports,
+// and none if it fails: interrupted tries write nothing. Writing nothing of a piece that is not empty is an error.
 fn write_again<T: Write>(output: &mut T, piece: &[u8]) -> io::Result<usize>
     ensures bound { IfOk result (λ n. n ≤ length piece.now) }
     ensures moves { IfOk result (λ n. 0 < length piece.now → 0 < n) }
@@ -103,8 +103,9 @@ fn write_again<T: Write>(output: &mut T, piece: &[u8]) -> io::Result<usize>
     Err(io::Error::from(ErrorKind::TimedOut))
 }
 
-// Asks the system to keep what was written. A file that it keeps nowhere, as a terminal, says so and is no fault. That it
-// asks no clause says: std says nothing of what a flush or a sync does beyond the bytes that were written.
+// Asks the system to store what was written. A file that cannot be stored, such as a terminal, reports this, and it is
+// not a fault. The contracts do not say that the system is asked, because those of `std` say nothing of a flush or a
+// sync except for the bytes written.
 fn close<F: Write + OpenFile>(output: &mut F, count: &mut u64) -> Result<(), IoFault>
     ensures kept { Keeps (F.contents output.old) (F.contents output.new) }
     ensures failed { IsErrOf result IoFault.Failed → Rose true count.old count.new }
@@ -188,8 +189,8 @@ impl<R: Files + Drop> Host for RealHost<R> {
     }
 }
 
-/// A stream of the system, as the standard output, which is flushed at each write. Its count rises at each error, and
-/// stops at 2^64-1.
+/// A stream of the system, such as the standard output, which is flushed at each write. Its count rises at each error,
+/// and stops at 2^64-1.
 #[derive(Drop)]
 pub struct RealSink<W> {
     stream: W,
@@ -197,13 +198,13 @@ pub struct RealSink<W> {
 }
 
 impl<W: Write> RealSink<W> {
-    /// A sink over this stream.
+    /// Creates a sink over this stream.
     pub fn new(stream: W) -> RealSink<W> {
         RealSink { stream, faults: 0 }
     }
 }
 
-// Writes the front of a piece and flushes the stream. At a fault a front of the piece may be written all the same.
+// Writes a prefix of a piece and flushes the stream. If this fails, a prefix of the piece may have been written.
 fn write_through<T: Write>(stream: &mut T, piece: &[u8], count: &mut u64) -> Result<usize, IoFault>
     ensures bound { IfOk result (λ n. n ≤ length piece.now) }
     ensures moves { IfOk result (λ n. 0 < length piece.now → 0 < n) }
