@@ -1,4 +1,4 @@
--- How much a run costs where what it shares is of one kind.
+-- The cost of a run in which the operations of each rank share one cpu, or their messages one NIC.
 use Rattle.std.specs.Prelude.{ℕ, ◌≡◌, ◌⊎◌, ◌≤◌, ◌+◌, ◌*◌, false, List, Some, length}
 use Rattle.goal_graph.specs.declared.action.OpId.{OpId}
 use Rattle.goal_graph.specs.declared.action.Timed.{Timed}
@@ -26,7 +26,7 @@ HasOneNic plans rank =
 abbrev pub IsOneWide : List Plan → Type 0
 IsOneWide plans = (rank : ℕ) → HasOneCpu plans rank ⊎ HasOneNic plans rank
 
--- then stations change their places at most once an operation, and six times an action
+-- then stations switch at most once per operation, and six times per action
 abbrev pub MovesAreFew : Type 0
 MovesAreFew = (plans : List Plan) (h : List Timed) → IsOneWide plans → most_moves plans h ≤ length (operations plans) + 6 * length h
 

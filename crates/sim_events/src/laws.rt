@@ -1,10 +1,10 @@
-// The laws of how much a run costs. Their function does nothing: a proof cites a law by a call.
+//! The laws of the cost of a run. Their function does nothing: a proof cites a law by a call.
 ghost use Rattle.sim_events.specs.Laws.{MovesAreFew, RunsAreCheap};
 
-/// The laws of what a run costs where on each rank all operations use one cpu, or all messages (sends and receives) one NIC,
-/// whatever else they share:
+/// The laws of the cost of a run if on each rank all operations use one cpu, or all messages (sends and receives) one
+/// NIC, whatever else they share:
 ///
-/// - `few`: stations change their places at most once an operation, and six times an action that has happened.
+/// - `few`: stations switch at most once per operation, and six times per action that has happened.
 /// - `cheap`: so a run of n operations, among 2^k, compares keys at most n (216k + 388) + 3 times, its start included.
 pub fn laws_of_costs()
     ensures few { MovesAreFew }
