@@ -15,24 +15,27 @@ from common import program
 EXAMPLES = os.path.join(TOP, "examples")
 GOAL = os.path.abspath(program.chosen())
 CARDS = "class a L=5\nnodes 2 of 4\ninside a\nbetween a\ncards 1\n"
+TABLE = "L,g,finish,stuck,protocol\n" + "".join(f"5,{gap},9,0,eager\n" for gap in range(101))
 SIXTEEN = "the machine has 16 ranks, and the schedule has 8"
 # By the tool, its words and what it says. ALL is an alltoall of 8 ranks, each with 15 operations, CARDS a machine for it.
 KEPT = (
     ("certify", "bcast ALL --root 65536", "argument --root: '65536' is no number of a rank from 0 up to 65535"),
     ("check", "ALL --limit 0", "argument --limit: '0' is no number of findings from 1 up to 1048576"),
     ("fold", "ALL TWO_NODES --run", SIXTEEN),
-    ("fold", "ALL CARDS --cards 257 --run", "'257' is no number up to 256"),
+    ("fold", "ALL CARDS --cards 257 --run", "'257' is no number of cards up to 256"),
     ("fold", "ALL CARDS --run -o /no/such/file", "/no/such/file: No such file or directory"),
     ("locate", "ALL 99999999", "ALL has only "),
     ("machine", "MANY", "MANY:1: more than 65536 ranks"),
     ("path", "ALL --machine TWO_NODES", SIXTEEN),
     ("path", "ALL --to 8 0", "rank 8 has no operation 0"),
     ("path", "ALL --to 7 15 --machine CARDS", "rank 7 has no operation 15"),
+    ("plot", "TABLE --x L", "101 curves: a picture has at most "),
     ("schedule", "allreduce-ring 2048 8", "more than 1048576 operations: take fewer ranks or segments"),
     ("segments", "alltoall ALL 4097", "4097 segments of 16 slots: `goal certify` takes 65536 slots at most"),
     ("segments", "bcast ALL --root 8", "the root 8 is none of 8 ranks"),
     ("sweep", "schedule=ALL L=1..101+1 g=1,2 --x g --plot x", "101 curves: a picture has at most "),
     ("sweep", "schedule=ALL L=1..1000+1 g=1..101+1", "more than 100000 points"),
+    ("sweep", "algorithm=bcast ranks=8,70000 size=8", "ranks: 70000 is no number of ranks from 1 up to 65536"),
     ("timeline", "ALL --limit 100", "120 operations, and the limit is 100: "),
     ("timeline", "ALL --limit 20 --ranks 0-1", "30 operations, and the limit is 20: "),
     ("timeline", "ALL --limit 100 --machine CARDS", "120 operations, and the limit is 100: "),
@@ -51,10 +54,10 @@ class Limits(unittest.TestCase):
         named = {name for name in os.listdir(tools) if os.path.isfile(os.path.join(tools, name)) and not name.endswith(".py")}
         self.assertEqual({tool for tool, _, _ in KEPT}, named)
         with tempfile.TemporaryDirectory() as folder:
-            files = {"TWO_NODES": os.path.join(EXAMPLES, "two_nodes"), **{name: os.path.join(folder, name) for name in ("ALL", "CARDS", "MANY", "goal")}}
+            files = {"TWO_NODES": os.path.join(EXAMPLES, "two_nodes"), **{name: os.path.join(folder, name) for name in ("ALL", "CARDS", "MANY", "TABLE", "goal")}}
             made = subprocess.run([GOAL, "gen", "alltoall", "8", "8"], stdout=subprocess.PIPE, check=True, text=True).stdout
             program = f"#!/bin/sh\ncase $1 in show|compile) exec '{GOAL}' \"$@\" ;; esac\necho \"goal: asked to $1\" >&2\nexit 9\n"
-            for name, text in (("ALL", made), ("CARDS", CARDS), ("MANY", "nodes 2 of 40000\n"), ("goal", program)):
+            for name, text in (("ALL", made), ("CARDS", CARDS), ("MANY", "nodes 2 of 40000\n"), ("TABLE", TABLE), ("goal", program)):
                 with open(files[name], "w", encoding="utf-8") as file:
                     file.write(text)
             os.chmod(files["goal"], 0o755)

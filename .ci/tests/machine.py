@@ -98,8 +98,8 @@ class Machines(unittest.TestCase):
         for description, why in (
                 ("nods 2 of 2", "-:1: 'nods' begins no line"), (CLASSES + "nodes 2 by 2", "-:4: it is `nodes COUNT of SIZE`"),
                 ("nodes 2 of 2 round", "-:1: it is `nodes COUNT of SIZE`"), ("groups 2 of 2 cyclic", "-:1: it is `groups COUNT of SIZE`"),
-                ("cards", "-:1: it is `cards own`"), ("cards 0", "-:1: a node has at least one card"), ("cards 257", "-:1: '257' is no number up to 256"),
-                ("cards 1\ncards 1", "-:2: `cards` is told twice"), ("cards own in turn", "-:1: 'own' is no number up to 256"),
+                ("cards", "-:1: it is `cards own`"), ("cards 0", "-:1: a node has at least one card"), ("cards 257", "-:1: '257' is no number of cards up to 256"),
+                ("cards 1\ncards 1", "-:2: `cards` is told twice"), ("cards own in turn", "-:1: 'own' is no number of cards up to 256"),
                 ("nodes 0 of 2", "-:1: both numbers are above 0"), ("nodes 300 of 300", "-:1: more than 65536 ranks"),
                 ("class a L=3 L=4", "-:1: L is told twice"), ("class a G=0.0000801", "-:1: G is 0.0000801"), ("class a L=1099511627775 G=0.0801", "-:1: L is 1099511627775: for a rate"),
                 ("class a G=0.0025 Op=5", "-:1: Op can not be given beside"), ("class a S=16X", "-:1: S is 16X, not a number of bytes, as"), ("class a X=1", "-:1: 'X=1' is no"),

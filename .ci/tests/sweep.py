@@ -11,6 +11,7 @@ import tempfile
 import time
 import unittest
 import xml.etree.ElementTree
+from decimal import Decimal
 from typing import Any
 
 TOP = os.path.dirname(os.path.dirname(os.path.dirname(os.path.abspath(__file__))))
@@ -21,8 +22,8 @@ SVG = "{http://www.w3.org/2000/svg}"
 EXCHANGE = os.path.join(TOP, "examples", "exchange")
 
 
-def sweep(*words: str) -> subprocess.CompletedProcess[str]:
-    return subprocess.run([os.path.join(TOP, "tools", "sweep"), *words], capture_output=True, text=True, check=False)
+def sweep(*words: str, text: str = "") -> subprocess.CompletedProcess[str]:
+    return subprocess.run([os.path.join(TOP, "tools", "sweep"), *words], input=text, capture_output=True, text=True, check=False)
 
 
 def table(*words: str) -> list[list[str]]:
@@ -136,9 +137,9 @@ class Results(unittest.TestCase):
 
     def test_no_run_at_all_is_told_and_no_picture_is_drawn(self) -> None:
         with tempfile.TemporaryDirectory() as folder:
-            done = sweep("algorithm=bcast", "ranks=70000,80000", "size=8", "--plot", os.path.join(folder, "picture"))
+            done = sweep("algorithm=allreduce", "ranks=5,6", "size=8", "--plot", os.path.join(folder, "picture"))
             self.assertEqual((done.returncode, len(told(done)), os.listdir(folder)), (2, 1, []))
-        self.assertIn("2 of 2 runs failed, the first at algorithm=bcast ranks=70000 size=8: goal: ", done.stderr)
+        self.assertIn("2 of 2 runs failed, the first at algorithm=allreduce ranks=5 size=8: goal: ", done.stderr)
 
     def test_how_far_it_is_on_a_terminal(self) -> None:
         ours, its = pty.openpty()
@@ -323,11 +324,35 @@ class Scaled(unittest.TestCase):
             self.assertEqual(lines[1][7], column("finish", f"schedule={file.name}", "G=0")[0])
             self.assertEqual(column("finish", f"schedule={file.name}", "G=0.001"), [str(-(-int(float(lines[2][7]) * 10) // 10))])
 
+    def results(self, *words: str) -> list[list[str]]:
+        """What the runs of a sweep come to, line by line."""
+        lines = [line.split(",") for line in sweep(*words).stdout.splitlines()]
+        return [line[lines[0].index("finish"):] for line in lines[1:]]
+
+    def test_a_description_may_have_such_rates(self) -> None:
+        """One and a MACHINE, against the same parameters without machines."""
+        with tempfile.TemporaryDirectory() as folder:
+            fine, usual = (os.path.join(folder, name) for name in ("fine", "usual"))
+            for path, rate in ((fine, "0.0025"), (usual, "0.080")):
+                with open(path, "w", encoding="utf-8") as file:
+                    file.write(f"class a L=1500 o=400 g=300 G={rate} S=64K\nnodes 2 of 1\ninside a\nbetween a\n")
+            made = subprocess.run([os.path.join(TOP, "tools", "machine"), usual], stdout=subprocess.PIPE, check=True).stdout
+            with open(usual, "wb") as written:
+                written.write(made)
+            words = ["algorithm=bcast-chain", "ranks=2", "size=100001", "segments=3", "--wait", "--shares"]
+            wanted = self.results(*words, "L=1500", "o=400", "g=300", "S=64K", "G=0.0025,0.080")
+            self.assertEqual([line[0] for line in wanted], ["3183.4", "10900"])
+            for more in ("cards=own", "cards=1", "placement=block"):
+                self.assertEqual(self.results(*words, f"machine={fine},{usual}", more), wanted)
+            done = sweep(*words, f"machine={usual},{fine}")
+        self.assertIn("sweep: times are taken 10 times, for rates finer than a picosecond per byte: bytes cost whole 1/10 ns\n", done.stderr)
+
     def test_limits_are_refused_before_any_run(self) -> None:
         for words, why in ((["G=0.0025", "L=1099511627775"], "L is 1099511627775: for a rate finer than a picosecond per byte all times are taken 10 times"),
                            (["G=0.0000025"], "G: 0.0000025 is no number of ns per byte, with up to 6 decimals"),
+                           (["machine=-"], "-:1: L is 1099511627775: for a rate finer than a picosecond per byte all times are taken 10 times"),
                            (["O=0.00001", "G=1048575"], "G is 1048575: for a rate finer than a picosecond per byte all times are taken 100 times")):
-            done = sweep(f"schedule={EXCHANGE}", *words)
+            done = sweep(f"schedule={EXCHANGE}", *words, text="class a L=1099511627775 G=0.0025\nnodes 2 of 1\ninside a\nbetween a\n")
             self.assertEqual((done.returncode, done.stdout), (2, ""))
             self.assertTrue(done.stderr.startswith(f"sweep: {why}"), done.stderr)
 
@@ -336,6 +361,55 @@ class Scaled(unittest.TestCase):
             file.write(f"num_ranks 1 rank 0 {{ calc {2**48 - 1} }}")
             file.flush()
             self.assertIn("a calc is so long that 10 times as much", sweep(f"schedule={file.name}", "G=0.0025").stderr)
+
+
+class Shares(unittest.TestCase):
+    NAMES = ("L", "o", "g", "G", "O", "calc")
+    COLUMNS = [f"share_{name}" for name in NAMES]
+
+    def setUp(self) -> None:
+        folder = tempfile.TemporaryDirectory()
+        self.addCleanup(folder.cleanup)
+        self.cluster, self.made = os.path.join(folder.name, "cluster"), os.path.join(folder.name, "made")
+        with open(os.path.join(TOP, "examples", "eight_nodes"), encoding="utf-8") as file:
+            text = file.read()
+        with open(self.cluster, "w", encoding="utf-8") as file:
+            file.write(text + "\ncards 2 in turn\n")
+
+    def test_they_are_those_of_tools_path(self) -> None:
+        with open(self.made, "w", encoding="utf-8") as file:
+            words = "allreduce-two-level 128 1000 --node 16 --sum-ps 30".split()
+            subprocess.run([os.path.join(TOP, "tools", "schedule"), *words], stdout=file, check=True)
+        words = ["algorithm=allreduce-two-level", "ranks=128", "size=1000", "node=16", "sum-ps=30"]
+        for of_sweep, of_path in ((["machine=" + self.cluster], ["--machine", self.cluster]),
+                                  (["L=700", "o=90", "g=1200", "G=0.080", "O=1", "S=300"],
+                                   "--L 700 --o 90 --g 1200 --G 0.080 --O 1 --S 300".split())):  # fmt: skip
+            path = subprocess.run([os.path.join(TOP, "tools", "path"), self.made, *of_path], capture_output=True, text=True, check=True).stdout
+            wanted = dict.fromkeys(self.NAMES, 0)
+            for line in path[path.index("\nof ") :].splitlines():
+                if line.startswith("  "):
+                    wanted[line.split()[0]] += int(line.split("%")[0].split()[-2])
+            found = rows(["finish", *self.COLUMNS], *words, *of_sweep, "--shares")
+            self.assertEqual(found, [[path.split()[9], *map(str, wanted.values())]])
+
+    def test_they_add_up(self) -> None:
+        """Also for rates finer than a picosecond, for what is stuck, and with other cards than those of the machine."""
+        examples = [os.path.join(TOP, "examples", name) for name in ("exchange", "first_come", "both_send_first", "waits")]
+        for words in ([f"schedule={','.join(examples)}", "G=0.0025,6", "O=0,7"],
+                      [f"machine={self.cluster}", "cards=own,1", "placement=block,cyclic", "algorithm=bcast", "ranks=128",
+                       "size=100"]):  # fmt: skip
+            lines = [line.split(",") for line in sweep(*words, "--shares").stdout.splitlines()]
+            self.assertGreater(len(lines), 4)
+            finish, first = lines[0].index("finish"), lines[0].index("share_L")
+            for line in lines[1:]:
+                self.assertEqual(sum(map(Decimal, line[first : first + 6])), Decimal(line[finish]))
+
+    def test_they_can_be_drawn(self) -> None:
+        with tempfile.TemporaryDirectory() as folder:
+            path = os.path.join(folder, "picture")
+            words = [f"schedule={EXCHANGE}", "L=1..3+1", "--y", "share_L", "--plot", path]
+            self.assertEqual(told(sweep(*words)), ["sweep: --y share_L needs --shares"])
+            self.assertEqual((sweep(*words, "--shares").returncode, os.path.exists(path)), (0, True))
 
 
 class Crossings(unittest.TestCase):

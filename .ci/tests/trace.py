@@ -85,7 +85,9 @@ class Content(unittest.TestCase):
         taken = next(event for event in trace if event["name"] == "2 recv from 1")
         self.assertEqual((taken["ts"], taken["dur"], taken["args"]["waited ns"]), (9.908, 1.5, 9908))
         self.assertEqual(taken["args"]["matched with"], "1 2")
-        self.assertIn("waits: 2 recv from 1", [event["name"] for event in trace])
+        self.assertEqual(taken["args"]["posted ns"], 0)
+        waits = [(event["pid"], event["name"]) for event in trace if event.get("tid") == 768 and event["ph"] == "X"]
+        self.assertEqual(waits, [(0, "2 recv from 1"), (1, "0 recv from any")])
 
     def test_tracks_are_few(self) -> None:
         """Of a rank with many waits: a cpu, two sides of its NIC and one for its waits."""
@@ -110,6 +112,21 @@ class Content(unittest.TestCase):
         done = subprocess.run([os.path.join(TOP, "tools", "trace"), os.path.join(EXAMPLES, "exchange"), "-o", "/no/such/file", "--goal", "/no/such"],
                               capture_output=True, text=True, check=False)
         self.assertEqual((done.returncode, done.stderr), (2, "trace: /no/such/file: No such file or directory\n"))
+
+    def test_what_a_span_shows_is_not_said_again(self) -> None:
+        trace = events(os.path.join(EXAMPLES, "large"))
+        spans = [event for event in trace if event["ph"] == "X" and event.get("cat") == "send"]
+        self.assertEqual([(event["name"].split(":")[1:], "args" in event) for event in spans], [([" request"], False), ([], True)])
+        self.assertFalse({"start ns", "end ns", "tag", "calc ns"} & {name for event in trace for name in event.get("args", ())})
+
+    def test_it_is_small(self) -> None:
+        """So that 23,000 operations of 512 ranks take less than 10 MB."""
+        with tempfile.NamedTemporaryFile("w", suffix=".goal") as file:
+            file.write(program.call(program.chosen(), ["gen", "allreduce", "64", "100000"]).out)
+            file.flush()
+            words = [os.path.join(TOP, "tools", "trace"), file.name]
+            text = subprocess.run(words, capture_output=True, text=True, check=True).stdout
+        self.assertLess(len(text), 430 * 64 * (6 + 6 + 6))
 
     def test_what_is_stuck(self) -> None:
         names = [event["name"] for event in events(os.path.join(EXAMPLES, "both_send_first"))]

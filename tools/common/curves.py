@@ -9,9 +9,10 @@ from typing import Dict, List, Optional, Sequence
 from common.chart import MOST_CURVES, Axis, Curve, chart
 from common.command import Fault
 from common.grid import NAMES, UNITS
+from common.runs import SHARES
 from common.table import Row
 
-TIMES = ("finish", "wait")
+TIMES = ("finish", "wait", *SHARES)
 # from which ratio of the ends a scale of sizes is geometric
 WIDE_RATIO = 64
 

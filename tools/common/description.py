@@ -6,7 +6,7 @@ from typing import Callable, Dict, Iterator, List, Optional, Sequence, Tuple
 
 from common import command
 from common.command import Fault
-from common.parameters import DEFAULTS, LIMITS, Machine, machine_of, parameters_of, scale_for, scaled_defaults, scaled_options
+from common.parameters import DEFAULTS, RATES, Machine, Parameters, machine_of, parameters_of, scale_for, scaled_defaults, scaled_options
 
 MOST_CLASSES = 16
 MOST_RANKS = 65536
@@ -38,7 +38,7 @@ def cards_of(text: str) -> Cards:
         return Cards()
     if not words or words[1:] not in ([], ["in", "turn"]):
         raise Fault("it is `cards own`, `cards COUNT` or `cards COUNT in turn`")
-    count = number(words[0], MOST_CARDS)
+    count = number(words[0], MOST_CARDS, "cards")
     if not count:
         raise Fault("a node has at least one card")
     return Cards(count, len(words) > 1)
@@ -69,6 +69,30 @@ class Cluster:
         machine = self.machine
         nodes = [node for _, node in sorted(seats)]
         return Cluster(Machine(machine.classes, machine.inside, machine.default, nodes, machine.pairs), self.cards)
+
+    def scaled(self, scale: int) -> "Cluster":
+        """The same with all times `scale` times as long."""
+        machine = self.machine
+        classes = [scaled_class(one, scale) for one in machine.classes]
+        return Cluster(Machine(classes, machine.inside, machine.default, machine.nodes, machine.pairs), self.cards)
+
+
+def scaled_class(parameters: Parameters, scale: int) -> Parameters:
+    """The parameters of a class with times `scale` times as long."""
+    rates = {name: f"{getattr(parameters, name)}.{getattr(parameters, more):03}" for name, more in RATES.items()}
+    told = {**{name: str(getattr(parameters, name)) for name in ("L", "o", "g", "S")}, **rates}
+    options: Dict[str, int] = {}
+    for name, value in told.items():
+        options.update(value_of(name, value, scale))
+    return parameters_of(options)
+
+
+def value_of(name: str, value: str, scale: int) -> Dict[str, int]:
+    """The options of goal that give a parameter this value, with times `scale` times as long."""
+    try:
+        return scaled_options(name, value, scale)
+    except ValueError as why:
+        raise Fault(str(why)) from None
 
 
 def lines_of(machine: Machine) -> Iterator[str]:
@@ -155,20 +179,11 @@ class Description:
             name, equals, value = word.partition("=")
             if name not in DEFAULTS or not equals:
                 raise Fault(f"{word!r} is no parameter: they are {' '.join(DEFAULTS)}, as L=300")
-            told.update(self.value_of(name, value, told))
-        self.classes[words[1]] = {**defaults, **told}
-
-    def value_of(self, name: str, value: str, told: Dict[str, int]) -> Dict[str, int]:
-        try:
-            options = scaled_options(name, value, self.scale)
-        except ValueError as why:
-            raise Fault(str(why)) from None
-        for option, given in options.items():
-            if option in told:
+            options = value_of(name, value, self.scale)
+            for option in options.keys() & told.keys():
                 raise Fault(f"{option} is told twice")
-            if given > LIMITS[option]:
-                raise Fault(f"{option} is {given}, and at most {LIMITS[option]}")
-        return options
+            told.update(options)
+        self.classes[words[1]] = {**defaults, **told}
 
     def take_nodes(self, words: List[str]) -> None:
         cyclic = words[4:] == ["cyclic"]
@@ -199,7 +214,7 @@ class Description:
     def take_pair(self, words: List[str]) -> None:
         if len(words) != 4:
             raise Fault(f"it is `{words[0]} A B NAME`")
-        one, other = (number(word, MOST_NODES - 1) for word in words[1:3])
+        one, other = (number(word, MOST_NODES - 1, "a node") for word in words[1:3])
         for pair in [(one, other), (other, one)][:2 if words[0] == "pair" else 1]:
             if pair in self.pairs:
                 raise Fault(f"the pair {pair[0]} {pair[1]} is told twice")
@@ -259,9 +274,10 @@ class Description:
         return Cluster(machine, self.cards)
 
 
-def number(word: str, most: int) -> int:
+def number(word: str, most: int, what: str) -> int:
+    """A number of these things, or the number of one of them."""
     if not re.fullmatch("[0-9]{1,20}", word) or int(word) > most:
-        raise Fault(f"{word!r} is no number up to {most}")
+        raise Fault(f"{word!r} is no number of {what} up to {most}")
     return int(word)
 
 
@@ -269,7 +285,7 @@ def count_and_size(words: List[str]) -> Tuple[int, int]:
     """The two numbers of a line such as `nodes 8 of 16`."""
     if len(words) != 4 or words[2] != "of":
         raise Fault(f"it is `{words[0]} COUNT of SIZE`")
-    count, size = number(words[1], MOST_RANKS), number(words[3], MOST_RANKS)
+    count, size = number(words[1], MOST_RANKS, words[0]), number(words[3], MOST_RANKS, "ranks" if words[0] == "nodes" else "nodes")
     if not count or not size:
         raise Fault("both numbers are above 0")
     return count, size
@@ -280,8 +296,9 @@ def numbers(words: List[str], most: int) -> List[int]:
     found: List[int] = []
     for word in words[1:]:
         first, dash, last = word.partition("-")
-        low = number(first, most - 1)
-        high = number(last, most - 1) if dash else low
+        thing = "a rank" if words[0] == "node" else "a node"
+        low = number(first, most - 1, thing)
+        high = number(last, most - 1, thing) if dash else low
         if high < low:
             raise Fault(f"{word!r} is no range")
         found.extend(range(low, high + 1))
@@ -319,16 +336,17 @@ def is_description(text: str) -> bool:
     return text.split(None, 1)[:1] != ["classes"]
 
 
-def cluster_of(name: str, text: str) -> Cluster:
-    """The machine of a text, which is MACHINE, as `goal nodes` takes it, or a description of it."""
+def cluster_of(name: str, text: str, scale: int = 1) -> Cluster:
+    """The machine of a text, which is MACHINE, as `goal nodes` takes it, or a description of it, with times `scale` times as long."""
     if is_description(text):
-        return read(name, text)
+        return read(name, text, scale)
     try:
-        return Cluster(machine_of(text))
+        cluster = Cluster(machine_of(text))
     except (ValueError, RuntimeError, StopIteration):
         raise Fault(f"{name} is no MACHINE, as `goal nodes` takes it") from None
+    return cluster if scale == 1 else cluster.scaled(scale)
 
 
-def read_cluster(name: str) -> Cluster:
-    """The machine of a file."""
-    return cluster_of(name, command.read_file(name).decode("utf-8", "replace"))
+def read_cluster(name: str, scale: int = 1) -> Cluster:
+    """The machine of a file, with times `scale` times as long."""
+    return cluster_of(name, command.read_file(name).decode("utf-8", "replace"), scale)

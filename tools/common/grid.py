@@ -5,12 +5,15 @@ import itertools
 import re
 import sys
 from decimal import Decimal
-from typing import Dict, Iterable, List, Tuple
+from typing import Dict, Iterable, List, Optional, Tuple
 
 from algorithms import own
+from algorithms.plan import MOST_BYTES, MOST_RANKS
 from algorithms.table import ALGORITHMS
 from common import command
-from common.description import PLACEMENTS, cards_of, read_cluster
+from common.description import PLACEMENTS, cards_of, is_description, read_cluster
+from common.description import scale_of as scale_of_text
+from common.loading import text_of
 from common.parameters import DECIMALS, DEFAULTS, MOST_DECIMALS, RATES, scale_for, scaled_options
 from common.program import KINDS, ROOTED
 
@@ -30,6 +33,10 @@ MOST_POINTS = 100000
 ONE_SIZE = {"gather": "gather-tree", "scatter": "scatter-tree"}
 # What is taken where it is not given.
 TAKEN = {"root": "0", "segments": "1", "node": "1", "sum-ps": "0", **{name: str(DEFAULTS[name]) for name in PARAMETERS}}
+# The least and the greatest value of the axes that make schedules.
+LIMITED: Dict[str, Tuple[int, Optional[int], str]] = {
+    "ranks": (1, MOST_RANKS, "ranks"), "size": (0, MOST_BYTES, "bytes"), "root": (0, MOST_RANKS - 1, "a rank"),
+    "segments": (1, MOST_RANKS, "segments"), "node": (1, MOST_RANKS, "ranks"), "sum-ps": (0, 10**9, "ps per byte")}  # fmt: skip
 Point = Dict[str, str]
 Axes = Dict[str, List[str]]
 
@@ -79,10 +86,19 @@ def values_of(axis: str, text: str) -> List[str]:
         values = parts
     else:
         numbers = [(number, part) for part in parts for number in range_of(axis, part)]
+        check_limits(axis, [number for number, _ in numbers])
         values = [rate_of(number, part) if axis in RATES else str(int(number)) for number, part in numbers]
     if "" in values or not values:
         raise command.Fault(f"{axis} has no value")
     return list(dict.fromkeys(values))
+
+
+def check_limits(axis: str, numbers: Iterable[Decimal]) -> None:
+    """Each value of an axis that makes schedules is one that they can have."""
+    low, high, unit = LIMITED.get(axis, (0, None, ""))
+    for number in numbers:
+        if high is not None and not low <= number <= high:
+            raise command.Fault(f"{axis}: {number} is no number of {unit} from {low} up to {high}")
 
 
 def axes_of(words: Iterable[str]) -> Axes:
@@ -134,10 +150,10 @@ def check_machines(axes: Axes) -> None:
             raise command.Fault(f"{placement} is no placement: {' or '.join(PLACEMENTS)}")
 
 
-def note_on_cards(axes: Axes) -> None:
-    """Says so where nothing is said of cards, and ranks are on one node."""
+def note_on_cards(axes: Axes, scale: int) -> None:
+    """Says so where nothing is said of cards, and ranks are on one node. Times are `scale` times as long."""
     for name in axes.get("machine", ()) if "cards" not in axes else ():
-        cluster = read_cluster(name)
+        cluster = read_cluster(name, scale)
         if cluster.cards is None and cluster.has_neighbours():
             note = "each rank has a card of its own here; cards=1 lets the ranks of a node share one"
             print(f"sweep: {note}", file=sys.stderr)
@@ -190,7 +206,11 @@ def note_on_defaults(axes: Axes, taken: Axes) -> None:
 
 def scale_of(axes: Axes) -> int:
     """By what all times are multiplied, so that each rate is a whole number of picoseconds."""
-    scale = scale_for(value for name in RATES for value in axes.get(name, ()))
+    machines = axes.get("machine", ())
+    scales = [scale_of_text(text) for text in map(text_of, machines) if is_description(text)]
+    scale = max([scale_for(value for name in RATES for value in axes.get(name, ())), *scales])
+    for machine in machines:
+        read_cluster(machine, scale)
     for name in PARAMETERS if "machine" not in axes else ():
         for value in axes[name]:
             try:

@@ -13,19 +13,22 @@ from typing import Dict, Iterable, Iterator, List, Optional, Sequence, Set, Tupl
 from algorithms import asked
 from common import command, folding, program
 from common.canonical import read_canonical
-from common.description import Cluster, cards_of, cluster_of, is_description
+from common.chain import NAMES
+from common.description import Cards, cards_of, cluster_of, is_description
 from common.grid import MADE_BY, PARAMETERS, Point
 from common.loading import schedule_of, text_of, write_out
-from common.parameters import Machine, scaled_options, words_of
-from common.phases import Window, stories_of
+from common.parameters import Alike, Machine, parameters_of, scaled_options, words_of
 from common.pool import Pool
-from common.printed_run import first_line, read_run
+from common.printed_run import first_line
 from common.program import KINDS
+from common.whole import Whole, shares_by_name, whole_of
 
 MOST_CALC = 2**48 - 1
 SEND = re.compile(r": send (\d+)b")
 CALC = re.compile(r"(?<=: calc )\d+")
 LOST = "its process was killed: is there too little memory?"
+# the columns of shares of the finish, in ns
+SHARES = tuple(f"share_{name}" for name in NAMES)
 Time = Union[int, Decimal, str]
 Key = Tuple[str, ...]
 
@@ -39,16 +42,23 @@ class Result:
     wait: Time = ""
     protocol: str = ""
     fault: str = ""
+    shares: Dict[str, Time] = field(default_factory=dict)
+
+    def columns(self) -> Dict[str, str]:
+        """What it has for the columns of a table."""
+        found = {"finish": self.finish, "stuck": self.stuck, "wait": self.wait, **self.shares, "protocol": self.protocol}
+        return {name: str(value) for name, value in found.items()}
 
 
 @dataclass
 class Asked:
-    """What all runs of a sweep share: the program, by what times are multiplied, whether the greatest wait is asked
-    for, the folder for files, and the schedules that come from standard input."""
+    """What all runs of a sweep have in common: the program, by what times are multiplied, whether the greatest wait
+    and the shares are asked for, the folder for files, and the schedules that come from standard input."""
 
     goal: str
     scale: int
     wait: bool
+    shares: bool
     folder: str
     texts: Dict[str, str] = field(default_factory=dict)
 
@@ -220,20 +230,30 @@ def run_with_parameters(asked_for: Asked, path: str, point: Point) -> Result:
     for name in PARAMETERS:
         options.update(scaled_options(name, point[name], scale))
     words = words_of(options)
-    run = first_line(output_of(goal, "knots", path, *words)[0])
+    lines = output_of(goal, "sim" if asked_for.shares else "knots", path, *words)
+    run = first_line(lines[0])
     wait: Time = ""
     if asked_for.wait:
-        lines = output_of(goal, "waits", path, *words)
-        wait = unscaled(next((int(line.split()[3]) for line in lines if line.startswith("wait ")), 0), scale)
-    return Result(unscaled(run.finish, scale), run.stuck, wait, protocol_of(path, options["S"]))
+        waits = output_of(goal, "waits", path, *words)
+        wait = unscaled(next((int(line.split()[3]) for line in waits if line.startswith("wait ")), 0), scale)
+    shares: Dict[str, Time] = {}
+    if asked_for.shares:
+        shares = shares_in(whole_of(goal, path, None, options, lines, Alike(parameters_of(options)), Cards()), scale)
+    return Result(unscaled(run.finish, scale), run.stuck, wait, protocol_of(path, options["S"]), shares=shares)
+
+
+def shares_in(whole: Whole, scale: int) -> Dict[str, Time]:
+    """The columns of shares of a run."""
+    return {f"share_{name}": unscaled(nanos, scale) for name, nanos in shares_by_name(whole).items()}
 
 
 def run_on_machine(asked_for: Asked, path: str, point: Point) -> Result:
     name = point["machine"]
     text = text_of(name)
     cards = cards_of(point["cards"]) if "cards" in point else None
-    cluster = cluster_of(name, text)
-    is_described = is_description(text) or "placement" in point or bool(cards and cards.count)
+    scale = asked_for.scale
+    cluster = cluster_of(name, text, scale)
+    is_described = is_description(text) or "placement" in point or bool(cards and cards.count) or scale > 1
     if "placement" in point:
         cluster = cluster.placed(point["placement"])
     if is_described:
@@ -242,12 +262,12 @@ def run_on_machine(asked_for: Asked, path: str, point: Point) -> Result:
         answer = program.call(asked_for.goal, ["nodes", path, command.STANDARD_INPUT], text)
         lines = program.expect(answer, program.DONE, program.STUCK).out.splitlines()
     run = first_line(lines[0])
-    wait: Time = greatest_wait(asked_for.goal, path, lines, cluster) if asked_for.wait else ""
-    return Result(run.finish, run.stuck, wait, protocol_of(path, 0, cluster.machine))
-
-
-def greatest_wait(goal: str, path: str, lines: List[str], cluster: Cluster) -> int:
-    """The greatest wait of a run on a machine, worked out from its lines: `goal waits` takes parameters alone."""
-    run, schedule = read_run(lines), read_canonical(output_of(goal, "show", path))
-    stories = stories_of(schedule, run, cluster.machine, Window(dict.fromkeys(range(run.ranks))))
-    return max((story.wait for story in stories.values()), default=0)
+    wait: Time = ""
+    shares: Dict[str, Time] = {}
+    if asked_for.wait or asked_for.shares:
+        shared = (cards or cluster.cards or Cards()) if is_described else Cards()
+        whole = whole_of(asked_for.goal, path, None, {}, lines, cluster.machine, shared)
+        # (`goal waits` takes parameters alone)
+        wait = unscaled(max((story.wait for story in whole.stories.values()), default=0), scale) if asked_for.wait else ""
+        shares = shares_in(whole, scale) if asked_for.shares else {}
+    return Result(unscaled(run.finish, scale), run.stuck, wait, protocol_of(path, 0, cluster.machine), shares=shares)

@@ -13,9 +13,11 @@ from typing import Dict, IO, Iterable, Iterator, List, Optional, Sequence, Tuple
 from common import command
 from common.command import Fault
 from common.grid import Point
-from common.runs import Result
+from common.runs import SHARES, Result
 
 Row = Dict[str, str]
+# the columns of what comes out of a run, in their order: some only on request
+RESULTS = ("finish", "stuck", "wait", *SHARES, "protocol")
 
 
 def line_of(fields: Iterable[object]) -> str:
@@ -28,15 +30,16 @@ def line_of(fields: Iterable[object]) -> str:
 class Table:
     """The columns of a sweep: its axes, its results and, where the rows are kept, the version of the program."""
 
-    def __init__(self, axes: Iterable[str], wait: bool, version: str = "") -> None:
+    def __init__(self, axes: Iterable[str], wait: bool, shares: bool, version: str = "") -> None:
         self.axes = list(axes)
-        self.results = ["finish", "stuck", *(["wait"] if wait else []), "protocol"]
+        left_out = [*([] if wait else ["wait"]), *([] if shares else SHARES)]
         self.version = version
-        self.columns = [*self.axes, *self.results, *(["program"] if version else [])]
+        results = [name for name in RESULTS if name not in left_out]
+        self.columns = [*self.axes, *results, *(["program"] if version else [])]
 
     def row(self, point: Point, result: Result) -> Row:
-        values = {**point, **{name: str(getattr(result, name)) for name in self.results}, "program": self.version}
-        return {name: values[name] for name in self.columns}
+        values = {**point, **result.columns(), "program": self.version}
+        return {name: values.get(name, "") for name in self.columns}
 
     def point(self, row: Row) -> Tuple[str, ...]:
         """What tells the point of a row from others."""

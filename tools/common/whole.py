@@ -9,11 +9,11 @@ from typing import Dict, List, Optional, Tuple
 from common import folding, program
 from common.canonical import Key, Schedule, operation_counts, rank_count, read_canonical
 from common.causes import Causes
-from common.chain import chain_to, end_of, last_end
+from common.chain import NAMES, chain_to, end_of, last_end, shares_of
 from common.command import STANDARD_INPUT, Fault
-from common.description import cluster_of
-from common.loading import canonical_of, check_machine, check_sources, costs_of, output_of, run_lines, schedule_of, text_of
-from common.parameters import Costs, add_options, given_options
+from common.description import Cards, cluster_of
+from common.loading import canonical_of, check_machine, check_sources, costs_of, run_lines, schedule_of, text_of
+from common.parameters import Costs, Machine, add_options, given_options
 from common.phases import Misfit, Story, Window, stories_of
 from common.printed_run import Run, Timed, read_run
 
@@ -77,33 +77,41 @@ def load_whole(arguments: argparse.Namespace, wanted: Optional[Key] = None) -> W
         check_machine(costs, rank_count(canonical))
         if wanted is not None and wanted[1] >= operation_counts(canonical).get(wanted[0], 0):
             raise Fault(f"rank {wanted[0]} has no operation {wanted[1]}")
-        shown = canonical.splitlines()
-        folded = fold_of(arguments, shown)
-        run = read_run(run_lines(arguments, options, source, text))
-        if folded is None:
-            return Whole(goal, source, text, options, *told(read_canonical(shown), run, costs), {}, shown)
-        text = "".join(folded.text())
-        schedule = read_canonical(output_of(arguments, text, "show", STANDARD_INPUT))
-        names = {new: old for old, new in folded.new_key.items()}
-        run = rekeyed(run, folded.new_key)
-        return Whole(goal, STANDARD_INPUT, text, options, *told(schedule, run, folded.folded_machine()), names, shown)
+        lines, cards = run_lines(arguments, options, source, text), cards_of_machine(arguments.machine)
+        return whole_of(goal, source, text, options, lines, costs, cards, canonical.splitlines())
     except ValueError as why:
         raise Fault(str(why)) from None
+
+
+def whole_of(
+    goal: str, source: str, text: Optional[str], options: Dict[str, int], lines: List[str], costs: Costs, cards: Cards,
+    shown: Optional[List[str]] = None
+) -> Whole:
+    """The whole of a printed run: of one on a machine, where ranks share these cards. `shown` is the canonical text, if it is there."""
+    run, shown = read_run(lines), shown or shown_by(goal, source, text)
+    if not cards.count or not isinstance(costs, Machine):
+        return Whole(goal, source, text, options, *told(read_canonical(shown), run, costs), {}, shown)
+    folded = folding.Fold(read_canonical(shown), costs, cards)
+    text = "".join(folded.text())
+    schedule = read_canonical(shown_by(goal, STANDARD_INPUT, text))
+    names = {new: old for old, new in folded.new_key.items()}
+    run = rekeyed(run, folded.new_key)
+    return Whole(goal, STANDARD_INPUT, text, options, *told(schedule, run, folded.folded_machine()), names, shown)
+
+
+def shown_by(goal: str, source: str, text: Optional[str]) -> List[str]:
+    """The canonical text of a schedule."""
+    return program.expect(program.call(goal, ["show", source], text), program.DONE).out.splitlines()
+
+
+def cards_of_machine(name: Optional[str]) -> Cards:
+    """The cards that the nodes of a machine have by its description."""
+    return (cluster_of(name, text_of(name)).cards if name is not None else None) or Cards()
 
 
 def told(schedule: Schedule, run: Run, costs: Costs) -> Tuple[Schedule, Run, Costs, Dict[Key, Story]]:
     """A run with its stories."""
     return schedule, run, costs, stories_of(schedule, run, costs, Window(range(run.ranks)))
-
-
-def fold_of(arguments: argparse.Namespace, shown: List[str]) -> Optional[folding.Fold]:
-    """The fold of the schedule, where the ranks of a node share cards."""
-    if arguments.machine is None:
-        return None
-    cluster = cluster_of(arguments.machine, text_of(arguments.machine))
-    if cluster.cards is None or not cluster.cards.count:
-        return None
-    return folding.Fold(read_canonical(shown), cluster.machine, cluster.cards)
 
 
 def rekeyed(run: Run, new_key: Dict[Key, Key]) -> Run:
@@ -124,3 +132,14 @@ def timed_chain(whole: Whole) -> List[Tuple[int, Key]]:
     last = last_end(whole.causes)
     steps = chain_to(whole.causes, end_of(last)) if last else []
     return [(step.time, whole.named(step.action[1])) for step in steps]
+
+
+def shares_by_name(whole: Whole) -> Dict[str, int]:
+    """How many ns of the finish each parameter takes, on the chain of causes to the last end. They add up to it."""
+    found = dict.fromkeys(NAMES, 0)
+    last = last_end(whole.causes)
+    for share in shares_of(chain_to(whole.causes, end_of(last))) if last else []:
+        found[share.name] += share.nanos
+    if sum(found.values()) != whole.run.finish:
+        raise Fault(f"the shares do not add up to {whole.run.finish}")
+    return found
