@@ -1,7 +1,6 @@
 #!/usr/bin/env python3
-"""Tests of tools/schedule: each algorithm is certified over many ranks, roots, segments and sizes, and in each segment; it
-ends with large messages and small ones; it has the messages, bytes and sums that its table says; and what is spoilt in its
-slots, needs or tags is refused."""
+"""Tests of tools/schedule: each algorithm is certified over many ranks, roots, segments and sizes, and in each segment; it has
+the messages, bytes and sums that its table says; and what is spoilt in its slots, needs or tags is refused."""
 from __future__ import annotations
 
 import os
@@ -72,7 +71,8 @@ def fault_in(algorithm: Algorithm, wish: Wish, text: str) -> str | None:
 
 
 class Certified(unittest.TestCase):
-    def test_each_is_certified_and_ends(self) -> None:
+    def test_each_is_certified(self) -> None:
+        """So it ends, in every order and whichever messages are eager."""
         for algorithm in ALGORITHMS:
             for wish in wishes(algorithm):
                 with self.subTest(f"{algorithm.name} {wish}"):
@@ -82,9 +82,6 @@ class Certified(unittest.TestCase):
                     self.assertEqual((counts.operations, counts.adds), (made.operations, text.count(" adds ")))
                     moved = sum(int(high) - int(low) + 1 for low, high in re.findall(r"moves (\d+) to (\d+)", text))
                     self.assertLessEqual(2 * counts.slots, moved)
-                    for options in ((), ["--S", "0"]):
-                        ended = program.call(GOAL, ["sim", "/dev/stdin", *options], text)
-                        self.assertRegex(ended.out, r"^ranks \d+ ops \d+ stuck 0 unread 0 finish ")
 
     def test_each_segment_is_certified(self) -> None:
         for algorithm in ALGORITHMS:

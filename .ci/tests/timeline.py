@@ -86,8 +86,13 @@ class Reading(unittest.TestCase):
             with self.assertRaises(ValueError):
                 options_of(name, text)
 
+    def test_a_machine_without_its_class(self) -> None:
+        for numbers in ("inside 0 default 7", "inside -1 default 0"):
+            with self.assertRaises(ValueError):
+                machine_of(f"classes 1 class 1 1 1 1 1 1 1 1 {numbers} ranks 1 0 pairs 0")
+
     def test_no_run(self) -> None:
-        for lines in ((), ["rank 0 ended 1 wait 0"], ["ranks 1 ops 1 stuck 0 unread 0 finish 1", "op 0"]):
+        for lines in ((), ["rank 0 ended 1 wait 0"], ["ranks 1 ops 1 stuck 0 unread 0 finish 1", "op 0"], ["ranks 1 ops 1 stuck 0 unread 0 finish " + 5000 * "9"]):
             with self.assertRaises(NoRun):
                 read_run(lines)
 

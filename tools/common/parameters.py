@@ -182,6 +182,8 @@ def machine_of(text: str) -> Machine:
     for _ in range(after("pairs")):
         one, other = int(next(words)), int(next(words))
         pairs[one, other] = int(next(words))
+    if not all(0 <= number < len(classes) for number in (inside, default, *pairs.values())):
+        raise ValueError("no machine: there is no class of such a number")
     return Machine(classes, inside, default, nodes, pairs)
 
 

@@ -1,8 +1,10 @@
 """Reads the run that `goal sim` or `goal nodes` has printed. Nothing of it is proved."""
+import re
 from dataclasses import dataclass, field
 from typing import Container, Dict, Iterable, List, Optional, Tuple
 
 Key = Tuple[int, int]
+NUMBER = re.compile("[0-9]{1,20}")
 
 
 @dataclass(frozen=True)
@@ -34,7 +36,7 @@ class NoRun(ValueError):
 def first_line(line: str) -> Run:
     """The run that a first line tells, without its operations."""
     words = line.split()
-    if words[::2] != ["ranks", "ops", "stuck", "unread", "finish"] or len(words) != 10:
+    if words[::2] != ["ranks", "ops", "stuck", "unread", "finish"] or not all(NUMBER.fullmatch(word) for word in words[1::2]) or len(words) != 10:
         raise NoRun("no first line `ranks P ops N stuck K unread U finish T`")
     ranks, ops, stuck, unread, finish = map(int, words[1::2])
     return Run(ranks, ops, stuck, unread, finish)

@@ -11,7 +11,7 @@ use std::process::Abort;
 use std::test::Fail;
 
 /// The file of two ranks, of which one sends ten bytes to the other.
-const MESSAGE: [u8; 27] = [
+pub const MESSAGE: [u8; 27] = [
     0x89, 0x47, 0x4F, 0x41, 0x4C, 0x0D, 0x0A, 0x1A, 0x02, 0x00, 0x00, 0x00, 0x02, //
     0x01, 0x00, 0x00, 0x01, 0x01, 0x00, 0x0A, //
     0x01, 0x00, 0x00, 0x02, 0x00, 0x00, 0x0A,
@@ -158,10 +158,6 @@ fn a_cut_file_is_short(rt: HostRuntime) -> Result<(), Fail> {
         let fault = decode(rt.alloc(), &MESSAGE[..len]).err();
         same(&rt, &fault, &Some(FileFault::Short { at: len as u64 }));
     }
-    for (len, _) in OLD_MESSAGE.iter().enumerate() {
-        let fault = decode(rt.alloc(), &OLD_MESSAGE[..len]).err();
-        same(&rt, &fault, &Some(FileFault::Short { at: len as u64 }));
-    }
     Ok(())
 }
 
@@ -260,16 +256,12 @@ fn a_number_ends_with_its_tenth_byte(rt: HostRuntime) -> Result<(), Fail> {
 fn faults_of_version_1(rt: HostRuntime) -> Result<(), Fail> {
     let alloc = rt.alloc();
     for (place, byte, fault) in [
-        (1, 0, FileFault::Magic),
-        (8, 9, FileFault::Version { found: 9 }),
         (8, 0, FileFault::Version { found: 0 }),
         (12, 0, FileFault::Field { at: 12 }),
         (14, 2, FileFault::Field { at: 12 }),
         (18, 17, FileFault::Field { at: 16 }),
         (20, 1, FileFault::Field { at: 80 }),
         (28, 3, FileFault::Field { at: 28 }),
-        (29, 1, FileFault::Field { at: 29 }),
-        (41, 1, FileFault::Field { at: 40 }),
         (49, 1, FileFault::Field { at: 44 }),
         (65, 4, FileFault::Field { at: 65 }),
         (52, 0, FileFault::Extra { at: 64 }),
@@ -281,13 +273,6 @@ fn faults_of_version_1(rt: HostRuntime) -> Result<(), Fail> {
             &Some(fault),
         );
     }
-    let mut longer = Vec::from_slice(alloc, &OLD_MESSAGE)?;
-    longer.push(0)?;
-    same(
-        &rt,
-        &decode(alloc, &longer).err(),
-        &Some(FileFault::Extra { at: 88 }),
-    );
     Ok(())
 }
 

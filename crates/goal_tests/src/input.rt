@@ -1,7 +1,7 @@
 //! Inputs that come in pieces, cut at each index.
 ghost use Rattle.std.specs.Prelude.{◌<◌};
 
-use super::binary::MESSAGE_TEXT;
+use super::binary::{MESSAGE, MESSAGE_TEXT};
 use super::print::MESSAGE_PRINTED;
 use crate::same::{same, same_list};
 use goal_base::MemHost;
@@ -13,8 +13,6 @@ use goal_print::print_text;
 use std::alloc::Global;
 use std::process::Abort;
 use std::test::Fail;
-
-const FILE: &[u8] = b"\x89GOAL\r\n\x1a\x02\0\0\0\x02\x01\0\0\x01\x01\0\n\x01\0\0\x02\0\0\n";
 
 // The second fault is after the first.
 const TWO_FAULTS: &[u8] = b"num_ranks 2 rank 0 { send 10x to 1 } rank 5 {";
@@ -36,7 +34,7 @@ const ROWS: [Row<'static>; 7] = [
         printed: Ok(MESSAGE_PRINTED),
     },
     Row {
-        input: FILE,
+        input: &MESSAGE,
         printed: Ok(MESSAGE_PRINTED),
     },
     Row {
