@@ -94,12 +94,19 @@ class Rank:
         """Adds an operation that reads some slots and then sets some, and returns how many needs it has."""
         number = len(self.operations)
         before = set(self.step_before)
-        before.update(self.setter[slot] for slot in reads if slot in self.setter)
+        for slot in reads:
+            if slot in self.setter:
+                before.add(self.setter[slot])
         for slot in sets:
-            before.update(self.readers.get(slot) or ([self.setter[slot]] if slot in self.setter else []))
+            readers = self.readers.get(slot)
+            if readers:
+                before.update(readers)
+            elif slot in self.setter:
+                before.add(self.setter[slot])
         self.operations.append(action)
         self.needs.append(self.last_of(before))
-        self.notes.extend(f"l{number + 1} {note}" for note in notes)
+        for note in notes:
+            self.notes.append(f"l{number + 1} {note}")
         for slot in reads:
             self.readers.setdefault(slot, []).append(number)
         for slot in sets:
@@ -109,9 +116,11 @@ class Rank:
 
     def last_of(self, before: Set[int]) -> List[int]:
         """Those of these operations that no other of them requires, directly or through more."""
+        if len(before) < 2:
+            return list(before)
         kept: List[int] = []
         reached: Set[int] = set()
-        first = min(before, default=0)
+        first = min(before)
         for operation in sorted(before, reverse=True):
             if operation in reached:
                 continue
@@ -151,18 +160,20 @@ class Plan:
 
     def exchange(self, messages: Sequence[Message]) -> None:
         """One round of messages: all are sent, and then all received."""
-        tags = []
+        receives = []
         for message in messages:
             self._check(message)
             channel = (message.source, message.target)
-            tags.append(self.messages.get(channel, 0))
-            self.messages[channel] = tags[-1] + 1
-            self._append(message.source, f"send {self._bytes(message)}b to {message.target} {self._options(message, tags[-1])}",
-                         message.slots, (), self._moves(message.slots))
-        for message, tag in zip(messages, tags):
-            into = message.slots if message.into is None else message.into
-            self._append(message.target, f"recv {self._bytes(message)}b from {message.source} {self._options(message, tag)}",
-                         (), into, self._moves(into))
+            tag = self.messages.get(channel, 0)
+            self.messages[channel] = tag + 1
+            size, options, moves = self._bytes(message), self._options(message, tag), self._moves(message.slots)
+            self._append(message.source, f"send {size}b to {message.target} {options}", message.slots, (), moves)
+            receives.append((message, f"recv {size}b from {message.source} {options}", moves))
+        for message, action, moves in receives:
+            if message.into is None:
+                self._append(message.target, action, (), message.slots, moves)
+            else:
+                self._append(message.target, action, (), message.into, self._moves(message.into))
 
     def combine(self, messages: Sequence[Message]) -> None:
         """One round of messages whose values are added to the slots of the same numbers, or to those of `into`."""
@@ -209,8 +220,9 @@ class Plan:
 
     def _check(self, message: Message) -> None:
         """The message is one between ranks that are there, of slots that may be."""
-        for rank in (message.source, message.target):
-            check("a rank", rank, len(self.ranks) - 1)
+        most = len(self.ranks) - 1
+        check("a rank", message.source, most)
+        check("a rank", message.target, most)
         for slot in (*message.slots, *(message.into or ())):
             check("a slot", slot, MOST_SLOT)
         if message.into is not None and len(message.into) != len(message.slots):
@@ -221,7 +233,7 @@ class Plan:
         check("the nic of a message", message.nic, MOST_DEVICE)
 
     def _bytes(self, message: Message) -> int:
-        size = sum(self.sizes[slot] for slot in message.slots) if message.size is None else message.size
+        size = sum(map(self.sizes.__getitem__, message.slots)) if message.size is None else message.size
         if size > MOST_BYTES:
             raise Fault(f"a message of {size} bytes: it has at most {MOST_BYTES}")
         return check("the size of a message", size, MOST_BYTES)
@@ -248,6 +260,11 @@ class Plan:
         self.operations += 1
         self.needs += self.ranks[rank].append(action, reads, sets, notes)
         self.notes += len(notes)
+        if self.operations > MOST_OPERATIONS or self.needs > MOST_NEEDS or self.notes > MOST_NOTES:
+            self._refuse()
+
+    def _refuse(self) -> None:
+        """Says which limit is passed."""
         for count, most, what in ((self.operations, MOST_OPERATIONS, "operations"), (self.needs, MOST_NEEDS, "dependencies"),
                                   (self.notes, MOST_NOTES, "notes")):
             if count > most:
