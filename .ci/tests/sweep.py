@@ -178,9 +178,11 @@ class Lasting(unittest.TestCase):
         os.mkdir(self.folder)
 
     def begun(self, *words: str, **how: object) -> subprocess.Popen[str]:
+        """A sweep that has begun, which an interrupt reaches though a shell may have told this test to ignore it."""
         call: Any = subprocess.Popen
         begun: subprocess.Popen[str] = call([os.path.join(TOP, "tools", "sweep"), *words], stderr=subprocess.PIPE, text=True,
-                                            env={**os.environ, "TMPDIR": self.folder}, **how)
+                                            env={**os.environ, "TMPDIR": self.folder},
+                                            preexec_fn=lambda: signal.signal(signal.SIGINT, signal.SIG_DFL), **how)
         return begun
 
     def test_a_signal_leaves_the_rows_that_are_done(self) -> None:
