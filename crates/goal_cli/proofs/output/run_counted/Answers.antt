@@ -7,14 +7,14 @@ use Rattle.goal_cli.proofs.StopLemmas.{if_err}
 use Rattle.goal_cli.proofs.output.run_counted.Goals as goal
 
 pub returns-in-Params-clause-stop : goal.returns-in-Params-clause-stop
-returns-in-Params-clause-stop c =
+returns-in-Params-clause-stop g c =
     let p = ByNumbers (numbers c.in-Params.params) in
     rw c.in-Params.is
     (if_err c.run_with.result (λ (stop : Stop). (text : List ℕ) → IsUnpaid p text c.args.sched.now stop)
     (λ (stop : Stop). IsUnpaid p c.args.text.now c.args.sched.now stop) (λ stop all. all c.args.text.now) c.run_with.ensures.stop)
 
 pub returns-in-Machine-clause-stop : goal.returns-in-Machine-clause-stop
-returns-in-Machine-clause-stop c =
+returns-in-Machine-clause-stop g c =
     rw c.in-Machine.is
     (if_err c.run_on.result (λ (stop : Stop). (name : List ℕ) → IsUnpaid (ByMachine name) c.args.text.now c.args.sched.now stop)
     (λ (stop : Stop). IsUnpaid (ByMachine c.in-Machine.field-0) c.args.text.now c.args.sched.now stop) (λ stop all. all c.in-Machine.field-0)
