@@ -5,7 +5,7 @@ use Rattle.std.proofs.lemmas.Bool.{lt-ltb, ltb-true, eqb-true, cases_lt, cases_e
 use Rattle.goal_graph.specs.declared.plan.Kind.TheVariants.{Calc, Recv}
 use Rattle.goal_graph.specs.declared.plan.Note.TheVariants.{Moves}
 use Rattle.goal_limits.specs.declared.limits.TheConstants.{MAX_BYTES}
-use Rattle.goal_blocks.specs.declared.collective.Collective.TheVariants.{Allgather}
+use Rattle.goal_limits.specs.declared.collective.Collective.TheVariants.{Allgather}
 use Rattle.goal_blocks.specs.Slots.{slots_from}
 use Rattle.goal_blocks.specs.Values.{Value, Store}
 use Rattle.goal_blocks.specs.Weight.{sum_below}

@@ -3,7 +3,7 @@ use Rattle.std.proofs.Common.{⊎_elim, ℕ, zero, suc, ◌+◌, ◌-◌, ◌*�
 use Rattle.std.proofs.Math.Nat.{pow-suc}
 use Rattle.std.proofs.lemmas.Bool.{lt-ltb, ne_eqb, cases_lt, cases_eq}
 use Rattle.std.proofs.lemmas.Nat.{pow_pos, div-mul-add, div-add-mod', mod_below}
-use Rattle.goal_blocks.specs.declared.collective.Collective.TheVariants.{Allreduce}
+use Rattle.goal_limits.specs.declared.collective.Collective.TheVariants.{Allreduce}
 use Rattle.goal_blocks.specs.Values.{Value, Store, merge}
 use Rattle.goal_blocks.specs.Certification.{IsCertified}
 use Rattle.goal_blocks.specs.Right.{IsRightEverywhere, IsRightFor}

@@ -3,7 +3,7 @@ use Rattle.std.proofs.Common.{⊎_elim, ℕ, zero, suc, ◌+◌, ◌-◌, ◌*�
 use Rattle.std.specs.List.{range_with_len, list_all}
 use Rattle.std.proofs.Math.Nat.{pow-suc}
 use Rattle.std.proofs.lemmas.Bool.{both_ways, lt-ltb, ne_eqb, cases_lt}
-use Rattle.goal_blocks.specs.declared.collective.Collective.TheVariants.{Barrier}
+use Rattle.goal_limits.specs.declared.collective.Collective.TheVariants.{Barrier}
 use Rattle.goal_blocks.specs.Values.{Contribution, Value, Store, is_lower, insert_one, merge}
 use Rattle.goal_blocks.specs.Certification.{IsCertified}
 use Rattle.goal_blocks.specs.Right.{IsRightEverywhere, IsRightFor}

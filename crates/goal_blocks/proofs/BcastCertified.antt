@@ -6,7 +6,7 @@ use Rattle.goal_graph.specs.declared.plan.Kind.{Kind}
 use Rattle.goal_graph.specs.declared.plan.Kind.TheVariants.{Calc, Send, Recv}
 use Rattle.goal_graph.specs.declared.plan.Note.TheVariants.{Moves}
 use Rattle.goal_limits.specs.declared.limits.TheConstants.{MAX_BYTES}
-use Rattle.goal_blocks.specs.declared.collective.Collective.TheVariants.{Bcast}
+use Rattle.goal_limits.specs.declared.collective.Collective.TheVariants.{Bcast}
 use Rattle.goal_blocks.specs.Slots.{slots_from}
 use Rattle.goal_blocks.specs.Values.{Value, Store}
 use Rattle.goal_blocks.specs.Weight.{sum_below}

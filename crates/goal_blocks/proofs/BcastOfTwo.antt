@@ -15,7 +15,7 @@ use Rattle.goal_graph.specs.Allowed.{has_ended, is_ready, allowed}
 use Rattle.goal_graph.specs.Interleaving.{IsInterleaving}
 use Rattle.goal_graph.specs.Order.{IsBefore}
 use Rattle.goal_graph.proofs.ForCallers.{kind_listed, listed_places}
-use Rattle.goal_blocks.specs.declared.collective.Collective.TheVariants.{Bcast}
+use Rattle.goal_limits.specs.declared.collective.Collective.TheVariants.{Bcast}
 use Rattle.goal_blocks.specs.Channels.{channel, AreOfOneChannel, HasNoWildcard, HasNoDoubleChannel, HasNoUnpaired}
 use Rattle.goal_blocks.specs.Collectives.{initial, is_value, wanted}
 use Rattle.goal_blocks.specs.Slots.{written_in, touched_in, slots_from, notes_at, slots, adds, written, touched}

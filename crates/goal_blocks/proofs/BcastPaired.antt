@@ -5,7 +5,7 @@ use Rattle.std.proofs.lemmas.Bool.{cases_lt}
 use Rattle.std.proofs.lemmas.Nat.{pow_pos}
 use Rattle.goal_graph.specs.declared.action.OpId.{OpId}
 use Rattle.goal_graph.specs.declared.plan.Kind.TheVariants.{Send, Recv}
-use Rattle.goal_blocks.specs.declared.collective.Collective.TheVariants.{Bcast}
+use Rattle.goal_limits.specs.declared.collective.Collective.TheVariants.{Bcast}
 use Rattle.goal_blocks.specs.Positions.{ahead, back, digits}
 use Rattle.goal_blocks.specs.Made.{bcast_in, bcast_count}
 use Rattle.goal_blocks.specs.Generated.{made}

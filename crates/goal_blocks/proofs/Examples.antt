@@ -7,7 +7,7 @@ use Rattle.goal_graph.specs.declared.plan.Op.{Op}
 use Rattle.goal_graph.specs.declared.plan.Dep.{Dep}
 use Rattle.goal_graph.specs.declared.plan.When.TheVariants.{AfterEnd}
 use Rattle.goal_graph.specs.declared.plan.Note.TheVariants.{Moves, Adds}
-use Rattle.goal_blocks.specs.declared.collective.Collective.TheVariants.{Bcast, Barrier, Allgather, Allreduce, Alltoall, Reduce, Gather, Scatter, ReduceScatter, Scan}
+use Rattle.goal_limits.specs.declared.collective.Collective.TheVariants.{Bcast, Barrier, Allgather, Allreduce, Alltoall, Reduce, Gather, Scatter, ReduceScatter, Scan}
 use Rattle.goal_blocks.specs.Collectives.{initial, single, of_each, is_value, has_one, wanted}
 use Rattle.goal_blocks.specs.Entries.{plan_by, made_by}
 use Rattle.goal_blocks.specs.Positions.{ahead, back, flipped, digits, low, rounds, parent, share}

@@ -10,7 +10,7 @@ use Rattle.goal_graph.specs.Schedule.{Plan, op_at, kind_at, places_of_rank, plac
 use Rattle.goal_graph.specs.Action.{Act, happened, oldest}
 use Rattle.goal_graph.specs.Matching.{fits, pairs, partner}
 use Rattle.goal_graph.specs.Order.{IsBefore, IsLess}
-use Rattle.goal_blocks.specs.declared.collective.Collective.TheVariants.{Bcast}
+use Rattle.goal_limits.specs.declared.collective.Collective.TheVariants.{Bcast}
 use Rattle.goal_blocks.specs.declared.cert_fault.CertFault.{CertFault}
 use Rattle.goal_blocks.specs.declared.cert_fault.CertFault.TheVariants.{TooLarge, Wildcard, DoubleChannel, Unpaired, Lengths, Race, Stalls, Weight, Wrong, NoMemory}
 use Rattle.goal_blocks.specs.Collectives.{initial, is_value, wanted}

@@ -6,7 +6,7 @@ use Rattle.std.proofs.lemmas.Bool.{true≢false, lt-ltb, ltb-true, eqb-true, cas
 use Rattle.std.proofs.lemmas.Nat.{pow_pos}
 use Rattle.goal_graph.specs.declared.action.OpId.{OpId}
 use Rattle.goal_graph.specs.declared.plan.Kind.TheVariants.{Calc, Send, Recv}
-use Rattle.goal_blocks.specs.declared.collective.Collective.TheVariants.{Gather}
+use Rattle.goal_limits.specs.declared.collective.Collective.TheVariants.{Gather}
 use Rattle.goal_blocks.specs.Values.{Value, Store}
 use Rattle.goal_blocks.specs.Certification.{IsCertified}
 use Rattle.goal_blocks.specs.Collectives.{single, initial, is_value, wanted}

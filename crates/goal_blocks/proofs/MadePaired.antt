@@ -4,7 +4,7 @@ use Rattle.std.specs.Prelude.{if◌then◌else◌}
 use Rattle.std.proofs.lemmas.Bool.Decides.{nat_tests}
 use Rattle.goal_graph.specs.declared.action.OpId.{OpId}
 use Rattle.goal_graph.specs.declared.plan.Kind.TheVariants.{Calc, Send, Recv}
-use Rattle.goal_blocks.specs.declared.collective.Collective.TheVariants.{Allgather, Scan}
+use Rattle.goal_limits.specs.declared.collective.Collective.TheVariants.{Allgather, Scan}
 use Rattle.goal_blocks.specs.Positions.{ahead, back, upward}
 use Rattle.goal_blocks.specs.Made.{allgather_in}
 use Rattle.goal_blocks.specs.MadeRooted.{scan_in, scan_count}

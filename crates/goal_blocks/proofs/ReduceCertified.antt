@@ -9,7 +9,7 @@ use Rattle.goal_graph.specs.declared.action.OpId.{OpId}
 use Rattle.goal_graph.specs.declared.plan.Kind.TheVariants.{Calc, Recv}
 use Rattle.goal_graph.specs.declared.plan.Note.TheVariants.{Moves, Adds}
 use Rattle.goal_limits.specs.declared.limits.TheConstants.{MAX_BYTES}
-use Rattle.goal_blocks.specs.declared.collective.Collective.TheVariants.{Reduce}
+use Rattle.goal_limits.specs.declared.collective.Collective.TheVariants.{Reduce}
 use Rattle.goal_blocks.specs.Slots.{Adding}
 use Rattle.goal_blocks.specs.Values.{Value, Store, merge}
 use Rattle.goal_blocks.specs.Weight.{sum_below}

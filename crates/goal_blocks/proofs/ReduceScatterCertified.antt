@@ -5,7 +5,7 @@ use Rattle.std.proofs.lemmas.Bool.{lt-ltb, ltb-true, ne_eqb, cases_lt, cases_eq}
 use Rattle.goal_graph.specs.declared.action.OpId.{OpId}
 use Rattle.goal_graph.specs.declared.plan.Kind.TheVariants.{Calc, Recv}
 use Rattle.goal_graph.specs.declared.plan.Note.TheVariants.{Moves, Adds}
-use Rattle.goal_blocks.specs.declared.collective.Collective.TheVariants.{ReduceScatter}
+use Rattle.goal_limits.specs.declared.collective.Collective.TheVariants.{ReduceScatter}
 use Rattle.goal_blocks.specs.Slots.{Adding}
 use Rattle.goal_blocks.specs.Values.{Value, Store, insert_one, merge}
 use Rattle.goal_blocks.specs.Weight.{sum_below}

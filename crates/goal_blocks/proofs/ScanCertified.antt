@@ -6,7 +6,7 @@ use Rattle.std.proofs.lemmas.List.Elements.{All-head, All-tail, All-map}
 use Rattle.goal_graph.specs.declared.plan.Kind.TheVariants.{Calc, Recv}
 use Rattle.goal_graph.specs.declared.plan.Note.TheVariants.{Moves, Adds}
 use Rattle.goal_limits.specs.declared.limits.TheConstants.{MAX_BYTES}
-use Rattle.goal_blocks.specs.declared.collective.Collective.TheVariants.{Scan}
+use Rattle.goal_limits.specs.declared.collective.Collective.TheVariants.{Scan}
 use Rattle.goal_blocks.specs.Slots.{Adding, slots_from}
 use Rattle.goal_blocks.specs.Values.{Contribution, Value, Store, is_lower, insert_one, merge}
 use Rattle.goal_blocks.specs.Weight.{sum_below}

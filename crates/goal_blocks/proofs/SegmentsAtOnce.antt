@@ -11,7 +11,7 @@ use Rattle.goal_graph.specs.Schedule.{Plan, kind_at}
 use Rattle.goal_graph.specs.Action.{Act, same_op}
 use Rattle.goal_graph.specs.Matching.{pairs, partner}
 use Rattle.goal_graph.specs.Interleaving.{IsCompleteInterleaving}
-use Rattle.goal_blocks.specs.declared.collective.Collective.{Collective}
+use Rattle.goal_limits.specs.declared.collective.Collective.{Collective}
 use Rattle.goal_blocks.specs.Slots.{Adding, slots, adds}
 use Rattle.goal_blocks.specs.Values.{Value, Store, Held, merge, set_slot, write, add_all, payload_from, read, change, held_after, value}
 use Rattle.goal_blocks.specs.Stored.{IsSorted}

@@ -1,8 +1,8 @@
 -- What the slots hold at the start, and how much that is.
 use Rattle.std.proofs.Common.{ℕ, zero, suc, ◌*◌, ◌<◌, ◌≤◌, ◌==◌, ◌&&◌, nat_lt, ◌≡◌, Bool, true, false, [], length, if◌then◌else◌, refl, sym, ap, ◌∙◌, arith, eq-eqb, ⊎_elim, suc-mul, zero-mul, ◌^◌}
 use Rattle.std.proofs.lemmas.Bool.{cases_eq, eqb-true, true≢false, lt-ltb, le-ltb}
-use Rattle.goal_blocks.specs.declared.collective.Collective.{Collective}
-use Rattle.goal_blocks.specs.declared.collective.Collective.TheVariants.{Bcast, Barrier, Allgather, Allreduce, Alltoall, Reduce, Gather, Scatter, ReduceScatter, Scan}
+use Rattle.goal_limits.specs.declared.collective.Collective.{Collective}
+use Rattle.goal_limits.specs.declared.collective.Collective.TheVariants.{Bcast, Barrier, Allgather, Allreduce, Alltoall, Reduce, Gather, Scatter, ReduceScatter, Scan}
 use Rattle.goal_blocks.specs.Collectives.{single, initial, initial_at}
 use Rattle.goal_blocks.specs.Stored.{IsSorted}
 use Rattle.goal_blocks.specs.Weight.{sum_below, stored}

@@ -10,7 +10,7 @@ use Rattle.goal_blocks.specs.Values.{Contribution, Value, Store, set_slot}
 use Rattle.goal_blocks.specs.Stored.{Place, place_cmp, Kept, written_at, values, entries_of, one_or_none, before, IsSorted, IsSound}
 use Rattle.goal_blocks.specs.Weight.{stored}
 use Rattle.goal_blocks.specs.Collectives.{initial}
-use Rattle.goal_blocks.specs.declared.collective.Collective.{Collective}
+use Rattle.goal_limits.specs.declared.collective.Collective.{Collective}
 use Rattle.goal_blocks.proofs.SlotSums.{stored_set, stored_most}
 use Rattle.goal_blocks.proofs.Starts.{initial_sorted}
 use Rattle.goal_graph.proofs.ForCallers.{alike_numbers, eqb-swapped}

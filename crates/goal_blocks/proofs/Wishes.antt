@@ -4,7 +4,7 @@ use Rattle.std.specs.List.{range_with_len, list_all}
 use Rattle.std.proofs.lemmas.Bool.{and_parts, eqb-true, true≢false, false_from_ne_true, le-ltb, lt-ltb, cases_eq, ltb-true, ltb-false}
 use Rattle.std.proofs.lemmas.List.{same_lists, get_or_default}
 use Rattle.std.proofs.lemmas.List.FromFn.{length-map-range_with_len, get_or-map-range_with_len}
-use Rattle.goal_blocks.specs.declared.collective.Collective.{Collective}
+use Rattle.goal_limits.specs.declared.collective.Collective.{Collective}
 use Rattle.goal_blocks.specs.Values.{Contribution, Value, is_lower}
 use Rattle.goal_blocks.specs.Collectives.{of_each, is_one, is_value, has_one, wanted, wanted_at}
 use Rattle.goal_blocks.specs.Stored.{ComesFirst, IsSorted}

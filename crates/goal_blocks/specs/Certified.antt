@@ -1,7 +1,7 @@
 -- When a schedule is certified for a collective.
 use Rattle.std.specs.Prelude.{List, length}
 use Rattle.goal_graph.specs.Schedule.{Plan}
-use Rattle.goal_blocks.specs.declared.collective.Collective.{Collective}
+use Rattle.goal_limits.specs.declared.collective.Collective.{Collective}
 use Rattle.goal_blocks.specs.Collectives.{initial, wanted}
 use Rattle.goal_blocks.specs.Certification.{IsCertified}
 

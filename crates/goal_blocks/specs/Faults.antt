@@ -1,6 +1,7 @@
 -- Why a schedule is not certified: nine kinds of fault, each of which can be read separately, and which is the first.
-use Rattle.std.specs.Prelude.{ℕ, ◌+◌, ◌^◌, ◌≡◌, ◌≢◌, ◌<◌, ◌≤◌, ◌⊎◌, Bool, false, List, [], ◌∷◌, length, take, Contains, Option, Some, is_some}
+use Rattle.std.specs.Prelude.{ℕ, ◌+◌, ◌≡◌, ◌≢◌, ◌<◌, ◌≤◌, ◌⊎◌, Bool, false, List, [], ◌∷◌, length, take, Contains, Option, Some, is_some}
 use Rattle.std.specs.List.{sum_by}
+use Rattle.goal_limits.specs.Limits.{certified_op_limit, moved_limit, weight_limit}
 use Rattle.goal_graph.specs.declared.action.OpId.{OpId}
 use Rattle.goal_graph.specs.declared.plan.Kind.{Kind}
 use Rattle.goal_graph.specs.declared.plan.Kind.TheVariants.{Calc, Recv}
@@ -33,9 +34,9 @@ op_key x = x.rank ∷ x.op ∷ []
 
 -- too many operations, too high a slot, or too many slots moved by the ranks up to this one
 pub data IsLarge (plans : List Plan) (rank : ℕ) : Type 0 where
-  too_many : 2048 < length (ops_at plans rank) → IsLarge plans rank
+  too_many : certified_op_limit < length (ops_at plans rank) → IsLarge plans rank
   too_high : (n : Note) → Contains (notes_at plans rank) n → (NamesLowSlots n → ⊥) → IsLarge plans rank
-  too_much : rank < length plans → 2 ^ 24 < sum_by (λ (p : Plan). sum_by moved_count p.notes) (take (rank + 1) plans) → IsLarge plans rank
+  too_much : rank < length plans → moved_limit < sum_by (λ (p : Plan). sum_by moved_count p.notes) (take (rank + 1) plans) → IsLarge plans rank
 
 -- a receive from any source or with any tag
 pub record IsWildcard (plans : List Plan) (x : OpId) : Type 0 where
@@ -95,12 +96,12 @@ IsStalled plans x =
 
 -- n contributions are too many
 abbrev pub IsTooHeavy : ℕ → Type 0
-IsTooHeavy n = 2 ^ 24 < n
+IsTooHeavy n = weight_limit < n
 
 -- `total` is held after the first note of a calc after which it is too much
 abbrev pub AddsTooMuch : List Plan → List Act → Held → OpId → Option Kind → ℕ → Type 0
 AddsTooMuch plans h held x (Some (Calc nanos)) total =
-    (n : ℕ) × (weight_within plans h held x n ≡ total) × IsTooHeavy total × ((k : ℕ) → k < n → weight_within plans h held x k ≤ 2 ^ 24)
+    (n : ℕ) × (weight_within plans h held x n ≡ total) × IsTooHeavy total × ((k : ℕ) → k < n → weight_within plans h held x k ≤ weight_limit)
 AddsTooMuch plans h held x _ total = ⊥
 
 -- `total` is held after the first of these actions after which it is too much, or at the start

@@ -1,7 +1,8 @@
 -- When a collective has no schedule, and why.
 use Rattle.std.specs.Prelude.{ℕ, ◌≡◌, ◌<◌, ◌≤◌, ◌⊎◌}
-use Rattle.goal_blocks.specs.declared.collective.Collective.{Collective}
-use Rattle.goal_blocks.specs.Generated.{most_ranks, HasRoot, HasPower, IsPossible}
+use Rattle.goal_limits.specs.declared.collective.Collective.{Collective}
+use Rattle.goal_limits.specs.MostRanks.{most_ranks, HasRoot}
+use Rattle.goal_blocks.specs.Generated.{HasPower, IsPossible}
 use Rattle.goal_blocks.specs.declared.gen_fault.GenFault.{GenFault}
 use Rattle.goal_blocks.specs.declared.gen_fault.GenFault.TheVariants.{Ranks, Root, NotPowerOfTwo, NoMemory}
 

@@ -2,8 +2,9 @@
 use Rattle.std.specs.Prelude.{ℕ, ◌+◌, ◌-◌, ◌*◌, ◌<◌, ◌≤◌, List}
 use Rattle.std.specs.Int.{IsPowerOfTwo}
 use Rattle.goal_graph.specs.Schedule.{Plan}
-use Rattle.goal_blocks.specs.declared.collective.Collective.{Collective}
-use Rattle.goal_blocks.specs.declared.collective.Collective.TheVariants.{Bcast, Barrier, Allgather, Allreduce, Alltoall, Reduce, Gather, Scatter, ReduceScatter, Scan}
+use Rattle.goal_limits.specs.declared.collective.Collective.{Collective}
+use Rattle.goal_limits.specs.declared.collective.Collective.TheVariants.{Bcast, Barrier, Allgather, Allreduce, Alltoall, Reduce, Gather, Scatter, ReduceScatter, Scan}
+use Rattle.goal_limits.specs.MostRanks.{most_ranks, HasRoot}
 use Rattle.goal_blocks.specs.Entries.{Entry, made_by}
 use Rattle.goal_blocks.specs.Positions.{back, digits, rounds, upward}
 use Rattle.goal_blocks.specs.Made.{bcast_in, bcast_count, barrier_in, allreduce_in, allgather_in, alltoall_in}
@@ -38,27 +39,6 @@ entry_in Scan ranks bytes r i = scan_in bytes r i
 -- the schedule of a collective for these ranks, with messages of `bytes` bytes
 unfoldable pub made : Collective → ℕ → ℕ → List Plan
 made what ranks bytes = made_by ranks (λ r. count_in what ranks r) (λ r i. entry_in what ranks bytes r i)
-
--- the most ranks of a collective
-abbrev pub most_ranks : Collective → ℕ
-most_ranks (Bcast root) = 65536
-most_ranks Barrier = 16384
-most_ranks Allgather = 512
-most_ranks Allreduce = 16384
-most_ranks Alltoall = 512
-most_ranks (Reduce root) = 65536
-most_ranks (Gather root) = 65536
-most_ranks (Scatter root) = 65536
-most_ranks ReduceScatter = 128
-most_ranks Scan = 2048
-
--- the root, if the collective has one, is a rank
-abbrev pub HasRoot : Collective → ℕ → Type 0
-HasRoot (Bcast root) ranks = root < ranks
-HasRoot (Reduce root) ranks = root < ranks
-HasRoot (Gather root) ranks = root < ranks
-HasRoot (Scatter root) ranks = root < ranks
-HasRoot _ ranks = Unit {0}
 
 -- the number of ranks of an allreduce is a power of two
 abbrev pub HasPower : Collective → ℕ → Type 0

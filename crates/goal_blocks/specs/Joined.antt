@@ -4,7 +4,7 @@ use Rattle.goal_graph.specs.declared.action.OpId.{OpId}
 use Rattle.goal_graph.specs.Schedule.{Plan}
 use Rattle.goal_graph.specs.Action.{Act}
 use Rattle.goal_graph.specs.Interleaving.{IsCompleteInterleaving}
-use Rattle.goal_blocks.specs.declared.collective.Collective.{Collective}
+use Rattle.goal_limits.specs.declared.collective.Collective.{Collective}
 use Rattle.goal_blocks.specs.Values.{Value, Store, merge, value}
 use Rattle.goal_blocks.specs.Collectives.{is_value}
 use Rattle.goal_blocks.specs.Right.{EndsInItsPairs}

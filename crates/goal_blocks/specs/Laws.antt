@@ -1,5 +1,6 @@
 -- The laws for all schedules in words, and the notions that they use. Functions `laws_of_..` ensure each of them.
 use Rattle.std.specs.Prelude.{◌≡◌, Bool, List, ◌++◌, ◌⊎◌, true, ℕ, ◌<◌, ◌≤◌, ◌^◌, ◌↔◌, length, map, ◌+◌, ◌*◌}
+use Rattle.goal_limits.specs.Limits.{slot_limit}
 use Rattle.goal_graph.specs.declared.action.OpId.{OpId}
 use Rattle.goal_graph.specs.Schedule.{Plan, op_at, needs}
 use Rattle.goal_graph.specs.Action.{Act}
@@ -18,9 +19,9 @@ use Rattle.goal_blocks.specs.declared.cert_fault.CertFault.{CertFault}
 use Rattle.goal_blocks.specs.Faults.{HasFault, IsCertificationFault}
 use Rattle.goal_blocks.specs.Positions.{ahead, back}
 use Rattle.goal_limits.specs.Limits.{size_limit}
-use Rattle.goal_blocks.specs.declared.collective.Collective.{Collective}
+use Rattle.goal_limits.specs.declared.collective.Collective.{Collective}
 use Rattle.goal_blocks.specs.Generated.{made, IsPossible}
-use Rattle.goal_blocks.specs.declared.collective.Collective.TheVariants.{Bcast}
+use Rattle.goal_limits.specs.declared.collective.Collective.TheVariants.{Bcast}
 use Rattle.goal_blocks.specs.Certified.{IsCertifiedFor}
 use Rattle.goal_graph.specs.declared.action.Class.{Class}
 use Rattle.goal_blocks.specs.Slots.{slots, adds}
@@ -203,7 +204,7 @@ RenamedIsRight = (name old : ℕ → ℕ → ℕ) (plans other : List Plan) (fir
 
 -- slots up to 65,535 have new names up to 65,535, and those below 2^32 have new names below 2^32
 pub record KeepsSlots (name : ℕ → ℕ → ℕ) : Type 0 where
-  pub low : (rank slot : ℕ) → slot ≤ 65535 → name rank slot ≤ 65535
+  pub low : (rank slot : ℕ) → slot ≤ slot_limit → name rank slot ≤ slot_limit
   pub all : (rank slot : ℕ) → slot < 2 ^ 32 → name rank slot < 2 ^ 32
 
 -- a renamed schedule is certified if and only if the original is certified, with start and end under the names
@@ -233,7 +234,7 @@ FirstBlockStays = (width slot : ℕ) → exchange width 0 slot ≡ slot
 -- Certifying a schedule in a block is the same as certifying it with the two blocks exchanged.
 abbrev pub ExchangedIsCertified : Type 0
 ExchangedIsCertified = (what : Collective) (width block : ℕ) (plans : List Plan)
-    → block * width + width ≤ 65536
+    → block * width + width ≤ slot_limit + 1
     → IsSmall plans
     → IsCertifiedFor what (exchanged width block plans) ↔ IsCertifiedIn what width block plans
 

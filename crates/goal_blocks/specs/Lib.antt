@@ -20,7 +20,6 @@ pub mod Segments
 pub mod Faults
 pub mod Right
 -- What only the code keeps.
-pub mod Makers
 pub mod Steps
 pub mod Stored
 pub mod SlotRanges

@@ -4,7 +4,7 @@ use Rattle.goal_graph.specs.declared.action.OpId.{OpId}
 use Rattle.goal_graph.specs.declared.plan.Kind.TheVariants.{Calc, Send, Recv}
 use Rattle.goal_blocks.specs.Channels.{HasNoWildcard, HasNoDoubleChannel, HasNoUnpaired}
 use Rattle.goal_graph.specs.Schedule.{Plan}
-use Rattle.goal_blocks.specs.declared.collective.Collective.TheVariants.{Bcast, Allgather, Scan}
+use Rattle.goal_limits.specs.declared.collective.Collective.TheVariants.{Bcast, Allgather, Scan}
 use Rattle.goal_blocks.specs.Entries.{Entry}
 use Rattle.goal_blocks.specs.Generated.{made, IsPossible}
 

@@ -11,8 +11,8 @@ use Rattle.goal_graph.specs.Schedule.{Plan, op_at, needs}
 use Rattle.goal_graph.specs.Action.{Act}
 use Rattle.goal_graph.specs.Allowed.{allowed}
 use Rattle.goal_graph.specs.Interleaving.{IsInterleaving, IsCompleteInterleaving}
-use Rattle.goal_blocks.specs.declared.collective.Collective.{Collective}
-use Rattle.goal_blocks.specs.declared.collective.Collective.TheVariants.{Bcast, Allgather, Alltoall, Reduce, Gather, Scatter, ReduceScatter, Scan}
+use Rattle.goal_limits.specs.declared.collective.Collective.{Collective}
+use Rattle.goal_limits.specs.declared.collective.Collective.TheVariants.{Bcast, Allgather, Alltoall, Reduce, Gather, Scatter, ReduceScatter, Scan}
 use Rattle.goal_blocks.specs.Slots.{slots, adds}
 use Rattle.goal_blocks.specs.Walk.{IsWalk}
 use Rattle.goal_blocks.specs.Values.{Contribution, Value, Store, insert_one, value}

@@ -1,5 +1,6 @@
 -- What is right in every interleaving, as certification ensures; and which generated schedules are certified by proof.
 use Rattle.std.specs.Prelude.{◌≡◌, ◌↔◌, Bool, List, Some, ℕ, ◌≤◌, length}
+use Rattle.goal_limits.specs.Limits.{certified_rank_limit}
 use Rattle.goal_graph.specs.declared.action.OpId.{OpId}
 use Rattle.goal_graph.specs.Schedule.{Plan, IsSend}
 use Rattle.goal_graph.specs.Action.{Act}
@@ -9,8 +10,8 @@ use Rattle.goal_blocks.specs.Walk.{AllEnd}
 use Rattle.goal_graph.specs.Interleaving.{IsCompleteInterleaving}
 use Rattle.goal_blocks.specs.Values.{Value, Store, value}
 use Rattle.goal_blocks.specs.Certification.{HoldsWanted}
-use Rattle.goal_blocks.specs.declared.collective.Collective.{Collective}
-use Rattle.goal_blocks.specs.declared.collective.Collective.TheVariants.{Barrier, Allreduce}
+use Rattle.goal_limits.specs.declared.collective.Collective.{Collective}
+use Rattle.goal_limits.specs.declared.collective.Collective.TheVariants.{Barrier, Allreduce}
 use Rattle.goal_blocks.specs.Collectives.{initial, wanted}
 
 -- each operation has ended, and each send is paired with the receive of its channel; there are no other pairs
@@ -35,6 +36,6 @@ IsRightFor what plans = IsRightEverywhere plans (initial what (length plans)) (w
 -- The numbers of ranks for which generated schedules are certified by proof: all possible ones, except those of a
 -- barrier and an allreduce with more than 2,048 ranks, which hold too many contributions.
 abbrev pub IsCertifiedByProof : Collective → ℕ → Type 0
-IsCertifiedByProof Barrier ranks = ranks ≤ 2048
-IsCertifiedByProof Allreduce ranks = ranks ≤ 2048
+IsCertifiedByProof Barrier ranks = ranks ≤ certified_rank_limit
+IsCertifiedByProof Allreduce ranks = ranks ≤ certified_rank_limit
 IsCertifiedByProof _ ranks = Unit {0}

@@ -6,7 +6,8 @@ use Rattle.std.specs.Map.{lookup}
 use Rattle.std.specs.Ordering.{nat_cmp, ordering_then}
 use Rattle.std.specs.BTreeMap.{is_at}
 use Rattle.std.specs.declared.cmp.Ordering.{Ordering}
-use Rattle.goal_blocks.specs.declared.collective.Collective.{Collective}
+use Rattle.goal_limits.specs.Limits.{rank_limit}
+use Rattle.goal_limits.specs.declared.collective.Collective.{Collective}
 use Rattle.goal_blocks.specs.Values.{Contribution, Value, Store, is_lower}
 use Rattle.goal_blocks.specs.Weight.{stored}
 use Rattle.goal_blocks.specs.Collectives.{initial}
@@ -42,7 +43,7 @@ IsSorted (c ∷ v) = ComesFirst c v × IsSorted v
 
 -- the invariant of a store that counts `held` contributions
 pub record IsSound (s : Kept) (held : ℕ) : Type 0 where
-  pub ranks : s.ranks ≤ 65536
+  pub ranks : s.ranks ≤ rank_limit
   pub sorted : (r k : ℕ) → IsSorted (values s r k)
   pub held_is : held ≡ stored s.ranks (values s)
 

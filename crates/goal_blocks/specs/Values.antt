@@ -8,7 +8,7 @@ use Rattle.goal_graph.specs.declared.plan.Kind.TheVariants.{Calc, Send, Recv}
 use Rattle.goal_graph.specs.Schedule.{Plan, kind_at}
 use Rattle.goal_graph.specs.Action.{Act, same_op}
 use Rattle.goal_graph.specs.Matching.{pairs, partner}
-pub use Rattle.goal_blocks.specs.declared.collective.Contribution.{Contribution}
+pub use Rattle.goal_blocks.specs.declared.contribution.Contribution.{Contribution}
 use Rattle.goal_blocks.specs.Slots.{Adding, slots, adds}
 
 -- sorted contributions, each as often as it was combined

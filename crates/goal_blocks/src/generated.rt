@@ -1,46 +1,7 @@
-//! For which numbers of ranks a collective has a schedule, and the laws of schedules that are given by entries. The
-//! function of the laws does nothing: a proof cites a law by a call.
+//! The laws of schedules that are given by entries. The function does nothing: a proof cites a law by a call.
 ghost use Rattle.goal_blocks.specs.Fitting.{FittingIsAccepted};
 ghost use Rattle.goal_blocks.specs.Laws.{MadeIsAccepted, MadeIsCertified, OnlyTheseAreCertified, MadeIsRight};
 ghost use Rattle.goal_blocks.specs.Messages.{BcastIsPaired, AllgatherIsPaired, ScanIsPaired};
-
-use crate::collective::Collective;
-
-impl Collective {
-    ghost use Rattle.std.specs.Prelude.{◌≡◌, ◌↔◌, IsTrue};
-    ghost use Rattle.goal_blocks.specs.Generated.{most_ranks, HasRoot};
-
-    /// Returns the most ranks of its schedule.
-    #[must_use]
-    pub fn most_ranks(&self) -> u32
-        ensures { result ≡ most_ranks self.now }
-    {
-        match self {
-            Collective::Bcast { .. }
-            | Collective::Reduce { .. }
-            | Collective::Gather { .. }
-            | Collective::Scatter { .. } => 65_536,
-            Collective::Barrier | Collective::Allreduce => 16_384,
-            Collective::Allgather | Collective::Alltoall => 512,
-            Collective::ReduceScatter => 128,
-            Collective::Scan => 2_048,
-        }
-    }
-
-    /// Returns whether its root, if it has one, is one of `ranks` ranks.
-    #[must_use]
-    pub fn has_root(&self, ranks: u32) -> bool
-        ensures { IsTrue result ↔ HasRoot self.now ranks }
-    {
-        match self {
-            Collective::Bcast { root }
-            | Collective::Reduce { root }
-            | Collective::Gather { root }
-            | Collective::Scatter { root } => *root < ranks,
-            _ => true,
-        }
-    }
-}
 
 /// The laws of schedules that are given by an entry for each rank and number:
 ///

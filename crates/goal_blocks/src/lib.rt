@@ -2,7 +2,7 @@
 #![tactic(auto)]
 
 mod cert_fault;
-mod collective;
+mod contribution;
 mod gen_fault;
 mod generated;
 mod laws;
@@ -17,9 +17,10 @@ mod store;
 mod wanted;
 
 pub use cert_fault::CertFault;
-pub use collective::{Collective, Contribution};
+pub use contribution::Contribution;
 pub use gen_fault::GenFault;
 pub use generated::laws_of_made_schedules;
+pub use goal_limits::Collective;
 pub use laws::{
     laws_of_certified_schedules, laws_of_faults, laws_of_held_contributions, laws_of_joined_starts,
     laws_of_matched_schedules, laws_of_placed_schedules, laws_of_positions, laws_of_races,

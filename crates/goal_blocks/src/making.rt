@@ -7,11 +7,10 @@ ghost use Rattle.goal_blocks.specs.Generated.{made, HasPower, IsPossible};
 ghost use Rattle.goal_blocks.specs.GenFaults.{IsGenFault};
 ghost use Rattle.goal_blocks.specs.Right.{IsCertifiedByProof, IsRightFor};
 
-use crate::collective::Collective;
 use crate::gen_fault::GenFault;
 use crate::steps::{Formula, plans_of};
 use goal_graph::{PlanFault, RankPlan, Sched};
-use goal_limits::{MAX_BYTES, NoMemory};
+use goal_limits::{Collective, MAX_BYTES, NoMemory};
 use std::alloc::Global;
 
 // Returns whether the number of ranks is a power of two, if it has to be.

@@ -3,7 +3,7 @@ ghost use Rattle.std.specs.Prelude.{◌≡◌, IfOk};
 ghost use Rattle.goal_blocks.specs.Values.{is_lower, merge};
 ghost use Rattle.goal_blocks.specs.Stored.{IsSorted};
 
-use crate::collective::Contribution;
+use crate::contribution::Contribution;
 use goal_limits::NoMemory;
 use std::alloc::Global;
 

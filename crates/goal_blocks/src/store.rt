@@ -1,17 +1,18 @@
 //! The values of all slots, which a schedule changes.
 ghost use Rattle.std.specs.Prelude.{◌≡◌, ◌∷◌, [], ℕ, ◌+◌, ◌^◌, ◌<◌, ◌≤◌, false, true, length, map, All, IfOk, OnOk, OnErr, IfSome, IfNone, IsSome, None};
 ghost use Rattle.std.specs.List.{sum_by};
+ghost use Rattle.goal_limits.specs.Limits.{rank_limit, moved_limit, weight_limit};
 ghost use Rattle.goal_blocks.specs.Values.{merge, set_slot, write};
 ghost use Rattle.goal_blocks.specs.Weight.{stored};
 ghost use Rattle.goal_blocks.specs.Collectives.{initial, wanted};
 ghost use Rattle.goal_blocks.specs.Faults.{SlotAt, IsLeast, slot_key};
 ghost use Rattle.goal_blocks.specs.Stored.{values, written_at, one_or_none, before, IsSorted, lists_of};
 
-use crate::collective::{Collective, Contribution};
+use crate::contribution::Contribution;
 use crate::merging::merged;
 use crate::slots::Slots;
 use crate::wanted::{asked, first_of, initial_size, is_wanted};
-use goal_limits::NoMemory;
+use goal_limits::{Collective, NoMemory};
 use std::alloc::{AllocError, Global};
 use std::collections::BTreeMap;
 use std::marker::Model;
@@ -24,7 +25,7 @@ pub struct Payload {
 
 impl Model for Payload {
     ghost use Rattle.std.specs.Prelude.{List, All};
-    ghost use Rattle.goal_blocks.specs.declared.collective.Contribution.{Contribution};
+    ghost use Rattle.goal_blocks.specs.declared.contribution.Contribution.{Contribution};
     ghost use Rattle.goal_blocks.specs.Stored.{IsSorted, lists_of};
 
     ghost Value = { List (List Contribution) };
@@ -68,8 +69,8 @@ impl Store {
     /// Creates the store of `ranks` ranks at the start. `Err` means out of memory.
     pub fn new(alloc: Global, ranks: u32, what: Collective) -> Result<Store, NoMemory>
         requires some { 1 ≤ ranks }
-        requires few { ranks ≤ 65536 }
-        requires light { stored ranks (initial what ranks) ≤ 2 ^ 24 }
+        requires few { ranks ≤ rank_limit }
+        requires light { stored ranks (initial what ranks) ≤ weight_limit }
         ensures values { IfOk result (λ s. values s ≡ initial what ranks) }
         ensures ranks { IfOk result (λ s. s.ranks ≡ ranks) }
     {
@@ -102,8 +103,8 @@ impl Store {
     /// Returns the number of contributions that `read` would copy.
     pub fn payload_size(&self, rank: u32, slots: &Slots) -> u64
         requires rank { rank < self.now.ranks }
-        requires few { length slots.now ≤ 2 ^ 24 }
-        requires light { stored self.now.ranks (values self.now) ≤ 2 ^ 24 }
+        requires few { length slots.now ≤ moved_limit }
+        requires light { stored self.now.ranks (values self.now) ≤ weight_limit }
         ensures { result ≡ sum_by (λ k. length (values self.now rank k)) slots.now }
     {
         let mut size = 0;
@@ -132,7 +133,7 @@ impl Store {
     pub fn write(&mut self, rank: u32, slots: &Slots, payload: Payload) -> Result<(), NoMemory>
         requires rank { rank < self.old.ranks }
         requires lengths { length slots.now ≡ length payload }
-        requires light { stored self.old.ranks (values self.old) + sum_by (λ v. length v) payload ≤ 2 ^ 24 }
+        requires light { stored self.old.ranks (values self.old) + sum_by (λ v. length v) payload ≤ weight_limit }
         ensures written { OnOk result (values self.new ≡ write rank slots.now payload (values self.old)) }
         ensures unchanged { OnErr result (values self.new ≡ values self.old) }
         ensures ranks { self.new.ranks ≡ self.old.ranks }
@@ -152,7 +153,7 @@ impl Store {
     /// unchanged.
     pub fn add(&mut self, rank: u32, from: u32, to: u32) -> Result<(), NoMemory>
         requires rank { rank < self.old.ranks }
-        requires light { stored self.old.ranks (values self.old) ≤ 2 ^ 24 }
+        requires light { stored self.old.ranks (values self.old) ≤ weight_limit }
         ensures added { OnOk result (values self.new
             ≡ set_slot rank to (merge (values self.old rank to) (values self.old rank from)) (values self.old)) }
         ensures unchanged { OnErr result (values self.new ≡ values self.old) }
@@ -277,7 +278,7 @@ impl Store {
     // Sets a slot that was not set before to the value that it has.
     fn make_room(&mut self, rank: u32, slot: u32) -> Result<(), NoMemory>
         requires rank { rank < self.old.ranks }
-        requires light { stored self.old.ranks (values self.old) ≤ 2 ^ 24 }
+        requires light { stored self.old.ranks (values self.old) ≤ weight_limit }
         ensures same { values self.new ≡ values self.old }
         ensures is_set { OnOk result (IsSome (written_at self.new (rank, slot))) }
         ensures still { (k : ℕ) → IsSome (written_at self.old (rank, k)) → IsSome (written_at self.new (rank, k)) }
@@ -302,7 +303,7 @@ impl Store {
         requires rank { rank < self.old.ranks }
         requires one { length list.items ≡ 1 }
         requires sorted { All IsSorted (lists_of list.items) }
-        requires light { stored self.old.ranks (values self.old) + sum_by (λ v. length v) (lists_of list.items) ≤ 2 ^ 24 }
+        requires light { stored self.old.ranks (values self.old) + sum_by (λ v. length v) (lists_of list.items) ≤ weight_limit }
         ensures written { OnOk result (values self.new ≡ write rank (slot ∷ []) (lists_of list.items) (values self.old)) }
         ensures unchanged { OnErr result (values self.new ≡ values self.old) }
         ensures ranks { self.new.ranks ≡ self.old.ranks }
@@ -320,7 +321,7 @@ impl Store {
         requires lengths { length slots.now ≡ length list.items }
         requires sorted { All IsSorted (lists_of list.items) }
         requires set { All (λ k. IsSome (written_at self.old (rank, k))) slots.now }
-        requires light { stored self.old.ranks (values self.old) + sum_by (λ v. length v) (lists_of list.items) ≤ 2 ^ 24 }
+        requires light { stored self.old.ranks (values self.old) + sum_by (λ v. length v) (lists_of list.items) ≤ weight_limit }
         ensures written { values self.new ≡ write rank slots.now (lists_of list.items) (values self.old) }
         ensures ranks { self.new.ranks ≡ self.old.ranks }
     {

@@ -1,17 +1,19 @@
 //! What slots hold at the start, and whether they hold what is wanted at the end.
 ghost use Rattle.std.specs.Prelude.{◌≡◌, ℕ, ◌+◌, ◌^◌, ◌<◌, ◌≤◌, [], false, length, if◌then◌else◌};
 ghost use Rattle.std.specs.List.{list_all};
+ghost use Rattle.goal_limits.specs.Limits.{rank_limit};
 ghost use Rattle.goal_blocks.specs.Values.{Value};
 ghost use Rattle.goal_blocks.specs.Weight.{stored};
 ghost use Rattle.goal_blocks.specs.Collectives.{single, of_each, initial, wanted, is_value, has_one};
 ghost use Rattle.goal_blocks.specs.Stored.{IsSorted, one_or_none};
 
-use crate::collective::{Collective, Contribution};
+use crate::contribution::Contribution;
+use goal_limits::Collective;
 
 /// Returns the number of contributions that the slots of `ranks` ranks have at the start.
 pub fn initial_size(ranks: u32, what: Collective) -> u64
     requires some { 1 ≤ ranks }
-    requires few { ranks ≤ 65536 }
+    requires few { ranks ≤ rank_limit }
     ensures { result ≡ stored ranks (initial what ranks) }
 {
     let count = ranks as u64;
@@ -134,7 +136,7 @@ fn is_reduced(root: u32, ranks: u32, rank: u32, slot: u32, value: &[Contribution
 /// Returns whether the value is one that the slot of the rank may hold at the end.
 #[tactic(auto, unfolding(crate::specs::Collectives::wanted))]
 pub fn is_wanted(what: Collective, ranks: u32, rank: u32, slot: u32, value: &[Contribution]) -> bool
-    requires few { ranks ≤ 65536 }
+    requires few { ranks ≤ rank_limit }
     requires rank { rank < ranks }
     requires sorted { IsSorted value.now }
     ensures { result ≡ wanted what ranks rank slot value.now }
@@ -159,7 +161,7 @@ pub fn is_wanted(what: Collective, ranks: u32, rank: u32, slot: u32, value: &[Co
 /// outside it may hold anything.
 #[tactic(auto, unfolding(crate::specs::Collectives::wanted))]
 pub fn asked(what: Collective, ranks: u32, rank: u32) -> (u32, u32)
-    requires few { ranks ≤ 65536 }
+    requires few { ranks ≤ rank_limit }
     requires rank { rank < ranks }
     ensures from { (k : ℕ) (v : Value) → wanted what ranks rank k v ≡ false → result.0 ≤ k }
     ensures to { (k : ℕ) (v : Value) → wanted what ranks rank k v ≡ false → k < result.1 }

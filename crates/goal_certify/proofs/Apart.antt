@@ -3,7 +3,7 @@ use Rattle.std.proofs.Common.{ℕ, ◌+◌, ◌*◌, ◌<◌, ◌≤◌, ◌≡�
 use Rattle.std.proofs.lemmas.Bool.{le-ltb, lt-ltb, lt-leb}
 use Rattle.goal_graph.specs.Schedule.{Plan}
 use Rattle.goal_graph.specs.Action.{Act}
-use Rattle.goal_blocks.specs.declared.collective.Collective.{Collective}
+use Rattle.goal_limits.specs.declared.collective.Collective.{Collective}
 use Rattle.goal_blocks.specs.declared.cert_fault.CertFault.{CertFault}
 use Rattle.goal_blocks.specs.declared.cert_fault.CertFault.TheVariants.{TooLarge, Wildcard, DoubleChannel, Unpaired, Lengths, Race, Stalls, Weight, Wrong, NoMemory}
 use Rattle.goal_blocks.specs.Walk.{no_send, IsWalk}

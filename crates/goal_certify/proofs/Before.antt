@@ -15,7 +15,8 @@ use Rattle.goal_graph.specs.Fault.{IsOp, IsAccepted, is_below}
 use Rattle.goal_graph.proofs.ForCallers.{needs-exist, is_op_below}
 use Rattle.goal_blocks.specs.Race.{EndsBefore}
 use Rattle.goal_certify.specs.Rows.{has}
-use Rattle.goal_certify.specs.Before.{op_id, AreRows}
+use Rattle.goal_graph.specs.Search.{op_id}
+use Rattle.goal_certify.specs.Before.{AreRows}
 use Rattle.goal_certify.specs.Table.{AreEmpty}
 use Rattle.goal_certify.proofs.Depth.{deep_enough}
 use Rattle.goal_blocks.proofs.ForCallers.{Leads, first_need, led}

@@ -9,7 +9,7 @@ use Rattle.goal_graph.specs.declared.plan.Need.{Need}
 use Rattle.goal_graph.specs.Schedule.{Plan, needs, needed}
 use Rattle.goal_graph.specs.Fault.{is_below}
 use Rattle.goal_graph.proofs.ForCallers.{count_falls}
-use Rattle.goal_certify.specs.Before.{op_id}
+use Rattle.goal_graph.specs.Search.{op_id}
 
 -- a number below n of which D holds, or none
 search_below : (D : ℕ → Type 0) (n : ℕ) → ((k : ℕ) → D k ⊎ (D k → ⊥)) → ((k : ℕ) × (k < n) × D k) ⊎ ((k : ℕ) → k < n → D k → ⊥)

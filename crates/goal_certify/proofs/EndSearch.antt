@@ -15,12 +15,13 @@ use Rattle.std.proofs.lemmas.Option.{none-some, same_Some, slice_get_within}
 use Rattle.goal_graph.specs.declared.action.OpId.{OpId}
 use Rattle.goal_graph.specs.Schedule.{Plan, operations}
 use Rattle.goal_graph.specs.Order.{IsBefore}
+use Rattle.goal_graph.specs.Keys.{op_cmp}
 use Rattle.goal_graph.proofs.ForCallers.{listed_places}
 use Rattle.goal_certify.specs.declared.ends.End.{End}
 use Rattle.goal_certify.specs.declared.ends.Entry.{Entry}
 use Rattle.goal_certify.proofs.InOrder.{at_place}
 use Rattle.goal_certify.proofs.EndLemmas.{end_exists}
-use Rattle.goal_certify.specs.Ends.{end_of, end_cmp, op_cmp, entry_cmp, AreEndsOf, IsFirstAt}
+use Rattle.goal_certify.specs.Ends.{end_of, end_cmp, entry_cmp, AreEndsOf, IsFirstAt}
 
 pub end_total : IsTotalOrder end_cmp
 end_total =

@@ -12,6 +12,7 @@ pub mod Choice
 pub mod Chosen
 pub mod Moved
 pub mod Queue
+pub mod Cursors
 pub mod Steps
 mod Rows
 mod Turns

@@ -17,7 +17,8 @@ use Rattle.goal_certify.specs.declared.races.search.Pair.{Pair}
 use Rattle.goal_certify.specs.declared.races.touches.Touch.{Touch}
 use Rattle.goal_certify.specs.Stages.{IsFree}
 use Rattle.goal_certify.specs.Rows.{has}
-use Rattle.goal_certify.specs.Before.{op_id, AreRows}
+use Rattle.goal_graph.specs.Search.{op_id}
+use Rattle.goal_certify.specs.Before.{AreRows}
 use Rattle.goal_certify.specs.Touches.{touches_of, AreTouches}
 use Rattle.goal_certify.proofs.Touches.{are_touches}
 use Rattle.goal_certify.specs.Table.{AreMarked, meets, AreShared}

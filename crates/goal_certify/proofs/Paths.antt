@@ -12,7 +12,8 @@ use Rattle.goal_graph.specs.Fault.{IsOp, IsAccepted, is_below}
 use Rattle.goal_graph.proofs.ForCallers.{needs-exist}
 use Rattle.goal_blocks.specs.Race.{EndsBefore}
 use Rattle.goal_certify.specs.Rows.{has}
-use Rattle.goal_certify.specs.Before.{op_id, AreRows, HasNeedsDone, IsMissing}
+use Rattle.goal_graph.specs.Search.{op_id}
+use Rattle.goal_certify.specs.Before.{AreRows, HasNeedsDone, IsMissing}
 use Rattle.goal_certify.proofs.Before.{some_depth, needed_depth}
 
 -- how many operations are not done

@@ -6,7 +6,7 @@ use Rattle.goal_graph.specs.Schedule.{Plan}
 use Rattle.goal_graph.specs.Fault.{IsAccepted}
 use Rattle.goal_blocks.specs.declared.cert_fault.CertFault.{CertFault}
 use Rattle.goal_blocks.specs.declared.cert_fault.CertFault.TheVariants.{NoMemory}
-use Rattle.goal_blocks.specs.declared.collective.Collective.{Collective}
+use Rattle.goal_limits.specs.declared.collective.Collective.{Collective}
 use Rattle.goal_blocks.specs.Values.{Value, Store}
 use Rattle.goal_blocks.specs.Faults.{IsCertificationFault}
 use Rattle.goal_blocks.specs.Laws.{FaultExcludesCertified, FaultlessIsCertified, OneFirstFault}

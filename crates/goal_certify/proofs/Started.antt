@@ -9,7 +9,7 @@ use Rattle.goal_graph.specs.declared.action.Class.TheVariants.{Data}
 use Rattle.goal_graph.specs.Schedule.{Plan, operations}
 use Rattle.goal_graph.specs.Action.{Act}
 use Rattle.goal_graph.proofs.ForCallers.{happened_none}
-use Rattle.goal_blocks.specs.declared.collective.Collective.{Collective}
+use Rattle.goal_limits.specs.declared.collective.Collective.{Collective}
 use Rattle.goal_blocks.specs.declared.cert_fault.CertFault.TheVariants.{Weight, Wrong, NoMemory}
 use Rattle.goal_blocks.specs.declared.cert_fault.CertFault.{CertFault}
 use Rattle.goal_graph.specs.Interleaving.{IsInterleaving}

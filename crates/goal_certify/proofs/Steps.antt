@@ -9,8 +9,8 @@ use Rattle.goal_blocks.specs.Walk.{no_send, ComesFirst, TakesFirst, IsWalk}
 use Rattle.goal_certify.specs.declared.walk.action.Action.{Action}
 use Rattle.goal_certify.specs.WalkSoFar.{WalkSoFar, act_of, with_action, IsLater}
 use Rattle.goal_certify.specs.WalkQueue.{may_act, IsQueue, IsQueueBut, IsMoved, AreCursors}
-use Rattle.goal_progress.specs.declared.cursor.Cursor.{Cursor}
-use Rattle.goal_progress.proofs.ForCallers.{cursors_kept}
+use Rattle.goal_certify.specs.declared.walk.cursor.Cursor.{Cursor}
+use Rattle.goal_certify.proofs.Cursors.{cursors_kept}
 use Rattle.goal_certify.proofs.Places.{allowed_exists}
 use Rattle.goal_certify.proofs.Queue.{queue_after}
 

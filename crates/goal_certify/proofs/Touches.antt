@@ -17,7 +17,7 @@ use Rattle.goal_blocks.specs.Certification.{NamesLowSlots}
 use Rattle.goal_blocks.specs.declared.slots.Adding.{Adding}
 use Rattle.goal_blocks.specs.Slots.{slots_from, notes_at, moved_by, added_by, slots, adds, written_in, touched_in, written, touched}
 use Rattle.goal_certify.specs.declared.races.touches.Touch.{Touch}
-use Rattle.goal_certify.specs.Before.{op_id}
+use Rattle.goal_graph.specs.Search.{op_id}
 use Rattle.goal_certify.specs.Touches.{moved, touches_in, noted, touches_of, AreTouches}
 
 in_flat_map : {A B : Type 0} (f : A → List B) (xs : List A) (y : B) → Contains (flat_map f xs) y → (x : A) × Contains xs x × Contains (f x) y

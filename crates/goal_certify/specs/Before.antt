@@ -3,12 +3,9 @@ use Rattle.std.specs.Prelude.{ℕ, ◌≡◌, ◌<◌, Bool, true, false, List, 
 use Rattle.goal_graph.specs.declared.action.OpId.{OpId}
 use Rattle.goal_graph.specs.declared.plan.Need.{Need}
 use Rattle.goal_graph.specs.Schedule.{Plan, ops_at, needs}
+use Rattle.goal_graph.specs.Search.{op_id}
 use Rattle.goal_blocks.specs.Race.{EndsBefore}
 use Rattle.goal_certify.specs.Rows.{has}
-
--- the operation of this number, at this rank
-abbrev pub op_id : ℕ → ℕ → OpId
-op_id rank op = record { rank = rank; op = op }
 
 -- Rows are of operations of the rank. A number in a row is of an operation that ends before the row's operation starts.
 -- A row that is done has all of these.

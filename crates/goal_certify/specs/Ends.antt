@@ -7,6 +7,7 @@ use Rattle.goal_graph.specs.declared.plan.Kind.{Kind}
 use Rattle.goal_graph.specs.declared.plan.Kind.TheVariants.{Send, Recv}
 use Rattle.goal_graph.specs.Schedule.{Plan, kind_at}
 use Rattle.goal_graph.specs.Order.{IsBefore}
+use Rattle.goal_graph.specs.Keys.{op_cmp}
 use Rattle.goal_certify.specs.declared.ends.End.{End}
 use Rattle.goal_certify.specs.declared.ends.Entry.{Entry}
 
@@ -24,13 +25,10 @@ end_of plans x = end_in x (kind_at plans x)
 abbrev pub other_end : End → End
 other_end e = record e { is_send = not e.is_send }
 
--- the orders of ends, and of the operations at them
+-- the order of ends, and that of entries: by the end, then by the operation
 abbrev pub end_cmp : End → End → Ordering
 end_cmp d e =
     ordering_then (nat_cmp d.source e.source) (ordering_then (nat_cmp d.target e.target) (ordering_then (nat_cmp d.tag e.tag) (bool_cmp d.is_send e.is_send)))
-
-abbrev pub op_cmp : OpId → OpId → Ordering
-op_cmp x y = ordering_then (nat_cmp x.rank y.rank) (nat_cmp x.op y.op)
 
 abbrev pub entry_cmp : Entry → Entry → Ordering
 entry_cmp a b = ordering_then (end_cmp a.end b.end) (op_cmp a.op b.op)

@@ -4,7 +4,7 @@ use Rattle.goal_graph.specs.Schedule.{Plan}
 use Rattle.goal_graph.specs.Action.{Act}
 use Rattle.goal_blocks.specs.declared.cert_fault.CertFault.{CertFault}
 use Rattle.goal_blocks.specs.declared.cert_fault.CertFault.TheVariants.{NoMemory}
-use Rattle.goal_blocks.specs.declared.collective.Collective.{Collective}
+use Rattle.goal_limits.specs.declared.collective.Collective.{Collective}
 use Rattle.goal_blocks.specs.declared.segment.Segment.{Segment}
 use Rattle.goal_blocks.specs.Walk.{no_send, IsWalk}
 use Rattle.goal_blocks.specs.Values.{Value, Store, value}

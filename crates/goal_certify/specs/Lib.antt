@@ -6,6 +6,7 @@ pub mod AtOnce
 pub mod Stages
 pub mod Ends
 pub mod WalkSoFar
+pub mod Cursors
 pub mod WalkQueue
 pub mod Turns
 pub mod Rows

@@ -1,7 +1,7 @@
 -- The faults that certification in segments returns.
 use Rattle.std.specs.Prelude.{ℕ, ◌<◌, List, length}
 use Rattle.goal_graph.specs.Schedule.{Plan}
-use Rattle.goal_blocks.specs.declared.collective.Collective.{Collective}
+use Rattle.goal_limits.specs.declared.collective.Collective.{Collective}
 use Rattle.goal_blocks.specs.Faults.{IsCertificationFault}
 use Rattle.goal_blocks.specs.Segments.{initial_in, wanted_in, IsCertifiedIn}
 use Rattle.goal_certify.specs.declared.segments.SegmentFault.{SegmentFault}

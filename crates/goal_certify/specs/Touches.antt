@@ -9,7 +9,7 @@ use Rattle.goal_graph.specs.declared.plan.Note.TheVariants.{Moves, Adds}
 use Rattle.goal_graph.specs.Schedule.{Plan, ops_at}
 use Rattle.goal_blocks.specs.Slots.{slots_from, touched, written}
 use Rattle.goal_certify.specs.declared.races.touches.Touch.{Touch}
-use Rattle.goal_certify.specs.Before.{op_id}
+use Rattle.goal_graph.specs.Search.{op_id}
 
 -- the touches of an operation that reads or writes these slots
 unfoldable pub moved : ℕ → Bool → List ℕ → List Touch

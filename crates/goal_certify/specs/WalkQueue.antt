@@ -15,8 +15,8 @@ use Rattle.goal_graph.specs.Matching.{pairs, partner}
 use Rattle.goal_graph.specs.Allowed.{allowed, first_class, last_class}
 use Rattle.goal_blocks.specs.Walk.{no_send, TakesFirst}
 use Rattle.sim_heaps.specs.Map.{key_at}
-use Rattle.goal_progress.specs.declared.cursor.Cursor.{Cursor}
-use Rattle.goal_progress.specs.Cursors as progress
+use Rattle.goal_certify.specs.declared.walk.cursor.Cursor.{Cursor}
+use Rattle.goal_certify.specs.Cursors as progress
 
 -- the class of the action that a dependency waits for, at an operation of this kind
 abbrev pub class_at : When → Option Kind → Class

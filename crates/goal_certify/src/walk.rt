@@ -11,15 +11,17 @@ ghost use Rattle.goal_certify.specs.WalkSoFar.{act_of, with_action, IsLater};
 
 use goal_graph::{OpId, Sched, When};
 use goal_limits::NoMemory;
-use goal_progress::{Cursor, Progress, at_first};
 use std::alloc::Global;
 use std::marker::Model;
 
 mod action;
+mod cursor;
 mod entry;
 mod follow;
 mod outcome;
 mod parcel;
+mod progress;
+mod ready;
 mod stalls;
 mod state;
 mod stray;
@@ -27,8 +29,10 @@ mod turns;
 mod values;
 
 use action::Action;
+use cursor::{Cursor, at_first};
 use follow::{fill, follow, next};
 pub use outcome::{check_walk, find_stray};
+use progress::Progress;
 use state::State;
 use turns::Turns;
 

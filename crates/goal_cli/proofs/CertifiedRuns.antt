@@ -4,7 +4,7 @@ use Rattle.goal_limits.specs.declared.limits.TheConstants.{MAX_BYTES}
 use Rattle.goal_graph.specs.declared.action.Timed.{Timed}
 use Rattle.goal_graph.specs.Schedule.{Plan}
 use Rattle.goal_graph.specs.Action.{plain}
-use Rattle.goal_blocks.specs.declared.collective.Collective.{Collective}
+use Rattle.goal_limits.specs.declared.collective.Collective.{Collective}
 use Rattle.goal_blocks.specs.Collectives.{initial, wanted}
 use Rattle.goal_blocks.specs.Right.{IsRight, IsRightFor, IsCertifiedByProof}
 use Rattle.goal_blocks.specs.Certified.{IsCertifiedFor}

@@ -6,7 +6,7 @@ use Rattle.sim_params.specs.Costs.{Numbers, CostModel, log_gops}
 use Rattle.sim_classes.specs.Machine.{Known, numbers_of, costs_of}
 use Rattle.sim_classes.specs.Form as form
 use Rattle.sim_classes.specs.Laws.{SaidIsWhole, AlikeIsLogGops}
-use Rattle.goal_blocks.specs.declared.collective.Collective.{Collective}
+use Rattle.goal_limits.specs.declared.collective.Collective.{Collective}
 use Rattle.goal_blocks.specs.Laws.{FaultExcludesCertified, OneFirstFault}
 use Rattle.goal_words.specs.declared.sentence.View.{View}
 use Rattle.goal_words.specs.declared.sentence.View.TheVariants as view

@@ -11,8 +11,9 @@ use Rattle.sim_params.specs.Budget.{budget}
 use Rattle.sim_classes.specs.Machine.{Known, costs_of}
 use Rattle.sim_classes.specs.Form as form
 use Rattle.sim_classes.specs.declared.fault.MachineFault.{MachineFault}
-use Rattle.goal_blocks.specs.declared.collective.Collective.{Collective}
-use Rattle.goal_blocks.specs.Generated.{most_ranks, IsPossible}
+use Rattle.goal_limits.specs.declared.collective.Collective.{Collective}
+use Rattle.goal_limits.specs.MostRanks.{most_ranks}
+use Rattle.goal_blocks.specs.Generated.{IsPossible}
 use Rattle.goal_blocks.specs.declared.gen_fault.GenFault.{GenFault}
 use Rattle.goal_blocks.specs.declared.gen_fault.GenFault.TheVariants as gen
 use Rattle.goal_blocks.specs.GenFaults.{AreRanksWithin}

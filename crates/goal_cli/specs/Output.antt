@@ -12,7 +12,7 @@ use Rattle.sim_classes.specs.declared.fault.MachineFault.TheVariants as sayings
 use Rattle.goal_parser.specs.Reads as text
 use Rattle.goal_print.specs.Canonical.{canonical}
 use Rattle.goal_binary.specs.File.{file}
-use Rattle.goal_blocks.specs.declared.collective.Collective.{Collective}
+use Rattle.goal_limits.specs.declared.collective.Collective.{Collective}
 use Rattle.goal_blocks.specs.Generated.{made, IsPossible}
 use Rattle.goal_blocks.specs.declared.gen_fault.GenFault.{GenFault}
 use Rattle.goal_blocks.specs.declared.gen_fault.GenFault.TheVariants as gen

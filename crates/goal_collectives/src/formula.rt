@@ -1,7 +1,7 @@
 //! The formulas of the five collectives, as numbers of operations and steps.
 ghost use Rattle.std.specs.Prelude.{◌≡◌, ◌<◌, ◌≤◌, true};
-ghost use Rattle.goal_blocks.specs.Generated.{most_ranks, HasRoot};
-ghost use Rattle.goal_blocks.specs.Makers.{HasRoot-prop, is_made_by_generate};
+ghost use Rattle.goal_limits.specs.MostRanks.{most_ranks, HasRoot};
+ghost use Rattle.goal_limits.specs.Makers.{HasRoot-prop, is_made_by_generate};
 
 use crate::steps::{
     allgather_step, allreduce_step, alltoall_step, barrier_step, bcast_count, bcast_step,

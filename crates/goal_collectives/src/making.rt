@@ -1,7 +1,7 @@
 //! The schedule of a collective, or why there is none.
 ghost use Rattle.std.specs.Prelude.{◌≡◌, ◌≢◌, ◌≤◌, true, OnOk, IfOk, IfErr, IsErrOf, IsOkUnless};
 ghost use Rattle.goal_graph.specs.Fault.{IsAccepted};
-ghost use Rattle.goal_blocks.specs.Makers.{is_made_by_generate};
+ghost use Rattle.goal_limits.specs.Makers.{is_made_by_generate};
 ghost use Rattle.goal_blocks.specs.Certified.{IsCertifiedFor};
 ghost use Rattle.goal_blocks.specs.Right.{IsCertifiedByProof, IsRightFor};
 ghost use Rattle.goal_blocks.specs.Generated.{made, IsPossible};

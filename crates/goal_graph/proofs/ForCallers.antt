@@ -25,3 +25,5 @@ pub use Rattle.goal_graph.proofs.NoLimits.{no_limit_rule, not_over}
 pub use Rattle.goal_graph.proofs.Newly.{none_left, partner_exists, still_left}
 pub use Rattle.goal_graph.proofs.Entries.{at_entry, entry_at, entry_of, entry_written, fresh_table, off_entry, one_place, other_place, same_tables, within_table, written_entry, written_table}
 pub use Rattle.goal_graph.proofs.Choices.{alike_choices, alike_numbers, eqb-swapped, same_choice_itself, same_choice_true}
+pub use Rattle.goal_graph.proofs.Written.{length-put, put_as_set, put_at, put_in_table}
+pub use Rattle.goal_graph.proofs.Needs.{few_needs}

@@ -36,5 +36,7 @@ pub mod InTurn
 pub mod NoLimits
 pub mod Newly
 pub mod Entries
+pub mod Written
+pub mod Needs
 pub mod Choices
 pub mod ForCallers

@@ -1,5 +1,5 @@
 -- Actions without their times, and lists of them. A list of actions is newest first: `a ∷ h` is h, and then a.
-use Rattle.std.specs.Prelude.{ℕ, ◌==◌, ◌&&◌, ◌||◌, Bool, false, List, [], ◌∷◌, Option, Some, None, if◌then◌else◌}
+use Rattle.std.specs.Prelude.{ℕ, ◌==◌, ◌&&◌, ◌||◌, Bool, true, false, List, [], ◌∷◌, Option, Some, None, if◌then◌else◌}
 use Rattle.std.specs.Option.{option_or}
 use Rattle.goal_graph.specs.declared.action.OpId.{OpId}
 use Rattle.goal_graph.specs.declared.action.Timed.{Timed}
@@ -18,6 +18,14 @@ place Serve = 1
 place Data = 2
 place Post = 3
 place Begin = 4
+
+-- actions of this class hold the cpu of their operation
+abbrev pub holds_cpu : Class → Bool
+holds_cpu Arrive = false
+holds_cpu Serve = true
+holds_cpu Data = true
+holds_cpu Post = false
+holds_cpu Begin = true
 
 abbrev pub same_op : OpId → OpId → Bool
 same_op x y = (x.rank == y.rank) && (x.op == y.op)

@@ -4,6 +4,7 @@
 mod action;
 mod check;
 mod cycle;
+mod entry;
 mod fault;
 mod laws;
 mod listing;
@@ -13,6 +14,7 @@ mod sched;
 mod tables;
 
 pub use action::{Class, OpId, Stuck, Timed, Why};
+pub use entry::{entry_of, entry_of_mut};
 pub use fault::PlanFault;
 pub use laws::{
     laws_of_apart_schedules, laws_of_complete_interleavings, laws_of_interleavings, laws_of_orders,

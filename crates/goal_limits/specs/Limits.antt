@@ -1,6 +1,6 @@
--- The limits of a schedule, its parts, its input and its parameters. Each constant of the code is the number
--- here: `laws_of_limits` ensures it.
-use Rattle.std.specs.Prelude.{ℕ}
+-- The limits of a schedule, its parts, its input and its parameters, and of what is certified. Each constant of the
+-- code is the number here: `laws_of_limits` ensures it.
+use Rattle.std.specs.Prelude.{ℕ, ◌^◌}
 
 -- the most ranks of a schedule
 abbrev pub rank_limit : ℕ
@@ -42,3 +42,24 @@ param_limit = 1099511627775
 -- the largest gap and overhead for each byte, in nanoseconds: 2^20-1
 abbrev pub per_byte_limit : ℕ
 per_byte_limit = 1048575
+
+-- the most operations of a rank in a certified schedule: 2^11
+abbrev pub certified_op_limit : ℕ
+certified_op_limit = 2048
+
+-- the highest slot that a note of a certified schedule names: 2^16-1
+abbrev pub slot_limit : ℕ
+slot_limit = 65535
+
+-- the most slots that all notes of a certified schedule move
+abbrev pub moved_limit : ℕ
+moved_limit = 2 ^ 24
+
+-- the most contributions that are held at once during certification
+abbrev pub weight_limit : ℕ
+weight_limit = 2 ^ 24
+
+-- The most ranks of a generated barrier or allreduce that is certified: with more, the contributions at the end of its
+-- walk exceed `weight_limit`. A scan exists for as many ranks (`most_ranks`), which is another number.
+abbrev pub certified_rank_limit : ℕ
+certified_rank_limit = 2048

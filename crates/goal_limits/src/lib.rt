@@ -1,10 +1,13 @@
-//! The limits of a schedule, its parts, its input and its parameters, and the fault of memory that ran out.
+//! The limits of a schedule, its parts, its input and its parameters; the collectives, and for how many ranks each has
+//! a schedule; and the fault of memory that ran out.
 #![tactic(auto)]
 
+mod collective;
 mod laws;
 mod limits;
 mod memory;
 
+pub use collective::Collective;
 pub use laws::laws_of_limits;
 pub use limits::{
     MAX_BUDGET, MAX_BYTES, MAX_DEPS, MAX_INPUT, MAX_NANOS, MAX_NOTES, MAX_OPS, MAX_PARAM,

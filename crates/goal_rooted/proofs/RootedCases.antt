@@ -2,9 +2,9 @@
 use Rattle.std.proofs.Common.{◌≡◌, ◌≢◌, ℕ, zero, suc, ◌+◌, ◌-◌, ◌*◌, ◌/◌, ◌%◌, ◌^◌, ◌<◌, ◌≤◌, eqb, leb, true, false, [], ◌∷◌, refl, ap, arith, min}
 use Rattle.std.proofs.Math.Nat.{le_trans}
 use Rattle.std.proofs.lemmas.Bool.Decides.{nat_tests}
-use Rattle.goal_blocks.specs.declared.collective.Collective.{Collective}
-use Rattle.goal_blocks.specs.declared.collective.Collective.TheVariants.{Bcast, Barrier, Allgather, Allreduce, Alltoall, Reduce, Gather, Scatter, ReduceScatter, Scan}
-use Rattle.goal_blocks.specs.Generated.{most_ranks}
+use Rattle.goal_limits.specs.declared.collective.Collective.{Collective}
+use Rattle.goal_limits.specs.declared.collective.Collective.TheVariants.{Bcast, Barrier, Allgather, Allreduce, Alltoall, Reduce, Gather, Scatter, ReduceScatter, Scan}
+use Rattle.goal_limits.specs.MostRanks.{most_ranks}
 use Rattle.goal_blocks.specs.Entries.{slot, sending, receiving, summing}
 use Rattle.goal_blocks.specs.Positions.{ahead, back, digits, low, rounds, upward, span, share}
 use Rattle.goal_blocks.specs.Made.{before_round}

@@ -1,9 +1,10 @@
 -- When a reduce, gather, scatter, reduce_scatter or scan has no schedule, and why.
 use Rattle.std.specs.Prelude.{ℕ, ◌≡◌, ◌<◌, ◌⊎◌}
-use Rattle.goal_blocks.specs.declared.collective.Collective.{Collective}
+use Rattle.goal_limits.specs.declared.collective.Collective.{Collective}
 use Rattle.goal_blocks.specs.declared.gen_fault.GenFault.{GenFault}
 use Rattle.goal_blocks.specs.declared.gen_fault.GenFault.TheVariants as gen
-use Rattle.goal_blocks.specs.Generated.{most_ranks, HasRoot, IsPossible}
+use Rattle.goal_limits.specs.MostRanks.{most_ranks, HasRoot}
+use Rattle.goal_blocks.specs.Generated.{IsPossible}
 use Rattle.goal_blocks.specs.GenFaults.{AreRanksWithin}
 use Rattle.goal_rooted.specs.declared.fault.RootedFault.{RootedFault}
 use Rattle.goal_rooted.specs.declared.fault.RootedFault.TheVariants.{Ranks, Root, NoMemory}

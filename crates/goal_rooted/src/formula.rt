@@ -1,7 +1,7 @@
 //! The formulas of the five collectives, as numbers of operations and steps.
 ghost use Rattle.std.specs.Prelude.{◌≡◌, ◌<◌, ◌≤◌, false};
-ghost use Rattle.goal_blocks.specs.Generated.{most_ranks, HasRoot};
-ghost use Rattle.goal_blocks.specs.Makers.{HasRoot-prop, is_made_by_generate};
+ghost use Rattle.goal_limits.specs.MostRanks.{most_ranks, HasRoot};
+ghost use Rattle.goal_limits.specs.Makers.{HasRoot-prop, is_made_by_generate};
 
 use crate::steps::{
     gather_step, reduce_scatter_step, reduce_step, scan_count, scan_step, scatter_step,

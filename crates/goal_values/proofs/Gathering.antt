@@ -7,7 +7,7 @@ use Rattle.std.specs.List.{sum_by}
 use Rattle.std.proofs.lemmas.Option.{slice_get-get_or}
 use Rattle.std.proofs.lemmas.List.Sums.{sum_by-append, sum_by-cons}
 use Rattle.std.proofs.lemmas.List.Elements.{All-append, All-cons, All-nil}
-use Rattle.goal_blocks.specs.declared.collective.Contribution.{Contribution}
+use Rattle.goal_blocks.specs.declared.contribution.Contribution.{Contribution}
 use Rattle.goal_blocks.specs.Values.{Value, is_lower, merge, insert_one}
 use Rattle.goal_blocks.proofs.ForCallers.{length_merge}
 use Rattle.goal_values.specs.declared.sums.Term.{Term}

@@ -2,7 +2,7 @@
 use Rattle.std.proofs.Common.{ℕ, ap₂, get_or, cond, Less, Equal, Greater, ◌≡◌, ◌+◌, ◌<◌, ◌≤◌, ◌==◌, ◌&&◌, ◌||◌, nat_lt, Bool, true, false, [], ◌∷◌, length, if◌then◌else◌, refl, sym, ap, ◌∙◌, subst, arith, suc}
 use Rattle.std.specs.List.{sum_by}
 use Rattle.std.proofs.lemmas.List.Sums.{sum_by-cons}
-use Rattle.goal_blocks.specs.declared.collective.Contribution.{Contribution}
+use Rattle.goal_blocks.specs.declared.contribution.Contribution.{Contribution}
 use Rattle.goal_blocks.specs.Values.{Value, is_lower}
 use Rattle.goal_blocks.specs.Stored.{ComesFirst, IsSorted}
 use Rattle.goal_blocks.proofs.ForCallers.{lower_still, not_lower_still, alike, all_from}

@@ -1,7 +1,7 @@
 -- What is kept of the values of slots: for each rank those that were set since the start, with their values. Every
 -- other slot has its first value: that of the collective, in its segment.
 use Rattle.std.specs.Prelude.{ℕ, List, unwrap_or}
-use Rattle.goal_blocks.specs.declared.collective.Collective.{Collective}
+use Rattle.goal_limits.specs.declared.collective.Collective.{Collective}
 use Rattle.goal_blocks.specs.declared.segment.Segment.{Segment}
 use Rattle.goal_blocks.specs.Values.{Value, Store}
 use Rattle.goal_blocks.specs.Segments.{initial_in}

@@ -1,7 +1,7 @@
 -- What sums consist of, and the invariant of a list of sums.
 use Rattle.std.specs.Prelude.{ℕ, ◌≡◌, ◌<◌, List, [], ◌∷◌, ◌++◌, length, Some, slice_get, slice_index_or}
 use Rattle.std.specs.List.{sum_by}
-use Rattle.goal_blocks.specs.declared.collective.Contribution.{Contribution}
+use Rattle.goal_blocks.specs.declared.contribution.Contribution.{Contribution}
 use Rattle.goal_blocks.specs.Values.{Value, merge}
 use Rattle.goal_blocks.specs.Stored.{IsSorted}
 use Rattle.goal_values.specs.Sums.{meaning, IsBelow}

@@ -1,6 +1,6 @@
 -- What is kept of the values of slots, if these are given as sums.
 use Rattle.std.specs.Prelude.{ℕ, ◌≡◌, ◌+◌, ◌*◌, ◌^◌, ◌≤◌, nat_lt, List, map, length, All, Option, Some, None, if◌then◌else◌}
-use Rattle.goal_blocks.specs.declared.collective.Collective.{Collective}
+use Rattle.goal_limits.specs.declared.collective.Collective.{Collective}
 use Rattle.goal_blocks.specs.declared.segment.Segment.{Segment}
 use Rattle.goal_blocks.specs.Values.{Value}
 use Rattle.goal_blocks.specs.Weight.{stored}

@@ -38,7 +38,7 @@ pub struct Sums {
 
 impl Model for Sums {
     ghost use Rattle.std.specs.Prelude.{List, []};
-    ghost use Rattle.goal_blocks.specs.declared.collective.Contribution.{Contribution};
+    ghost use Rattle.goal_blocks.specs.declared.contribution.Contribution.{Contribution};
     ghost use Rattle.goal_values.specs.Parts.{told, AreSums};
 
     ghost Value = { List (List Contribution) };

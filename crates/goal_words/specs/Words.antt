@@ -4,8 +4,8 @@ use Rattle.std.specs.Option.{option_map, option_and_then}
 use Rattle.std.specs.declared.alloc.Global.{Global}
 use Rattle.std.specs.declared.string.String.{String}
 use Rattle.goal_limits.specs.Limits.{rank_limit, size_limit, round_limit}
-use Rattle.goal_blocks.specs.declared.collective.Collective.{Collective}
-use Rattle.goal_blocks.specs.declared.collective.Collective.TheVariants.{Bcast, Barrier, Allgather, Allreduce, Alltoall, Reduce, Gather, Scatter, ReduceScatter, Scan}
+use Rattle.goal_limits.specs.declared.collective.Collective.{Collective}
+use Rattle.goal_limits.specs.declared.collective.Collective.TheVariants.{Bcast, Barrier, Allgather, Allreduce, Alltoall, Reduce, Gather, Scatter, ReduceScatter, Scan}
 use Rattle.sim_params.specs.Costs.{Numbers}
 use Rattle.sim_params.specs.Numbers.{numbers}
 use Rattle.goal_words.specs.Limits.{root_limit}

@@ -3,7 +3,7 @@ ghost use Rattle.std.specs.Prelude.{◌≡◌, None, Some};
 ghost use Rattle.goal_words.specs.Words.{number_from, collective_of, root_of, rootless};
 
 use crate::options::value_of;
-use goal_blocks::Collective;
+use goal_limits::Collective;
 
 /// The greatest root that a command line may name.
 pub const MAX_ROOT: u64 = 65_535;

@@ -5,7 +5,7 @@ ghost use Rattle.goal_words.specs.Words.{ByNumbers, Unpriced, asks};
 ghost use Rattle.goal_words.specs.Sentences.{command, said, IsPriced};
 
 use crate::line::{FileName, Line};
-use goal_blocks::Collective;
+use goal_limits::Collective;
 use sim_params::Params;
 
 /// Where a schedule comes from.

@@ -11,10 +11,10 @@ use Rattle.goal_graph.specs.declared.plan.Kind.{Kind}
 use Rattle.goal_graph.specs.declared.plan.Kind.TheVariants.{Calc, Send, Recv}
 use Rattle.goal_graph.specs.declared.plan.Op.{Op}
 use Rattle.goal_graph.specs.Schedule.{Plan, op_at, kind_at}
-use Rattle.goal_graph.specs.Action.{plain}
+use Rattle.goal_graph.specs.Action.{plain, holds_cpu}
 use Rattle.goal_graph.proofs.ForCallers.{allowed_serve}
 use Rattle.sim_params.specs.Costs.{CostModel, is_eager}
-use Rattle.sim_params.specs.Times.{same_place, holds_cpu, holds_tx, holds_rx, cpu_hold, tx_hold, rx_hold, cpu, tx, rx, Possible}
+use Rattle.sim_params.specs.Times.{same_place, holds_tx, holds_rx, cpu_hold, tx_hold, rx_hold, cpu, tx, rx, Possible}
 use Rattle.goal_graph.specs.Allowed.{allowed}
 use Rattle.sim_stations.specs.Stations.{waits_for_room}
 use Rattle.sim_state.specs.Free.{free, free_of, side, side_of}

@@ -14,12 +14,12 @@ use Rattle.goal_graph.specs.declared.plan.Need.{Need}
 use Rattle.goal_graph.specs.declared.plan.When.{When}
 use Rattle.goal_graph.specs.declared.plan.When.TheVariants.{AfterEnd, AfterStart}
 use Rattle.goal_graph.specs.Schedule.{Plan, op_at, kind_at, needs, needed}
-use Rattle.goal_graph.specs.Action.{Act, is_act, happened, plain, plain_act}
+use Rattle.goal_graph.specs.Action.{Act, is_act, happened, plain, plain_act, holds_cpu}
 use Rattle.goal_graph.specs.Matching.{pairs, is_paired}
 use Rattle.goal_graph.specs.Allowed.{last_class, has_started, has_ended, is_met, is_ready, may}
 use Rattle.goal_graph.proofs.ForCallers.{happened_none, happened_cases, is_act_class, is_act_op, allowed_may}
 use Rattle.sim_params.specs.Costs.{CostModel, flight, flight_one, latency, is_eager}
-use Rattle.sim_params.specs.Times.{since, greatest, at_partner, mate, holds_cpu, holds_tx, holds_rx, same_place, cpu_hold, tx_hold, rx_hold, cpu, tx, rx, end, met_at, ready, paired_at, there_at, time_of, time, Possible}
+use Rattle.sim_params.specs.Times.{since, greatest, at_partner, mate, holds_tx, holds_rx, same_place, cpu_hold, tx_hold, rx_hold, cpu, tx, rx, end, met_at, ready, paired_at, there_at, time_of, time, Possible}
 use Rattle.sim_params.specs.Laws.{hold, reach, IsWithin}
 use Rattle.sim_params.proofs.Grow.{since_kept, since_new, since_absent}
 use Rattle.sim_params.proofs.Fixed.{end_kept, end_now}

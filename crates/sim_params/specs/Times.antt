@@ -14,7 +14,7 @@ use Rattle.goal_graph.specs.declared.plan.When.{When}
 use Rattle.goal_graph.specs.declared.plan.When.TheVariants.{AfterEnd, AfterStart}
 use Rattle.goal_graph.specs.Schedule.{Plan, op_at, kind_at, needs, needed}
 pub use Rattle.goal_graph.specs.Schedule.{same_place}
-use Rattle.goal_graph.specs.Action.{Act, happened, plain}
+use Rattle.goal_graph.specs.Action.{Act, happened, plain, holds_cpu}
 use Rattle.goal_graph.specs.Matching.{pairs, partner, is_paired}
 use Rattle.goal_graph.specs.Allowed.{last_class, has_started, has_ended, allowed}
 use Rattle.sim_params.specs.Costs.{CostModel, over, over_one, gap, gap_one, flight, flight_one, latency, is_eager}
@@ -34,14 +34,7 @@ abbrev pub at_partner : (OpId → ℕ) → Option OpId → ℕ
 at_partner f None = 0
 at_partner f (Some m) = f m
 
--- the actions that hold a cpu; the sending side of a NIC; its receiving side
-abbrev pub holds_cpu : Class → Bool
-holds_cpu Arrive = false
-holds_cpu Serve = true
-holds_cpu Data = true
-holds_cpu Post = false
-holds_cpu Begin = true
-
+-- the actions that hold the sending side of a NIC; its receiving side
 abbrev pub holds_tx : Class → Option Kind → Bool
 holds_tx Begin (Some (Send bytes to tag)) = true
 holds_tx Data (Some (Send bytes to tag)) = true

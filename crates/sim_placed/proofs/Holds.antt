@@ -9,12 +9,12 @@ use Rattle.goal_graph.specs.declared.plan.Op.{Op}
 use Rattle.goal_graph.specs.declared.plan.Kind.{Kind}
 use Rattle.goal_graph.specs.declared.plan.Kind.TheVariants.{Calc, Send, Recv}
 use Rattle.goal_graph.specs.Schedule.{Plan, op_at, kind_at, same_place, IsReceive}
-use Rattle.goal_graph.specs.Action.{plain}
+use Rattle.goal_graph.specs.Action.{plain, holds_cpu}
 use Rattle.goal_graph.specs.Allowed.{is_served, allowed}
 use Rattle.goal_graph.specs.Laws.{IsApart}
 use Rattle.goal_graph.proofs.ForCallers.{allowed_serve, served_message}
 use Rattle.sim_params.specs.Costs.{CostModel, over, gap, is_eager}
-use Rattle.sim_params.specs.Times.{at_partner, holds_cpu, holds_tx, holds_rx, mate, cpu_hold, tx_hold, rx_hold, cpu, tx, rx, Possible}
+use Rattle.sim_params.specs.Times.{at_partner, holds_tx, holds_rx, mate, cpu_hold, tx_hold, rx_hold, cpu, tx, rx, Possible}
 use Rattle.sim_placed.proofs.Tails.{whole, newer, on_rank, on_here, on_other, Below, tail_below, below_below}
 use Rattle.sim_placed.proofs.Local.{hap}
 use Rattle.sim_placed.proofs.Mates.{Each, each_interleaving, met_below, mates, met_of_receive}

@@ -12,14 +12,14 @@ use Rattle.goal_graph.specs.declared.plan.Need.{Need}
 use Rattle.goal_graph.specs.declared.plan.When.{When}
 use Rattle.goal_graph.specs.declared.plan.When.TheVariants.{AfterEnd, AfterStart}
 use Rattle.goal_graph.specs.Schedule.{Plan, op_at, kind_at, needed, same_place}
-use Rattle.goal_graph.specs.Action.{Act, happened, plain}
+use Rattle.goal_graph.specs.Action.{Act, happened, plain, holds_cpu}
 use Rattle.goal_graph.specs.Matching.{pairs, partner, is_paired}
 use Rattle.goal_graph.specs.Allowed.{last_class, has_started, has_ended, allowed}
 use Rattle.goal_graph.specs.Order.{IsLess, key}
 use Rattle.goal_blocks.specs.Placed.{IsPermutation, IsPlaced, placed_op, placed_act, placed_kind, placed_of}
 use Rattle.goal_blocks.proofs.ForCallers.{happened_placed, kind_placed, mate_placed, paired_placed, started_placed, ended_placed, last_of_placed, allowed_placed, there_and_back, same_number}
 use Rattle.sim_params.specs.Costs.{CostModel, cost_of, request_of, latency_of, eager_of, over, gap, flight, latency, is_eager}
-use Rattle.sim_params.specs.Times.{since, greatest, at_partner, holds_cpu, holds_tx, holds_rx, mate, cpu_hold, tx_hold, rx_hold, cpu, tx, rx, start, end, met_at, ready, paired_at, there_at, time_of, time, Possible}
+use Rattle.sim_params.specs.Times.{since, greatest, at_partner, holds_tx, holds_rx, mate, cpu_hold, tx_hold, rx_hold, cpu, tx, rx, start, end, met_at, ready, paired_at, there_at, time_of, time, Possible}
 use Rattle.sim_params.specs.Run.{IsNext, IsRun, IsCompleteRun}
 use Rattle.sim_placed.specs.PlacedRuns.{placed_timed, AreAlike, HasSameTimes, IsNextBy, IsRunBy, IsCompleteRunBy}
 

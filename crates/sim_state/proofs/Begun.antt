@@ -5,12 +5,12 @@ use Rattle.goal_graph.specs.declared.action.Class.{Class}
 use Rattle.goal_graph.specs.declared.action.Class.TheVariants.{Begin}
 use Rattle.goal_graph.specs.declared.plan.Kind.TheVariants.{Calc}
 use Rattle.goal_graph.specs.Schedule.{Plan, kind_at, operations, IsSend}
-use Rattle.goal_graph.specs.Action.{plain}
+use Rattle.goal_graph.specs.Action.{plain, holds_cpu}
 use Rattle.goal_graph.specs.Allowed.{allowed}
 use Rattle.goal_graph.specs.Laws.{IsCalc}
 use Rattle.goal_graph.proofs.ForCallers.{allowed_begin, not_receive_calc, not_send_receive}
 use Rattle.sim_params.specs.Costs.{CostModel, over, over_one, gap, gap_one, flight, flight_one, is_eager}
-use Rattle.sim_params.specs.Times.{cpu_hold, holds_cpu, holds_rx, Possible}
+use Rattle.sim_params.specs.Times.{cpu_hold, holds_rx, Possible}
 use Rattle.sim_params.specs.Run.{IsRun}
 use Rattle.sim_params.specs.Budget.{budget}
 use Rattle.sim_eager.specs.Messages.{IsMessage}

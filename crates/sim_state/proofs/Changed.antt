@@ -5,11 +5,11 @@ use Rattle.goal_graph.specs.declared.action.Timed.{Timed}
 use Rattle.goal_graph.specs.declared.action.Class.{Class}
 use Rattle.goal_graph.specs.declared.action.Class.TheVariants.{Arrive, Serve, Data, Post}
 use Rattle.goal_graph.specs.Schedule.{Plan, kind_at, operations, IsSend, IsReceive}
-use Rattle.goal_graph.specs.Action.{happened, plain}
+use Rattle.goal_graph.specs.Action.{happened, plain, holds_cpu}
 use Rattle.goal_graph.specs.Fault.{IsOp}
 use Rattle.goal_graph.proofs.ForCallers.{partner_is_send, send_is_op}
 use Rattle.sim_params.specs.Costs.{CostModel, over, gap, flight}
-use Rattle.sim_params.specs.Times.{cpu_hold, holds_cpu, holds_tx, holds_rx, mate, Possible}
+use Rattle.sim_params.specs.Times.{cpu_hold, holds_tx, holds_rx, mate, Possible}
 use Rattle.sim_params.specs.Run.{IsRun}
 use Rattle.sim_params.specs.Budget.{budget}
 use Rattle.sim_match.specs.PostsAndArrivals.{PostsAndArrivals, is_post_or_arrival, send_for, receive_for, with_post, with_arrival}

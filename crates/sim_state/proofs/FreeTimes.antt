@@ -4,8 +4,9 @@ use Rattle.goal_graph.specs.declared.action.OpId.{OpId}
 use Rattle.goal_graph.specs.declared.action.Timed.{Timed}
 use Rattle.goal_graph.specs.declared.plan.Op.{Op}
 use Rattle.goal_graph.specs.Schedule.{Plan, op_at, kind_at}
+use Rattle.goal_graph.specs.Action.{holds_cpu}
 use Rattle.sim_params.specs.Costs.{CostModel}
-use Rattle.sim_params.specs.Times.{same_place, holds_cpu, holds_tx, holds_rx, cpu_hold, tx_hold, rx_hold, cpu, tx, rx}
+use Rattle.sim_params.specs.Times.{same_place, holds_tx, holds_rx, cpu_hold, tx_hold, rx_hold, cpu, tx, rx}
 use Rattle.sim_resources.specs.FreeTimes.{Hold, Holds, shares_place, shares, free_at, hold, hold_cpu, hold_tx, hold_rx, SameFreeTimes}
 use Rattle.sim_state.specs.Represents.{AreFreeTimes}
 

@@ -11,8 +11,7 @@ ghost use Rattle.sim_state.specs.Tables.{fresh_entry, with_times, with_pairing, 
 use crate::link::Link;
 use crate::moment::Moment;
 use crate::work::{Work, work_of};
-use goal_graph::{OpId, Sched};
-use goal_progress::entry_of;
+use goal_graph::{OpId, Sched, entry_of};
 use sim_params::Costs;
 use std::alloc::{AllocError, Global};
 

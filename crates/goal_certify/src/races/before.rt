@@ -6,7 +6,8 @@ ghost use Rattle.goal_graph.specs.Fault.{IsOp};
 ghost use Rattle.goal_blocks.specs.Race.{EndsBefore};
 ghost use Rattle.goal_certify.specs.Rows.{has};
 ghost use Rattle.goal_certify.specs.Table.{AreEmpty};
-ghost use Rattle.goal_certify.specs.Before.{op_id, AreRows, HasNeedsDone, IsMissing};
+ghost use Rattle.goal_graph.specs.Search.{op_id};
+ghost use Rattle.goal_certify.specs.Before.{AreRows, HasNeedsDone, IsMissing};
 
 use crate::races::rows::{join_within, make_room, put};
 use goal_graph::{Need, OpId, Sched, When};

@@ -6,8 +6,7 @@ ghost use Rattle.goal_graph.specs.Fault.{IsOp};
 ghost use Rattle.goal_certify.specs.declared.walk.entry.Entry.{Entry};
 ghost use Rattle.goal_certify.specs.WalkSoFar.{is_done, with_class, with_entry, with_pairing, with_partner};
 
-use goal_graph::{Class, OpId, Sched};
-use goal_progress::entry_of_mut;
+use goal_graph::{Class, OpId, Sched, entry_of_mut};
 
 /// Which actions of an operation have happened, and its partner.
 #[derive(Clone, Copy)]

@@ -12,10 +12,10 @@ ghost use Rattle.goal_certify.specs.WalkSoFar.{act_of};
 ghost use Rattle.goal_certify.specs.WalkQueue.{may_act, IsChoice, IsQueue, IsQueueBut, IsRefreshed, IsMoved, WaitsAt, moves_partner, IsCursorOf, AreCursors};
 
 use super::action::Action;
+use super::cursor::Cursor;
 use super::state::{State, is_moment};
 use super::turns::Turns;
-use goal_graph::{Class, OpId};
-use goal_progress::{Cursor, entry_of_mut};
+use goal_graph::{Class, OpId, entry_of_mut};
 
 /// Puts the key of each operation that may act before the first action: those without needs.
 pub fn fill(state: &State, queue: &mut Turns)

@@ -14,10 +14,12 @@ ghost use Rattle.goal_certify.specs.WalkSoFar.{act_of, entry_known, with_action,
 ghost use Rattle.goal_certify.specs.WalkQueue.{may_act, class_at, IsChoice, IsCursorOf};
 
 use super::action::Action;
+use super::cursor::Cursor;
 use super::entry::{BLANK, Entry, is_done, with_class, write_met};
-use goal_graph::{Class, Kind, Need, OpId, Sched, When};
+use super::progress::Progress;
+use super::ready::is_ready_uncounted;
+use goal_graph::{Class, Kind, Need, OpId, Sched, When, entry_of};
 use goal_limits::NoMemory;
-use goal_progress::{Cursor, Progress, entry_of, is_ready_uncounted};
 use sim_match::Matcher;
 use sim_order::Past;
 use std::alloc::Global;

@@ -1,6 +1,6 @@
 use Rattle.std.proofs.Common.{ℕ, ◌≡◌, ◌+◌, ◌<◌, ◌++◌, [], All, length}
 use Rattle.std.specs.List.{sum_by}
-use Rattle.goal_blocks.specs.declared.collective.Contribution.{Contribution}
+use Rattle.goal_blocks.specs.declared.contribution.Contribution.{Contribution}
 use Rattle.goal_values.specs.Sums.{meaning, IsBelow}
 use Rattle.goal_values.specs.Parts.{told}
 use Rattle.goal_values.proofs.Gathering.{weight, weights, shares}

@@ -3,7 +3,7 @@ use Rattle.std.proofs.lemmas.List.{map_push, take_more}
 use Rattle.goal_limits.specs.declared.limits.TheConstants.{MAX_DEPS}
 use Rattle.goal_graph.specs.declared.action.OpId.{OpId}
 use Rattle.goal_graph.specs.Schedule.{needs}
-use Rattle.goal_progress.proofs.ForCallers.{few_needs}
+use Rattle.goal_graph.proofs.ForCallers.{few_needs}
 use Rattle.sim_state.specs.Tables.{fresh_entry}
 use Rattle.sim_state.proofs.Empty.{nothing_known}
 use Rattle.sim_state.proofs.entry.first_entries.Goals as goal

@@ -1,6 +1,6 @@
 use Rattle.std.proofs.Common.{ℕ, ◌≡◌, ◌+◌, ◌-◌, ◌*◌, ◌<◌, ◌++◌, true, false, List, [], ◌∷◌, length, slice_index_or, set, ap, sym, ◌∙◌, subst, arith, length-append, get_or-set_same}
 use Rattle.std.proofs.lemmas.List.{get_or_append_left, get_or_push}
-use Rattle.goal_certify.specs.Before.{op_id}
+use Rattle.goal_graph.specs.Search.{op_id}
 use Rattle.goal_certify.proofs.Before.{below_of_op, depth_within, mark_stays}
 use Rattle.goal_certify.proofs.Paths.{IsPath, undone, undone_falls, path_short, path_begins, path_longer, path_shorter, last_exists, last_left_out, rows_marked}
 use Rattle.goal_certify.proofs.races.before.fill.Goals as goal

@@ -1,5 +1,5 @@
 use Rattle.std.proofs.Common.{below_more, arith}
-use Rattle.goal_certify.specs.Before.{op_id}
+use Rattle.goal_graph.specs.Search.{op_id}
 use Rattle.goal_certify.proofs.races.before.fill_all.Goals as goal
 use Rattle.goal_graph.proofs.ForCallers.{is_op_below}
 

@@ -2,7 +2,8 @@ use Rattle.std.proofs.Common.{ℕ, ◌≡◌, ◌<◌, true, false, All, take, s
 use Rattle.goal_graph.specs.declared.plan.Need.{Need}
 use Rattle.goal_graph.specs.Schedule.{needs}
 use Rattle.goal_certify.specs.Rows.{has}
-use Rattle.goal_certify.specs.Before.{op_id, AreRows}
+use Rattle.goal_graph.specs.Search.{op_id}
+use Rattle.goal_certify.specs.Before.{AreRows}
 use Rattle.goal_certify.proofs.races.before.gather.Given as goal
 use Rattle.goal_blocks.proofs.ForCallers.{Leads}
 

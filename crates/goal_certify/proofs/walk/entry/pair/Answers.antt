@@ -1,6 +1,6 @@
 use Rattle.std.proofs.Common.{◌∙◌, map, Some, ap}
 use Rattle.goal_graph.specs.Schedule.{operations}
-use Rattle.goal_progress.proofs.ForCallers.{length-put, put_in_table}
+use Rattle.goal_graph.proofs.ForCallers.{length-put, put_in_table}
 use Rattle.goal_certify.specs.declared.walk.entry.Entry.{Entry}
 use Rattle.goal_certify.specs.WalkSoFar.{with_entry, with_pairing}
 use Rattle.goal_certify.proofs.walk.entry.pair.Goals as goal

@@ -1,7 +1,7 @@
 use Rattle.std.proofs.Common.{◌∙◌, map, ap, sym, Option}
 use Rattle.goal_graph.specs.declared.action.OpId.{OpId}
 use Rattle.goal_graph.specs.Schedule.{operations}
-use Rattle.goal_progress.proofs.ForCallers.{length-put, put_in_table}
+use Rattle.goal_graph.proofs.ForCallers.{length-put, put_in_table}
 use Rattle.goal_certify.specs.WalkSoFar.{with_entry, with_partner}
 use Rattle.goal_certify.proofs.walk.entry.write_met.Goals as goal
 

@@ -1,7 +1,7 @@
 use Rattle.std.proofs.Common.{List, length, sym, ap, ◌∙◌}
 use Rattle.goal_graph.specs.Schedule.{Plan, operations}
 use Rattle.goal_blocks.specs.Walk.{no_send}
-use Rattle.goal_progress.proofs.ForCallers.{cursor_read, cursors_put}
+use Rattle.goal_certify.proofs.Cursors.{cursor_read, cursors_put}
 use Rattle.goal_certify.proofs.walk.follow.choice_from.Goals as goal
 
 pub entry_of_mut-cursor-requires-clause-each : goal.entry_of_mut-cursor-requires-clause-each

@@ -1,0 +1,82 @@
+// Whether an operation is ready, looked at from its cursor on.
+ghost use Rattle.std.specs.Prelude.{◌≡◌, ◌<◌, ◌+◌, if◌then◌else◌};
+ghost use Rattle.goal_graph.specs.Allowed.{is_ready};
+ghost use Rattle.goal_graph.specs.Fault.{IsOp};
+ghost use Rattle.goal_certify.specs.Cursors.{IsCursorOf};
+
+use super::cursor::Cursor;
+use super::progress::Progress;
+use goal_graph::OpId;
+use sim_order::Steps;
+use std::marker::Brand;
+use std::sync::ledger::{Blank, Ledger};
+
+/// Whether all that an operation needs is there. Its cursor goes on to the first need that is not met, or past all: the
+/// next call looks from there on.
+///
+/// `looked`: the counter counts exactly as many looks as the cursor goes on by, and one more at a need that is not met.
+/// A look that ticks no counter is not bounded.
+pub fn is_ready<P: Progress, L: Ledger>(
+    progress: &P,
+    id: OpId,
+    cursor: &mut Cursor,
+    looks: &mut Steps<L>,
+) -> bool
+    requires op { IsOp (P.plans progress.now) id }
+    requires cursor { IsCursorOf (P.plans progress.now) (P.eager progress.now) (P.actions progress.now) id cursor.old }
+    ensures ready { result ≡ is_ready (P.plans progress.now) (P.eager progress.now) (P.actions progress.now) id }
+    ensures cursor { IsCursorOf (P.plans progress.now) (P.eager progress.now) (P.actions progress.now) id cursor.new }
+    ensures looked { looks.new + cursor.old.at ≡ looks.old + cursor.new.at + (if result then 0 else 1) }
+{
+    // a schedule has so few dependencies that a place among them fits 32 bits
+    let _plans = progress.sched().plans();
+    let needs = progress.needs(id);
+    if needs.is_empty() {
+        return true;
+    }
+    for at in cursor.at as usize..needs.len() {
+        let need = needs[at];
+        let needed = OpId {
+            rank: id.rank,
+            op: need.op,
+        };
+        looks.tick();
+        if !progress.is_met(need.when, needed) {
+            *cursor = Cursor { at: at as u32 };
+            return false;
+        }
+    }
+    *cursor = Cursor {
+        at: needs.len() as u32,
+    };
+    true
+}
+
+/// The same where no one counts.
+pub fn is_ready_uncounted<P: Progress>(progress: &P, id: OpId, cursor: &mut Cursor) -> bool
+    requires op { IsOp (P.plans progress.now) id }
+    requires cursor { IsCursorOf (P.plans progress.now) (P.eager progress.now) (P.actions progress.now) id cursor.old }
+    ensures ready { result ≡ is_ready (P.plans progress.now) (P.eager progress.now) (P.actions progress.now) id }
+    ensures cursor { IsCursorOf (P.plans progress.now) (P.eager progress.now) (P.actions progress.now) id cursor.new }
+{
+    is_ready_once::<P, Brand>(progress, id, cursor, Blank::new(1))
+}
+
+// The same, with a counter of its own.
+fn is_ready_once<P: Progress, L: Ledger>(
+    progress: &P,
+    id: OpId,
+    cursor: &mut Cursor,
+    blank: Blank,
+) -> bool
+    requires name { blank.name ≡ L.name }
+    requires parts { blank.parts ≡ L.parts }
+    requires some { 0 < blank.parts }
+    requires op { IsOp (P.plans progress.now) id }
+    requires cursor { IsCursorOf (P.plans progress.now) (P.eager progress.now) (P.actions progress.now) id cursor.old }
+    ensures ready { result ≡ is_ready (P.plans progress.now) (P.eager progress.now) (P.actions progress.now) id }
+    ensures cursor { IsCursorOf (P.plans progress.now) (P.eager progress.now) (P.actions progress.now) id cursor.new }
+{
+    let mut looks = Steps::<L>::new(blank);
+    is_ready(progress, id, cursor, &mut looks)
+}

@@ -1,4 +1,0 @@
-pub mod Written
-pub mod Needs
-pub mod Cursors
-pub mod ForCallers

@@ -1,4 +1,0 @@
-use Rattle.goal_progress.proofs.ready.is_ready_uncounted.Given as goal
-
-abbrev pub ghosts-is_ready_once : goal.ghosts-is_ready_once
-ghosts-is_ready_once g a = record { name = a.blank.name; parts = a.blank.parts }

@@ -1,3 +1,0 @@
--- What only the code keeps.
-pub mod Cursors
-pub mod Entries
