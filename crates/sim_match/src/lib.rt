@@ -17,3 +17,4 @@ mod table;
 
 pub use laws::laws_of_posts_and_arrivals;
 pub use matcher::Matcher;
+pub use pattern::Pattern;

@@ -12,9 +12,11 @@ use Rattle.goal_graph.specs.declared.plan.Kind.TheVariants.{Calc, Send, Recv}
 use Rattle.goal_graph.specs.Schedule.{Plan, kind_at}
 use Rattle.goal_graph.specs.Matching.{fits, fits_kinds}
 use Rattle.goal_graph.specs.Order.{IsBefore}
-use Rattle.sim_stuck.specs.declared.pattern.Pattern.{Pattern}
+use Rattle.sim_match.specs.declared.pattern.Pattern.{Pattern}
 use Rattle.sim_stuck.specs.declared.partner.Firsts.{Firsts}
-use Rattle.sim_stuck.specs.Patterns.{pattern_cmp, op_cmp, is_for, is_by, least, AreFirsts}
+use Rattle.goal_graph.specs.Keys.{op_cmp}
+use Rattle.sim_match.specs.Patterns.{pattern_cmp}
+use Rattle.sim_stuck.specs.Patterns.{is_for, is_by, least, AreFirsts}
 use Rattle.sim_stuck.proofs.PatternFacts.{alike_back, four, exact_of, any_tag_of, any_source_of, any_of}
 use Rattle.goal_graph.proofs.ForCallers.{find_all, find_agree}
 

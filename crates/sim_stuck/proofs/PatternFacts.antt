@@ -3,8 +3,8 @@ use Rattle.std.proofs.Common.{ℕ, ◌≡◌, ◌==◌, ◌&&◌, ◌||◌, Bool
 use Rattle.std.specs.Ordering.{nat_cmp, is_eq}
 use Rattle.std.specs.Option.{option_cmp}
 use Rattle.goal_graph.specs.Matching.{accepts}
-use Rattle.sim_stuck.specs.declared.pattern.Pattern.{Pattern}
-use Rattle.sim_stuck.specs.Patterns.{pattern_cmp}
+use Rattle.sim_match.specs.declared.pattern.Pattern.{Pattern}
+use Rattle.sim_match.specs.Patterns.{pattern_cmp}
 use Rattle.goal_graph.proofs.ForCallers.{alike_numbers, alike_choices, eqb-swapped}
 use Rattle.std.specs.Cmp.{tied_then}
 use Rattle.goal_graph.specs.Choices.{same_choice}

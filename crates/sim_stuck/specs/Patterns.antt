@@ -1,24 +1,16 @@
 -- The first operation of a list for each pattern of a receive.
-use Rattle.std.specs.Prelude.{ℕ, ◌≡◌, Bool, false, cond, List, [], ◌∷◌, Option, Some, None, find}
-use Rattle.std.specs.declared.cmp.Ordering.{Ordering}
-use Rattle.std.specs.Ordering.{nat_cmp, ordering_then, is_eq, is_lt}
-use Rattle.std.specs.Option.{option_cmp}
+use Rattle.std.specs.Prelude.{◌≡◌, Bool, false, cond, List, Option, Some, None, find}
+use Rattle.std.specs.Ordering.{is_eq, is_lt}
 use Rattle.std.specs.BTreeMap.{get}
 use Rattle.goal_graph.specs.declared.action.OpId.{OpId}
 use Rattle.goal_graph.specs.declared.plan.Kind.{Kind}
 use Rattle.goal_graph.specs.declared.plan.Kind.TheVariants.{Calc, Send, Recv}
 use Rattle.goal_graph.specs.Schedule.{Plan, kind_at}
+use Rattle.goal_graph.specs.Keys.{op_cmp}
 use Rattle.goal_graph.specs.Matching.{fits_kinds}
-use Rattle.sim_stuck.specs.declared.pattern.Pattern.{Pattern}
+use Rattle.sim_match.specs.declared.pattern.Pattern.{Pattern}
+use Rattle.sim_match.specs.Patterns.{pattern_cmp}
 use Rattle.sim_stuck.specs.declared.partner.Firsts.{Firsts}
-
--- the order of patterns, and that of operations
-abbrev pub pattern_cmp : Pattern → Pattern → Ordering
-pattern_cmp p q =
-    ordering_then (nat_cmp p.rank q.rank) (ordering_then (option_cmp nat_cmp p.from q.from) (option_cmp nat_cmp p.tag q.tag))
-
-abbrev pub op_cmp : OpId → OpId → Ordering
-op_cmp x y = ordering_then (nat_cmp x.rank y.rank) (nat_cmp x.op y.op)
 
 -- m, of this kind, is a send that a receive of the pattern q takes
 abbrev pub is_for : Pattern → OpId → Option Kind → Bool
@@ -32,15 +24,6 @@ is_by q x (Some (Send bytes to tag)) = false
 is_by q x (Some (Recv room from tag)) =
     is_eq (pattern_cmp (record { rank = x.rank; from = from; tag = tag }) q)
 is_by q x None = false
-
--- the patterns of the receives that fit a message
-abbrev pub patterns_for : ℕ → ℕ → ℕ → List Pattern
-patterns_for source to tag =
-    record { rank = to; from = Some source; tag = Some tag }
-    ∷ record { rank = to; from = Some source; tag = None }
-    ∷ record { rank = to; from = None; tag = Some tag }
-    ∷ record { rank = to; from = None; tag = None }
-    ∷ []
 
 -- the lesser of two operations; `None` if there is neither
 abbrev pub least : Option OpId → Option OpId → Option OpId

@@ -3,7 +3,6 @@
 
 mod lines;
 mod partner;
-mod pattern;
 mod reasons;
 mod stuck;
 

@@ -5,12 +5,13 @@ ghost use Rattle.goal_graph.specs.declared.action.OpId.{OpId};
 ghost use Rattle.goal_graph.specs.Fault.{IsOp};
 ghost use Rattle.goal_graph.specs.Matching.{fits};
 ghost use Rattle.goal_graph.specs.Order.{IsBefore};
-ghost use Rattle.sim_stuck.specs.declared.pattern.Pattern.{Pattern};
-ghost use Rattle.sim_stuck.specs.Patterns.{pattern_cmp, is_for, is_by, least, AreFirsts};
+ghost use Rattle.sim_match.specs.declared.pattern.Pattern.{Pattern};
+ghost use Rattle.sim_match.specs.Patterns.{pattern_cmp, patterns_for};
+ghost use Rattle.sim_stuck.specs.Patterns.{is_for, is_by, least, AreFirsts};
 
-use crate::pattern::{Pattern, patterns_for};
 use goal_graph::{Kind, OpId, Sched};
 use goal_limits::NoMemory;
+use sim_match::Pattern;
 use std::alloc::Global;
 use std::collections::BTreeMap;
 
@@ -114,4 +115,21 @@ fn least(a: Option<OpId>, b: Option<OpId>) -> Option<OpId>
         (None, _) => b,
         _ => a,
     }
+}
+
+// Returns the patterns of the receives that fit a message.
+fn patterns_for(source: u32, to: u32, tag: u32) -> [Pattern; 4]
+    ensures { result ≡ patterns_for source to tag }
+{
+    let asked = |from, tag| Pattern {
+        rank: to,
+        from,
+        tag,
+    };
+    [
+        asked(Some(source), Some(tag)),
+        asked(Some(source), None),
+        asked(None, Some(tag)),
+        asked(None, None),
+    ]
 }

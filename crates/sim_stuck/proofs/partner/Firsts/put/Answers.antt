@@ -3,8 +3,9 @@ use Rattle.std.specs.Ordering.{is_eq}
 use Rattle.std.specs.BTreeMap.{get}
 use Rattle.goal_graph.specs.declared.action.OpId.{OpId}
 use Rattle.goal_graph.specs.declared.plan.Kind.{Kind}
-use Rattle.sim_stuck.specs.declared.pattern.Pattern.{Pattern}
-use Rattle.sim_stuck.specs.Patterns.{pattern_cmp, is_for}
+use Rattle.sim_match.specs.declared.pattern.Pattern.{Pattern}
+use Rattle.sim_match.specs.Patterns.{pattern_cmp}
+use Rattle.sim_stuck.specs.Patterns.{is_for}
 use Rattle.sim_stuck.proofs.PatternFacts.{four_put}
 use Rattle.sim_stuck.proofs.partner.Firsts.put.Goals as goal
 
