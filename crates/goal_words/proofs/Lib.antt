@@ -1,4 +1,3 @@
-pub mod NumberLemmas
 pub mod KeyLemmas
 pub mod PlaceLemmas
 pub mod WordsLeftLemmas

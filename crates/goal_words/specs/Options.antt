@@ -1,9 +1,9 @@
 -- The role of each word of a line after the first, and the values of its options. A command allows some options; each
 -- is a word that begins with `--`.
-use Rattle.std.specs.Prelude.{ℕ, ◌==◌, ◌&&◌, ◌^◌, nat_lt, nat_le, Bool, true, false, List, [], ◌∷◌, length, Option, Some, None, is_some, unwrap_or, codes, bytes_eq, if◌then◌else◌}
+use Rattle.std.specs.Prelude.{ℕ, ◌==◌, ◌&&◌, ◌^◌, nat_lt, Bool, true, false, List, [], ◌∷◌, Option, Some, None, is_some, unwrap_or, codes, bytes_eq, if◌then◌else◌}
 use Rattle.std.specs.List.{list_all, list_any, before_first, after_first}
-use Rattle.std.specs.Char.{is_ascii_digit}
 use Rattle.std.specs.Str.Parse.{digits_value}
+use Rattle.goal_base.specs.Numerals.{is_numeral}
 use Rattle.sim_params.specs.Costs.{Numbers}
 use Rattle.sim_params.specs.Limits.{first_over}
 use Rattle.sim_params.specs.Defaults.{default_latency, default_overhead, default_gap, default_gap_per_byte, default_overhead_per_byte, default_sync}
@@ -30,7 +30,7 @@ begins_dash (b ∷ bs) = b == 45
 
 -- a number is 1 to 20 decimal digits, and below 2^64 (no limit is higher)
 abbrev pub is_number : List ℕ → Bool
-is_number w = nat_lt 0 (length w) && nat_le (length w) 20 && list_all is_ascii_digit w && nat_lt (digits_value 10 w) (2 ^ 64)
+is_number w = is_numeral w && nat_lt (digits_value 10 w) (2 ^ 64)
 
 -- the value of a number
 abbrev pub value_of : List ℕ → Option ℕ

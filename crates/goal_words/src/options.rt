@@ -1,11 +1,10 @@
 //! The options of a line, and their values.
 ghost use Rattle.std.specs.Prelude.{◌≡◌, None, Some, MatchOption};
-ghost use Rattle.std.specs.List.{list_all};
-ghost use Rattle.std.specs.Char.{is_ascii_digit};
 ghost use Rattle.sim_params.specs.Numbers.{numbers};
 ghost use Rattle.goal_words.specs.Options.{value_of, within_limits};
 ghost use Rattle.goal_words.specs.Reading.{key_of, run_key_of, none_given, given_for, set, with_option, numbers_given};
 
+use goal_base::numeral_value;
 use sim_params::{
     DEFAULT_GAP, DEFAULT_GAP_PER_BYTE, DEFAULT_LATENCY, DEFAULT_OVERHEAD,
     DEFAULT_OVERHEAD_PER_BYTE, DEFAULT_SYNC, Params,
@@ -78,26 +77,13 @@ fn run_key_of(word: &str) -> Option<Key>
     }
 }
 
-// The most digits of a number.
-const MOST_DIGITS: usize = 20;
-
-// Returns whether all bytes are decimal digits.
-fn are_digits(word: &[u8]) -> bool
-    ensures { result ≡ list_all is_ascii_digit word.now }
-{
-    word.iter().all(|byte| byte.is_ascii_digit())
-}
-
 /// Returns the value of a number of 1 to 20 digits below 2^64, or `None` for any other word.
 pub fn value_of(word: &str) -> Option<u64>
     ensures { result ≡ value_of word.now }
 {
-    if word.len() > MOST_DIGITS || !are_digits(word.as_bytes()) {
-        return None;
-    }
-    match word.parse::<u64>() {
-        Ok(number) => Some(number),
-        Err(_) => None,
+    match numeral_value(word.as_bytes()) {
+        Some(value) if value < 1 << 64 => Some(value as u64),
+        _ => None,
     }
 }
 

@@ -5,8 +5,8 @@ use Rattle.std.specs.Str.Parse.{digits_value}
 use Rattle.sim_classes.specs.declared.fault.MachineFault.{MachineFault}
 use Rattle.sim_classes.specs.declared.fault.MachineFault.TheVariants.{Syntax}
 use Rattle.sim_classes.specs.Machine.{Known}
-use Rattle.sim_classes.specs.Form.{Form, Fixed, Value, End, Test, said, or_fault, is_number}
-use Rattle.sim_classes.specs.Left.{value_of}
+use Rattle.sim_classes.specs.Form.{Form, Fixed, Value, End, Test, said, or_fault}
+use Rattle.goal_base.specs.Numerals.{is_numeral}
 
 pub fixed_next : (word w : List ℕ) (ws : List (List ℕ)) (place : ℕ) (rest : Form) → bytes_eq w word ≡ true → said (Fixed word rest) place (w ∷ ws) ≡ said rest (place + 1) ws
 unfolding said
@@ -24,17 +24,17 @@ pub value_end : (test : Test) (rest : ℕ → Form) (place : ℕ) → said (Valu
 unfolding said
 value_end test rest place = refl
 
-pub value_other : (test : Test) (rest : ℕ → Form) (place : ℕ) (w : List ℕ) (ws : List (List ℕ)) → None ≡ value_of w → said (Value test rest) place (w ∷ ws) ≡ Err (Syntax place)
+pub value_other : (test : Test) (rest : ℕ → Form) (place : ℕ) (w : List ℕ) (ws : List (List ℕ)) → None ≡ (if is_numeral w then Some (digits_value 10 w) else None) → said (Value test rest) place (w ∷ ws) ≡ Err (Syntax place)
 unfolding said
-value_other test rest place w ws e = go (is_number w) e
+value_other test rest place w ws e = go (is_numeral w) e
   where
     go : (b : Bool) → None ≡ (if b then Some (digits_value 10 w) else None) → (if b then or_fault (test (digits_value 10 w)) place (said (rest (digits_value 10 w)) (place + 1) ws) else Err (Syntax place)) ≡ Err (Syntax place)
     go true e = cc
     go false e = refl
 
-pub value_next : (test : Test) (rest : ℕ → Form) (place : ℕ) (w : List ℕ) (ws : List (List ℕ)) (n : ℕ) → Some n ≡ value_of w → said (Value test rest) place (w ∷ ws) ≡ or_fault (test n) place (said (rest n) (place + 1) ws)
+pub value_next : (test : Test) (rest : ℕ → Form) (place : ℕ) (w : List ℕ) (ws : List (List ℕ)) (n : ℕ) → Some n ≡ (if is_numeral w then Some (digits_value 10 w) else None) → said (Value test rest) place (w ∷ ws) ≡ or_fault (test n) place (said (rest n) (place + 1) ws)
 unfolding said
-value_next test rest place w ws n e = go (is_number w) e
+value_next test rest place w ws n e = go (is_numeral w) e
   where
     go : (b : Bool) → Some n ≡ (if b then Some (digits_value 10 w) else None) → (if b then or_fault (test (digits_value 10 w)) place (said (rest (digits_value 10 w)) (place + 1) ws) else Err (Syntax place)) ≡ or_fault (test n) place (said (rest n) (place + 1) ws)
     go true e = ap (λ (k : ℕ). or_fault (test k) place (said (rest k) (place + 1) ws)) (cc e)

@@ -5,11 +5,12 @@ use Rattle.std.specs.Str.Parse.{digits_value}
 use Rattle.std.proofs.lemmas.Bool.{ltb-true}
 use Rattle.sim_params.specs.Costs.{Numbers}
 use Rattle.sim_params.specs.Numbers.{asked}
+use Rattle.goal_base.specs.Numerals.{is_numeral}
 use Rattle.sim_classes.specs.declared.fault.MachineFault.{MachineFault}
 use Rattle.sim_classes.specs.declared.fault.MachineFault.TheVariants.{Syntax, Number}
 use Rattle.sim_classes.specs.Machine.{Known, machine_with}
 use Rattle.sim_classes.specs.Parts.{IsWhole}
-use Rattle.sim_classes.specs.Form.{Form, Fixed, Value, End, said, or_fault, is_number, words, class_number, telling, triples, nodes_part, classes_part, machine_form, machine}
+use Rattle.sim_classes.specs.Form.{Form, Fixed, Value, End, said, or_fault, words, class_number, telling, triples, nodes_part, classes_part, machine_form, machine}
 
 -- a property of each machine that words of a form may give
 abbrev Ends : (Known → Type 0) → Form → Type 0
@@ -37,7 +38,7 @@ module _ (P : Known → Type 0) (m : Known) where
   said_ends (Value test rest) place [] ends is = cc
   said_ends (Value test rest) place (w ∷ ws) ends is =
       let n = digits_value 10 w in
-      value_step (is_number w) (test n) place (said (rest n) (place + 1) ws)
+      value_step (is_numeral w) (test n) place (said (rest n) (place + 1) ws)
       (λ passed. said_ends (rest n) (place + 1) ws (ends n passed)) is
   said_ends (End known) place [] ends is = let same : known ≡ m = cc in subst P same ends
   said_ends (End known) place (w ∷ ws) ends is = cc

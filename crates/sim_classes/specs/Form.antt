@@ -1,8 +1,8 @@
 -- The text of a machine: its words, and what each word must be.
 use Rattle.std.specs.Prelude.{ℕ, zero, suc, ◌+◌, ◌==◌, ◌&&◌, ◌||◌, nat_lt, nat_le, Bool, List, [], ◌∷◌, ◌++◌, length, filter, Option, Some, None, is_some, Result, Ok, Err, codes, bytes_eq, if◌then◌else◌}
-use Rattle.std.specs.List.{list_all, slice_split}
-use Rattle.std.specs.Char.{is_ascii_digit}
+use Rattle.std.specs.List.{slice_split}
 use Rattle.std.specs.Str.Parse.{digits_value}
+use Rattle.goal_base.specs.Numerals.{is_numeral}
 use Rattle.goal_limits.specs.Limits.{rank_limit, param_limit, per_byte_limit}
 use Rattle.sim_params.specs.Defaults.{picos_limit}
 use Rattle.sim_params.specs.Costs.{Numbers}
@@ -19,10 +19,6 @@ is_blank c = c == 32 || c == 9 || c == 13 || c == 10
 -- the words of a text: its longest runs of bytes that are not blanks
 unfoldable pub words : List ℕ → List (List ℕ)
 words text = filter (λ (w : List ℕ). nat_lt 0 (length w)) (slice_split is_blank text)
-
--- a number is 1 to 20 decimal digits
-abbrev pub is_number : List ℕ → Bool
-is_number w = nat_lt 0 (length w) && nat_le (length w) 20 && list_all is_ascii_digit w
 
 -- a test of a number: None if it passes, and otherwise a fault at the number's place
 abbrev pub Test : Type 0
@@ -47,7 +43,7 @@ said (Fixed word rest) place [] = Err (Syntax place)
 said (Fixed word rest) place (w ∷ ws) = if bytes_eq w word then said rest (place + 1) ws else Err (Syntax place)
 said (Value test rest) place [] = Err (Syntax place)
 said (Value test rest) place (w ∷ ws) =
-    if is_number w then or_fault (test (digits_value 10 w)) place (said (rest (digits_value 10 w)) (place + 1) ws) else Err (Syntax place)
+    if is_numeral w then or_fault (test (digits_value 10 w)) place (said (rest (digits_value 10 w)) (place + 1) ws) else Err (Syntax place)
 said (End m) place [] = Ok m
 said (End m) place (w ∷ ws) = Err (Syntax place)
 

@@ -1,13 +1,12 @@
 //! The words of a machine text, one after another.
 ghost use Rattle.std.specs.Prelude.{ℕ, List, Err, ◌≡◌, ◌≢◌, ◌+◌, ◌<◌, ◌≤◌, ◌^◌, [], ◌∷◌, length, not, IfOk, IfErr, IfSome, IfNone};
-ghost use Rattle.std.specs.List.{prefix_len, list_all};
-ghost use Rattle.std.specs.Char.{is_ascii_digit};
+ghost use Rattle.std.specs.List.{prefix_len};
 ghost use Rattle.sim_classes.specs.Form.{Form, Fixed, Value, End, Test, words, is_blank, or_fault, said, between, class_number};
-ghost use Rattle.sim_classes.specs.Left.{value_of};
 ghost use Rattle.sim_classes.specs.Machine.{Known};
 ghost use Rattle.sim_params.specs.Costs.{Numbers};
 
 use crate::fault::MachineFault;
+use goal_base::numeral_value;
 use std::marker::Model;
 
 /// The remaining words, and the number of the first of them.
@@ -56,30 +55,6 @@ fn word_len(bytes: &[u8]) -> usize
         len += 1;
     }
     len
-}
-
-// The most digits of a number.
-const MOST_DIGITS: usize = 20;
-
-// Returns whether all bytes are decimal digits.
-fn are_digits(word: &[u8]) -> bool
-    ensures { result ≡ list_all is_ascii_digit word.now }
-{
-    word.iter().all(|byte| byte.is_ascii_digit())
-}
-
-// Returns the value of a word that is a number.
-fn value_of(word: &[u8]) -> Option<u128>
-    ensures { result ≡ value_of word.now }
-{
-    if word.is_empty() || word.len() > MOST_DIGITS || !are_digits(word) {
-        return None;
-    }
-    let mut value = 0;
-    for digit in word {
-        value = value * 10 + u128::from(*digit - b'0');
-    }
-    Some(value)
 }
 
 impl<'a> Words<'a> {
@@ -139,7 +114,7 @@ impl<'a> Words<'a> {
     {
         let at = self.place;
         match self.take() {
-            Some(word) => match value_of(word) {
+            Some(word) => match numeral_value(word) {
                 Some(value) => Ok((at, value)),
                 None => Err(MachineFault::Syntax { at }),
             },

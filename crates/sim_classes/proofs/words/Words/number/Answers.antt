@@ -4,17 +4,17 @@ use Rattle.sim_classes.specs.Form.{Value, said, or_fault}
 use Rattle.sim_classes.proofs.Said.{value_next, value_other, value_end, at_place}
 use Rattle.sim_classes.proofs.words.Words.number.Goals as goal
 
-pub returns-in-Some-value_of-clause-next : goal.returns-in-Some-value_of-clause-next
-returns-in-Some-value_of-clause-next c =
+pub returns-in-Some-numeral_value-clause-next : goal.returns-in-Some-numeral_value-clause-next
+returns-in-Some-numeral_value-clause-next c =
     λ test rest. ap (said (Value test rest) c.args.self.now.place) c.in-Some.ensures.word
-    ∙ value_next test rest c.args.self.now.place c.in-Some.word.now c.take.new.self.words c.in-Some-value_of.value c.in-Some-value_of.ensures
-    ∙ ap (λ (p : ℕ). or_fault (test c.in-Some-value_of.value) p (said (rest c.in-Some-value_of.value) (c.args.self.now.place + 1) c.take.new.self.words)) (ap (λ (l : Left). l.place) (sym c.self.view_is))
-    ∙ ap (λ (p : ℕ). or_fault (test c.in-Some-value_of.value) c.self.inside.place (said (rest c.in-Some-value_of.value) p c.take.new.self.words)) (sym c.in-Some.ensures.place)
+    ∙ value_next test rest c.args.self.now.place c.in-Some.word.now c.take.new.self.words c.in-Some-numeral_value.value c.in-Some-numeral_value.ensures
+    ∙ ap (λ (p : ℕ). or_fault (test c.in-Some-numeral_value.value) p (said (rest c.in-Some-numeral_value.value) (c.args.self.now.place + 1) c.take.new.self.words)) (ap (λ (l : Left). l.place) (sym c.self.view_is))
+    ∙ ap (λ (p : ℕ). or_fault (test c.in-Some-numeral_value.value) c.self.inside.place (said (rest c.in-Some-numeral_value.value) p c.take.new.self.words)) (sym c.in-Some.ensures.place)
 
-pub returns-in-None-value_of-clause-fault : goal.returns-in-None-value_of-clause-fault
-returns-in-None-value_of-clause-fault c =
+pub returns-in-None-numeral_value-clause-fault : goal.returns-in-None-numeral_value-clause-fault
+returns-in-None-numeral_value-clause-fault c =
     λ test rest. ap (said (Value test rest) c.args.self.now.place) c.in-Some.ensures.word
-    ∙ value_other test rest c.args.self.now.place c.in-Some.word.now c.take.new.self.words c.in-None-value_of.ensures
+    ∙ value_other test rest c.args.self.now.place c.in-Some.word.now c.take.new.self.words c.in-None-numeral_value.ensures
     ∙ at_place (ap (λ (l : Left). l.place) (sym c.self.view_is))
 
 pub returns-in-None-clause-fault : goal.returns-in-None-clause-fault

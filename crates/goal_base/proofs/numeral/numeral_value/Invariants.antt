@@ -2,7 +2,7 @@ use Rattle.std.proofs.Common.{◌≡◌, ◌<◌, ◌≤◌, ◌^◌, drop, leng
 use Rattle.std.specs.List.{list_all}
 use Rattle.std.specs.Char.{is_ascii_digit}
 use Rattle.std.specs.Str.Parse.{digits_value, digits_value_after}
-use Rattle.sim_classes.proofs.words.value_of.Given as goal
+use Rattle.goal_base.proofs.numeral.numeral_value.Given as goal
 
 -- the value of the digits so far, which the others follow
 abbrev pub invariant-loop-digit : goal.invariant-loop-digit
