@@ -10,6 +10,8 @@ Key = Tuple[int, int]
 BLOCK = re.compile(r"^rank (\d+) \{$", re.MULTILINE)
 # what each line of an operation has once, and no other line
 AFTER_LABEL = ": "
+# the second word of a note
+NOTES = ("moves", "adds")
 
 
 @dataclass
@@ -57,8 +59,9 @@ def rank_count(text: str) -> int:
     return int(text.split(None, 2)[1])
 
 
-def read_canonical(lines: Iterable[str], wanted: Optional[Container[int]] = None) -> Schedule:
-    """The schedule of a canonical text; with `wanted`, it has the operations of these ranks alone."""
+def read_canonical(lines: Iterable[str], wanted: Optional[Container[int]] = None, with_notes: bool = True) -> Schedule:
+    """The schedule of a canonical text; with `wanted`, it has the operations of these ranks alone. Without notes it is read in half
+    the time."""
     lines = iter(lines)
     schedule = Schedule(int(next(lines).split()[1]), {}, {})
     rank = 0
@@ -66,7 +69,7 @@ def read_canonical(lines: Iterable[str], wanted: Optional[Container[int]] = None
         words = line.split()
         if words[0] == "rank":
             rank = int(words[1])
-        elif words[0] != "}":
+        elif words[0] != "}" and (with_notes or words[1] not in NOTES):
             key = rank, int(words[0].strip("l:")) - 1
             if words[1] == "send":
                 schedule.sizes[key] = int(words[2][:-1])
@@ -81,7 +84,7 @@ def take_item(ops: Dict[Key, Op], key: Key, words: List[str]) -> None:
         ops[key] = Op("calc", int(words[2]), int(words[4]))
     elif words[1] in ("send", "recv"):
         ops[key] = Op(words[1], int(words[2][:-1]), int(words[8]), words[4], words[6], nic=int(words[10]))
-    elif words[1] in ("requires", "irequires"):
-        ops[key].needs.append((int(words[2][1:]) - 1, words[1] == "requires"))
-    else:
+    elif words[1] in NOTES:
         ops[key].notes.append((int(words[2]), int(words[4])))
+    else:
+        ops[key].needs.append((int(words[2][1:]) - 1, words[1] == "requires"))

@@ -265,7 +265,7 @@ class Fold:
 def fold(goal: str, name: str, text: Optional[str], cluster: Cluster, cards: Cards) -> Fold:
     """The fold of a schedule: of the file NAME, or of a text where NAME is standard input."""
     shown = program.expect(program.call(goal, ["show", name], text), program.DONE).out
-    return Fold(read_canonical(shown.splitlines()), cluster.machine, cards)
+    return Fold(read_canonical(shown.splitlines(), with_notes=False), cluster.machine, cards)
 
 
 def run_lines(goal: str, name: str, text: Optional[str], cluster: Cluster, cards: Optional[Cards] = None) -> List[str]:
@@ -274,6 +274,15 @@ def run_lines(goal: str, name: str, text: Optional[str], cluster: Cluster, cards
     if not chosen.count:
         return _run(goal, name, text, cluster.text())
     return run_folded(goal, fold(goal, name, text, cluster, chosen))
+
+
+def first_lines(goal: str, name: str, cluster: Cluster, cards: Optional[Cards] = None) -> List[str]:
+    """The same with the lines that a folded schedule prints: the first one has the right finish and number of stuck operations."""
+    chosen = cards or cluster.cards or Cards()
+    if not chosen.count:
+        return _run(goal, name, None, cluster.text())
+    folded = fold(goal, name, None, cluster, chosen)
+    return _run(goal, STANDARD_INPUT, "".join(folded.text()), folded.machine_text())
 
 
 def run_folded(goal: str, folded: Fold) -> List[str]:

@@ -102,7 +102,7 @@ def load(arguments: argparse.Namespace) -> Loaded:
         run = read_run(run_lines(arguments, options, name, text), window.ranks)
         # (what ends in the window is seen there: so many runs are refused before their stories are made)
         check_limit(arguments, sum(it.end is not None and window.meets(it.end, it.end) for it in run.timed.values()), " or more")
-        stories = stories_of(read_canonical(shown.splitlines(), window.ranks), run, costs, window)
+        stories = stories_of(read_canonical(shown.splitlines(), window.ranks, with_notes=False), run, costs, window)
     except ValueError as why:
         raise Fault(str(why)) from None
     check_limit(arguments, sum(window.sees(story) for story in stories.values()))

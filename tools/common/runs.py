@@ -12,7 +12,6 @@ from typing import Dict, Iterable, Iterator, List, Optional, Sequence, Set, Tupl
 
 from algorithms import asked
 from common import command, folding, program
-from common.canonical import read_canonical
 from common.chain import NAMES
 from common.description import Cards, cards_of, cluster_of, is_description
 from common.grid import MADE_BY, PARAMETERS, Point
@@ -25,6 +24,7 @@ from common.whole import Whole, shares_by_name, whole_of
 
 MOST_CALC = 2**48 - 1
 SEND = re.compile(r": send (\d+)b")
+RANK_OR_SEND = re.compile(r"^rank (\d+)|: send (\d+)b to (\d+)", re.MULTILINE)
 CALC = re.compile(r"(?<=: calc )\d+")
 LOST = "its process was killed: is there too little memory?"
 # the columns of shares of the finish, in ns
@@ -186,9 +186,12 @@ def sizes_of(text: str, by_pair: bool) -> List[str]:
         sizes = [int(size) for size in SEND.findall(text)]
         return [f"0 0 {min(sizes)} {max(sizes)}"] if sizes else []
     pairs: Dict[Tuple[int, int], Tuple[int, int]] = {}
-    schedule = read_canonical(text.splitlines())
-    for key, size in schedule.sizes.items():
-        pair = key[0], int(schedule.ops[key].peer)
+    source = 0
+    for rank, bytes_sent, target in RANK_OR_SEND.findall(text):
+        if rank:
+            source = int(rank)
+            continue
+        pair, size = (source, int(target)), int(bytes_sent)
         least, greatest = pairs.get(pair, (size, size))
         pairs[pair] = min(least, size), max(greatest, size)
     return [" ".join(map(str, (*pair, *ends))) for pair, ends in pairs.items()]
@@ -256,15 +259,17 @@ def run_on_machine(asked_for: Asked, path: str, point: Point) -> Result:
     is_described = is_description(text) or "placement" in point or bool(cards and cards.count) or scale > 1
     if "placement" in point:
         cluster = cluster.placed(point["placement"])
+    is_whole = asked_for.wait or asked_for.shares
     if is_described:
-        lines = folding.run_lines(asked_for.goal, path, None, cluster, cards)
+        lines = (folding.run_lines(asked_for.goal, path, None, cluster, cards) if is_whole
+                 else folding.first_lines(asked_for.goal, path, cluster, cards))
     else:
         answer = program.call(asked_for.goal, ["nodes", path, command.STANDARD_INPUT], text)
         lines = program.expect(answer, program.DONE, program.STUCK).out.splitlines()
     run = first_line(lines[0])
     wait: Time = ""
     shares: Dict[str, Time] = {}
-    if asked_for.wait or asked_for.shares:
+    if is_whole:
         shared = (cards or cluster.cards or Cards()) if is_described else Cards()
         whole = whole_of(asked_for.goal, path, None, {}, lines, cluster.machine, shared)
         # (`goal waits` takes parameters alone)

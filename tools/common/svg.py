@@ -4,11 +4,21 @@ Coordinates are rounded to a tenth of a pixel, so that the same drawing gives th
 """
 from contextlib import contextmanager
 from typing import Any, Iterable, Iterator, Optional, Sequence, Tuple, Union
-from xml.sax.saxutils import escape, quoteattr
 
 FONT = "Helvetica, Arial, 'DejaVu Sans', sans-serif"
 # What letters take of the font's size, for room: an average, as no font is at hand to ask.
 NARROW, WIDE = "ijlt.,:;|!'() frI", "mwMW@%→·"
+
+
+# (xml.sax.saxutils has these too, but importing it takes as long as the rest of a tool)
+def escaped(text: str) -> str:
+    """The text as it is written between two tags."""
+    return text.replace("&", "&amp;").replace(">", "&gt;").replace("<", "&lt;")
+
+
+def quoted(text: str) -> str:
+    """The text as the value of an attribute, in quotes."""
+    return '"' + escaped(text).replace('"', "&quot;") + '"'
 
 
 def number(value: float) -> str:
@@ -36,19 +46,19 @@ class Drawing:
         self.lines = [
             f'<svg xmlns="http://www.w3.org/2000/svg" width="{number(width)}" height="{number(height)}"'
             f' viewBox="0 0 {number(width)} {number(height)}" font-family="{FONT}" role="img">',
-            f"<title>{escape(about)}</title>",
+            f"<title>{escaped(about)}</title>",
             f'<rect width="{number(width)}" height="{number(height)}" fill="#ffffff"/>',
         ]
 
     def shape(self, name: str, note: Optional[str] = None, text: Optional[str] = None, **attributes: Any) -> None:
         """A shape of this name. An underscore in an attribute's name stands for a hyphen."""
         told = "".join(f" {key.replace('_', '-')}={self.value(value)}" for key, value in attributes.items() if value is not None)
-        inner = (f"<title>{escape(note)}</title>" if note else "") + (escape(text) if text else "")
+        inner = (f"<title>{escaped(note)}</title>" if note else "") + (escaped(text) if text else "")
         self.lines.append(f"<{name}{told}>{inner}</{name}>" if inner else f"<{name}{told}/>")
 
     @staticmethod
     def value(value: Union[str, float]) -> str:
-        return quoteattr(number(value) if isinstance(value, (int, float)) else value)
+        return quoted(number(value) if isinstance(value, (int, float)) else value)
 
     def rect(self, x: float, y: float, width: float, height: float, **attributes: Any) -> None:
         self.shape("rect", x=x, y=y, width=width, height=height, **attributes)
@@ -67,7 +77,7 @@ class Drawing:
     @contextmanager
     def group(self, note: Optional[str] = None, **attributes: Union[str, float]) -> Iterator[None]:
         told = "".join(f" {key.replace('_', '-')}={self.value(value)}" for key, value in attributes.items())
-        self.lines.append(f"<g{told}>" + (f"<title>{escape(note)}</title>" if note else ""))
+        self.lines.append(f"<g{told}>" + (f"<title>{escaped(note)}</title>" if note else ""))
         yield
         self.lines.append("</g>")
 

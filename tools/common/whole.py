@@ -90,8 +90,8 @@ def whole_of(
     """The whole of a printed run: of one on a machine, where ranks share these cards. `shown` is the canonical text, if it is there."""
     run, shown = read_run(lines), shown or shown_by(goal, source, text)
     if not cards.count or not isinstance(costs, Machine):
-        return Whole(goal, source, text, options, *told(read_canonical(shown), run, costs), {}, shown)
-    folded = folding.Fold(read_canonical(shown), costs, cards)
+        return Whole(goal, source, text, options, *told(read_canonical(shown, with_notes=False), run, costs), {}, shown)
+    folded = folding.Fold(read_canonical(shown, with_notes=False), costs, cards)
     text = "".join(folded.text())
     schedule = read_canonical(shown_by(goal, STANDARD_INPUT, text))
     names = {new: old for old, new in folded.new_key.items()}
