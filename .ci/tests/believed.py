@@ -2,13 +2,19 @@
 """Tests of .ci/believed: what it reaches name by name, and that it reports a wrong table, group or name."""
 from __future__ import annotations
 
+import contextlib
+import functools
+import io
 import os
 import shutil
-import subprocess
 import tempfile
+import types
 import unittest
+from typing import Any
 
 TOP = os.path.dirname(os.path.dirname(os.path.dirname(os.path.abspath(__file__))))
+# what was read, by what it was read from
+READ: dict[str, Any] = {}
 
 
 class Believed(unittest.TestCase):
@@ -34,8 +40,28 @@ class Believed(unittest.TestCase):
         shutil.copy(f"{TOP}/.ci/believed", f"{cls.top}/.ci")
 
     def called(self, *words: str) -> tuple[int, str]:
-        answer = subprocess.run([f"{self.top}/.ci/believed", *words], capture_output=True, text=True, check=False)
-        return answer.returncode, answer.stdout
+        """The status and the output of .ci/believed with these words, in this process: a file that it has read is not read again."""
+        path, last = f"{self.top}/.ci/believed", "\nsys.exit(main(sys.argv[1:]))\n"
+        with open(path) as it:
+            source = it.read()
+        self.assertTrue(source.endswith(last))
+        module = types.ModuleType("believed")
+        module.__file__ = path
+        exec(compile(source[:-len(last)], path, "exec"), module.__dict__)
+        READ.setdefault("File", module.__dict__["File"])
+        READ.setdefault("calls_in", functools.lru_cache(maxsize=None)(module.__dict__["calls_in"]))
+        module.__dict__.update(File=self.file, calls_in=READ["calls_in"])
+        with contextlib.redirect_stdout(io.StringIO()) as said:
+            status = module.__dict__["main"]([*words])
+        return status, said.getvalue()
+
+    def file(self, crate: str, name: str) -> Any:
+        """What .ci/believed takes of a file of specs/, which is the same as long as its bytes are."""
+        with open(f"{self.top}/crates/{crate}/specs/{name}.antt") as it:
+            key = f"{crate}/{name} {it.read()}"
+        if key not in READ:
+            READ[key] = READ["File"](crate, name)
+        return READ[key]
 
     def kept(self, path: str) -> str:
         """The text of a file, which it has again after the test."""

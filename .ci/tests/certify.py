@@ -3,14 +3,14 @@
 import os
 import random
 import re
-import subprocess
 import sys
 import tempfile
 import unittest
 from typing import Iterator, Optional, Tuple
 
 TOP = os.path.dirname(os.path.dirname(os.path.dirname(os.path.abspath(__file__))))
-sys.path.insert(0, os.path.join(TOP, "tools"))
+sys.path[:0] = [os.path.join(TOP, "tools"), os.path.join(TOP, ".ci")]
+import tool_calls
 from common import program
 from common.canonical import Schedule, read_canonical
 from common.flow import Flow, wanted_of
@@ -89,7 +89,7 @@ class Explained(unittest.TestCase):
         with tempfile.TemporaryDirectory() as folder:
             with open(os.path.join(folder, "it"), "w", encoding="utf-8") as file:
                 file.write(text)
-            done = subprocess.run([os.path.join(TOP, "tools", "certify"), kind, "it", *words], cwd=folder, capture_output=True, text=True, check=False)
+            done = tool_calls.called("certify", kind, "it", *words, cwd=folder)
         self.assertEqual(done.stderr, "")
         if "--segments" not in words:
             answer = program.call(GOAL, ["certify", kind, "/dev/stdin", *words], text)

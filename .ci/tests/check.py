@@ -5,12 +5,12 @@ from __future__ import annotations
 
 import os
 import random
-import subprocess
 import sys
 import unittest
 
 TOP = os.path.dirname(os.path.dirname(os.path.dirname(os.path.abspath(__file__))))
-sys.path.insert(0, os.path.join(TOP, "tools"))
+sys.path[:0] = [os.path.join(TOP, "tools"), os.path.join(TOP, ".ci")]
+import tool_calls
 from common import program
 from common.canonical import read_canonical
 from common.faults import Flow, Matching, left_over, rings
@@ -21,7 +21,7 @@ SEED = 20261201
 
 def checked(text: str, *words: str) -> tuple[int, list[str], str]:
     """The status of the tool, and its lines without the names of the file."""
-    done = subprocess.run([os.path.join(TOP, "tools", "check"), "-", *words], input=text, capture_output=True, text=True, check=False)
+    done = tool_calls.called("check", "-", *words, given=text)
     return done.returncode, done.stdout.splitlines(), done.stderr
 
 
@@ -79,7 +79,7 @@ class Findings(unittest.TestCase):
 
     def test_a_compiled_file_and_a_refusal(self) -> None:
         path = os.path.join(TOP, "examples", "cycle")
-        ended = subprocess.run([os.path.join(TOP, "tools", "check"), path], capture_output=True, text=True, check=False)
+        ended = tool_calls.called("check", path)
         self.assertEqual((ended.returncode, ended.stderr), (2, f"check: goal: refused: plan: cycle 0 0 (tools/locate {path} shows where, with this line as its input)\n"))
 
 

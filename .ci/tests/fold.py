@@ -10,7 +10,8 @@ import unittest
 from typing import List, Optional
 
 TOP = os.path.dirname(os.path.dirname(os.path.dirname(os.path.abspath(__file__))))
-sys.path.insert(0, os.path.join(TOP, "tools"))
+sys.path[:0] = [os.path.join(TOP, "tools"), os.path.join(TOP, ".ci")]
+import tool_calls
 from algorithms.collectives import Wish
 from algorithms.table import ALGORITHMS
 from common import command, folding, program
@@ -206,7 +207,7 @@ class Words(unittest.TestCase):
     schedule = "num_ranks 4\nrank 0 { send 1000b to 2 }\nrank 1 { send 1000b to 3 }\nrank 2 { recv 1000b from 0 }\nrank 3 { recv 1000b from 1 }\n"
 
     def ended(self, tool: str, *words: str, text: str = "", cwd: Optional[str] = None) -> "subprocess.CompletedProcess[str]":
-        return subprocess.run([os.path.join(TOP, "tools", tool), *words], input=text, capture_output=True, text=True, check=False, cwd=cwd)
+        return tool_calls.called(tool, *words, given=text, cwd=cwd)
 
     def test_the_folded_text_the_run_and_a_picture(self) -> None:
         with tempfile.TemporaryDirectory() as folder:

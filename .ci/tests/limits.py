@@ -9,7 +9,8 @@ import tempfile
 import unittest
 
 TOP = os.path.dirname(os.path.dirname(os.path.dirname(os.path.abspath(__file__))))
-sys.path.insert(0, os.path.join(TOP, "tools"))
+sys.path[:0] = [os.path.join(TOP, "tools"), os.path.join(TOP, ".ci")]
+import tool_calls
 from common import program
 
 EXAMPLES = os.path.join(TOP, "examples")
@@ -62,8 +63,8 @@ class Limits(unittest.TestCase):
                     file.write(text)
             os.chmod(files["goal"], 0o755)
             for tool, words, why in KEPT:
-                called = [os.path.join(tools, tool), *(files.get(word, word).replace("=ALL", f"={files['ALL']}") for word in words.split())]
-                done = subprocess.run(called, env={**os.environ, "GOAL": files["goal"]}, stdin=subprocess.DEVNULL, capture_output=True, text=True, check=False)
+                given = [files.get(word, word).replace("=ALL", f"={files['ALL']}") for word in words.split()]
+                done = tool_calls.called(tool, *given, env={**os.environ, "GOAL": files["goal"]})
                 with self.subTest(f"{tool} {words}"):
                     self.assertEqual((done.returncode, done.stdout, done.stderr.count("\n")), (2, "", 1), done.stderr)
                     self.assertTrue(done.stderr.replace(folder + "/", "").startswith(f"{tool}: {why}"), done.stderr)

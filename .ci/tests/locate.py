@@ -10,7 +10,8 @@ import tempfile
 import unittest
 
 TOP = os.path.dirname(os.path.dirname(os.path.dirname(os.path.abspath(__file__))))
-sys.path.insert(0, os.path.join(TOP, "tools"))
+sys.path[:0] = [os.path.join(TOP, "tools"), os.path.join(TOP, ".ci")]
+import tool_calls
 from common import program
 from common.places import line_and_column, operations
 
@@ -26,7 +27,7 @@ rank 1 { }"""
 
 
 def located(*words: str, text: bytes | None = None) -> subprocess.CompletedProcess[bytes]:
-    return subprocess.run([os.path.join(TOP, "tools", "locate"), *words], input=text, capture_output=True, check=False)
+    return tool_calls.called_with_bytes("locate", *words, given=text)
 
 
 class Operations(unittest.TestCase):

@@ -10,7 +10,8 @@ import tempfile
 import unittest
 
 TOP = os.path.dirname(os.path.dirname(os.path.dirname(os.path.abspath(__file__))))
-sys.path.insert(0, os.path.join(TOP, "tools"))
+sys.path[:0] = [os.path.join(TOP, "tools"), os.path.join(TOP, ".ci")]
+import tool_calls
 from common import program
 
 GOAL = program.chosen()
@@ -19,7 +20,7 @@ BOUNDS = "inside a\nbetween b\n"
 
 
 def written(description: str) -> subprocess.CompletedProcess[str]:
-    return subprocess.run([os.path.join(TOP, "tools", "machine"), "-"], input=description, capture_output=True, text=True, check=False)
+    return tool_calls.called("machine", "-", given=description)
 
 
 def latencies(machine: str, ranks: int, pairs: list[tuple[int, int]]) -> list[int]:

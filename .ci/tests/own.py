@@ -10,7 +10,8 @@ import unittest
 from typing import Callable, List, Tuple
 
 TOP = os.path.dirname(os.path.dirname(os.path.dirname(os.path.abspath(__file__))))
-sys.path.insert(0, os.path.join(TOP, "tools"))
+sys.path[:0] = [os.path.join(TOP, "tools"), os.path.join(TOP, ".ci")]
+import tool_calls
 import segmented
 from algorithms.own import own_algorithm
 from algorithms.collectives import Wish
@@ -23,7 +24,7 @@ HEAD = "from algorithms.plan import Message, Plan, cut\n"
 
 
 def ended(tool: str, *words: str) -> "subprocess.CompletedProcess[str]":
-    return subprocess.run([os.path.join(TOP, "tools", tool), *words], capture_output=True, text=True, check=False)
+    return tool_calls.called(tool, *words)
 
 
 class Example(unittest.TestCase):

@@ -9,7 +9,8 @@ import unittest
 from typing import List
 
 TOP = os.path.dirname(os.path.dirname(os.path.dirname(os.path.abspath(__file__))))
-sys.path[:0] = [os.path.join(TOP, "tools"), os.path.join(TOP, ".ci", "tests")]
+sys.path[:0] = [os.path.join(TOP, "tools"), os.path.join(TOP, ".ci", "tests"), os.path.join(TOP, ".ci")]
+import tool_calls
 from causes import causes_of, drawn_machine, drawn_parameters, drawn_schedule, loaded
 from common import program
 from common.chain import chain_to, end_of, shares_of
@@ -22,7 +23,7 @@ CARDS = "class memory L=300 o=200 g=100 G=0.100\nclass cable L=1500 o=400 g=300 
 
 
 def path(*words: str, text: str = "") -> "subprocess.CompletedProcess[str]":
-    return subprocess.run([os.path.join(TOP, "tools", "path"), *words], input=text, capture_output=True, text=True, check=False)
+    return tool_calls.called("path", *words, given=text)
 
 
 def shares_shown(lines: List[str]) -> int:

@@ -4,18 +4,22 @@ from __future__ import annotations
 
 import os
 import subprocess
+import sys
 import tempfile
 import unittest
 import xml.etree.ElementTree
 
 TOP = os.path.dirname(os.path.dirname(os.path.dirname(os.path.abspath(__file__))))
+sys.path.insert(0, os.path.join(TOP, ".ci"))
+import tool_calls
+
 SVG = "{http://www.w3.org/2000/svg}"
 TABLE = "name,S,finish,stuck,protocol\na,1024,10,0,eager\na,65536,20,0,rendezvous\nb,1024,30,0,eager\nb,65536,30,0,eager\n"
 OTHER = "name,more,S,finish,stuck,protocol\nc,1,1024,10,0,eager\nc,1,65536,20,0,eager\nc,1,2048,,,\nb,,4096,5,2,eager\n"
 
 
 def plot(*words: str, text: str = "") -> subprocess.CompletedProcess[str]:
-    return subprocess.run([os.path.join(TOP, "tools", "plot"), *words], input=text, capture_output=True, text=True, check=False)
+    return tool_calls.called("plot", *words, given=text)
 
 
 class Pictures(unittest.TestCase):

@@ -13,7 +13,8 @@ import unittest
 from typing import Callable, Iterator
 
 TOP = os.path.dirname(os.path.dirname(os.path.dirname(os.path.abspath(__file__))))
-sys.path.insert(0, os.path.join(TOP, "tools"))
+sys.path[:0] = [os.path.join(TOP, "tools"), os.path.join(TOP, ".ci")]
+import tool_calls
 import segmented
 from algorithms.collectives import Wish, bcast_chain
 from algorithms.table import ALGORITHMS, Algorithm
@@ -304,7 +305,7 @@ class Words(unittest.TestCase):
             file.write(text)
             file.flush()
             words = tuple(file.name if word == "FILE" else word for word in words)
-            return subprocess.run([os.path.join(TOP, "tools", "segments"), *words], capture_output=True, text=True, check=False)
+            return tool_calls.called("segments", *words)
 
     def test_lines_and_statuses(self) -> None:
         text = "".join(bcast_chain(Wish(3, 100, 1, segments=2)).text())
@@ -339,8 +340,7 @@ class Words(unittest.TestCase):
     def test_standard_input(self) -> None:
         text = "".join(bcast_chain(Wish(3, 100, segments=2)).text())
         for name in ("-", "/dev/stdin"):
-            ended = subprocess.run([os.path.join(TOP, "tools", "segments"), "bcast", name], input=text, capture_output=True,
-                                   text=True, check=False)
+            ended = tool_calls.called("segments", "bcast", name, given=text)
             self.assertEqual((ended.returncode, ended.stdout.splitlines()[-1]), (0, "certified bcast ranks 3 segments 2"))
 
     def test_what_is_wrong_is_told_in_one_line(self) -> None:

@@ -11,7 +11,8 @@ import tempfile
 import unittest
 
 TOP = os.path.dirname(os.path.dirname(os.path.dirname(os.path.abspath(__file__))))
-sys.path.insert(0, os.path.join(TOP, "tools"))
+sys.path[:0] = [os.path.join(TOP, "tools"), os.path.join(TOP, ".ci")]
+import tool_calls
 from common import command, program
 
 
@@ -42,26 +43,23 @@ class Tools(unittest.TestCase):
         return subprocess.run([os.path.join(TOP, "tools", name), *words], stdin=subprocess.DEVNULL, capture_output=True,
                               text=True, check=False)
 
-    def test_each_has_a_help(self) -> None:
+    def test_each_has_a_help_and_no_option_is_abbreviated(self) -> None:
+        """Of a long option of each tool, all but its last letter: all options of a tool are read alike."""
         for name in self.names():
             with self.subTest(name):
                 ended = self.ended(name, "--help")
                 self.assertEqual((ended.returncode, ended.stderr), (0, ""))
                 self.assertIn("proved", ended.stdout)
-
-    def test_no_option_is_abbreviated(self) -> None:
-        """Of a long option of each tool, all but its last letter: all options of a tool are read alike."""
-        for name in self.names():
-            options = set(re.findall(r"--[A-Za-z][A-Za-z-]*", self.ended(name, "--help").stdout))
-            option = max(sorted(options), key=len)
-            ended = self.ended(name, "x", option[:-1], "1")
-            self.assertEqual((ended.returncode, ended.stdout, ended.stderr.count("\n")), (2, "", 1), (name, option))
+                option = max(sorted(set(re.findall(r"--[A-Za-z][A-Za-z-]*", ended.stdout))), key=len)
+                ended = self.ended(name, "x", option[:-1], "1")
+                self.assertEqual((ended.returncode, ended.stdout, ended.stderr.count("\n")), (2, "", 1), option)
 
     def test_an_output_that_is_closed_or_full_is_one_line_and_status_2(self) -> None:
-        works = self.works()
+        """Of each tool the help to an output that is closed, and what it writes to one that is full; of one tool both to both."""
+        works, closed, full = self.works(), (">&-", "it is closed"), (">/dev/full", "No space left on device")
         for name in self.names():
-            for words in (["--help"], works[name]):
-                for output, why in ((">&-", "it is closed"), (">/dev/full", "No space left on device")):
+            for words, outputs in ((["--help"], [closed, full][:1 + (name == "path")]), (works[name], [full, closed][:1 + (name == "path")])):
+                for output, why in outputs:
                     call = " ".join(shlex.quote(word) for word in [os.path.join(TOP, "tools", name), *words])
                     ended = subprocess.run(["bash", "-c", f"{call} {output}"], stdin=subprocess.DEVNULL, capture_output=True, text=True, check=False)
                     told = [line for line in ended.stderr.splitlines() if "standard output" in line]
@@ -69,13 +67,13 @@ class Tools(unittest.TestCase):
                     self.assertNotIn("Traceback", ended.stderr)
 
     def test_standard_input_is_a_file_everywhere(self) -> None:
-        """By both of its names, a text and, of a schedule, a compiled file."""
+        """A text by both of its names and, of a schedule, a compiled file by one."""
         for name, words in self.works().items():
             for place, word in enumerate(words):
                 key, equals, path = word.rpartition("=")
                 if not path.startswith(os.path.join(TOP, "examples")):
                     continue
-                wanted = self.ended(name, *words)
+                wanted = tool_calls.called(name, *words)
                 with open(path, "rb") as file:
                     contents = [file.read()]
                 if "exchange" in path and name != "locate":
@@ -83,9 +81,9 @@ class Tools(unittest.TestCase):
                         program.call(program.chosen(), ["compile", path, file.name])
                         contents.append(file.read())
                 for content in contents:
-                    for one in ("-", "/dev/stdin"):
+                    for one in ("-", "/dev/stdin")[:1 + (content == contents[0])]:
                         given = [*words[:place], f"{key}{equals}{one}", *words[place + 1:]]
-                        ended = subprocess.run([os.path.join(TOP, "tools", name), *given], input=content, capture_output=True, check=False)
+                        ended = tool_calls.called_with_bytes(name, *given, given=content)
                         self.assertEqual((ended.returncode, ended.stderr.decode()), (wanted.returncode, wanted.stderr), (name, given))
                         if content == contents[0]:
                             self.assertEqual(ended.stdout.decode().replace("standard input", path).replace(one, path), wanted.stdout.replace(one, path), (name, given))

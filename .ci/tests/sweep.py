@@ -15,7 +15,8 @@ from decimal import Decimal
 from typing import Any
 
 TOP = os.path.dirname(os.path.dirname(os.path.dirname(os.path.abspath(__file__))))
-sys.path.insert(0, os.path.join(TOP, "tools"))
+sys.path[:0] = [os.path.join(TOP, "tools"), os.path.join(TOP, ".ci")]
+import tool_calls
 from common import program
 
 SVG = "{http://www.w3.org/2000/svg}"
@@ -23,7 +24,7 @@ EXCHANGE = os.path.join(TOP, "examples", "exchange")
 
 
 def sweep(*words: str, text: str = "") -> subprocess.CompletedProcess[str]:
-    return subprocess.run([os.path.join(TOP, "tools", "sweep"), *words], input=text, capture_output=True, text=True, check=False)
+    return tool_calls.called("sweep", *words, given=text)
 
 
 def table(*words: str) -> list[list[str]]:
@@ -338,9 +339,9 @@ class Scaled(unittest.TestCase):
             for path, rate in ((fine, "0.0025"), (usual, "0.080")):
                 with open(path, "w", encoding="utf-8") as file:
                     file.write(f"class a L=1500 o=400 g=300 G={rate} S=64K\nnodes 2 of 1\ninside a\nbetween a\n")
-            made = subprocess.run([os.path.join(TOP, "tools", "machine"), usual], stdout=subprocess.PIPE, check=True).stdout
-            with open(usual, "wb") as written:
-                written.write(made)
+            made = tool_calls.called("machine", usual).stdout
+            with open(usual, "w", encoding="utf-8") as file:
+                file.write(made)
             words = ["algorithm=bcast-chain", "ranks=2", "size=100001", "segments=3", "--wait", "--shares"]
             wanted = self.results(*words, "L=1500", "o=400", "g=300", "S=64K", "G=0.0025,0.080")
             self.assertEqual([line[0] for line in wanted], ["3183.4", "10900"])
@@ -381,12 +382,12 @@ class Shares(unittest.TestCase):
     def test_they_are_those_of_tools_path(self) -> None:
         with open(self.made, "w", encoding="utf-8") as file:
             words = "allreduce-two-level 128 1000 --node 16 --sum-ps 30".split()
-            subprocess.run([os.path.join(TOP, "tools", "schedule"), *words], stdout=file, check=True)
+            file.write(tool_calls.called("schedule", *words).stdout)
         words = ["algorithm=allreduce-two-level", "ranks=128", "size=1000", "node=16", "sum-ps=30"]
         for of_sweep, of_path in ((["machine=" + self.cluster], ["--machine", self.cluster]),
                                   (["L=700", "o=90", "g=1200", "G=0.080", "O=1", "S=300"],
                                    "--L 700 --o 90 --g 1200 --G 0.080 --O 1 --S 300".split())):  # fmt: skip
-            path = subprocess.run([os.path.join(TOP, "tools", "path"), self.made, *of_path], capture_output=True, text=True, check=True).stdout
+            path = tool_calls.called("path", self.made, *of_path).stdout
             wanted = dict.fromkeys(self.NAMES, 0)
             for line in path[path.index("\nof ") :].splitlines():
                 if line.startswith("  "):

@@ -10,7 +10,8 @@ import unittest
 import xml.etree.ElementTree
 
 TOP = os.path.dirname(os.path.dirname(os.path.dirname(os.path.abspath(__file__))))
-sys.path.insert(0, os.path.join(TOP, "tools"))
+sys.path[:0] = [os.path.join(TOP, "tools"), os.path.join(TOP, ".ci")]
+import tool_calls
 from common import program
 from common.canonical import Key, read_canonical
 from common.parameters import Alike, machine_of, options_of, parameters_of
@@ -36,7 +37,7 @@ def stories(name: str, ranks: range | None = None, **options: int) -> dict[Key, 
 
 
 def timeline(*words: str, text: str | None = None) -> subprocess.CompletedProcess[str]:
-    return subprocess.run([os.path.join(TOP, "tools", "timeline"), *words], input=text or "", capture_output=True, text=True, check=False)
+    return tool_calls.called("timeline", *words, given=text)
 
 
 class Stories(unittest.TestCase):

@@ -4,14 +4,14 @@ from __future__ import annotations
 
 import json
 import os
-import subprocess
 import sys
 import tempfile
 import unittest
 from typing import Any
 
 TOP = os.path.dirname(os.path.dirname(os.path.dirname(os.path.abspath(__file__))))
-sys.path.insert(0, os.path.join(TOP, "tools"))
+sys.path[:0] = [os.path.join(TOP, "tools"), os.path.join(TOP, ".ci")]
+import tool_calls
 from common import program
 
 EXAMPLES = os.path.join(TOP, "examples")
@@ -25,7 +25,8 @@ FIELDS = {
 
 
 def events(*words: str) -> Any:
-    done = subprocess.run([os.path.join(TOP, "tools", "trace"), *words], capture_output=True, text=True, check=True)
+    done = tool_calls.called("trace", *words)
+    assert done.returncode == 0, done.stderr
     whole = json.loads(done.stdout)
     assert set(whole) == {"displayTimeUnit", "traceEvents"} and whole["displayTimeUnit"] == "ns"
     return whole["traceEvents"]
@@ -109,8 +110,7 @@ class Content(unittest.TestCase):
         self.assertIn("b", [event["args"].get("label") for event in trace if event["ph"] == "X" and "args" in event])
 
     def test_a_file_that_can_not_be_written_is_told_first(self) -> None:
-        done = subprocess.run([os.path.join(TOP, "tools", "trace"), os.path.join(EXAMPLES, "exchange"), "-o", "/no/such/file", "--goal", "/no/such"],
-                              capture_output=True, text=True, check=False)
+        done = tool_calls.called("trace", os.path.join(EXAMPLES, "exchange"), "-o", "/no/such/file", "--goal", "/no/such")
         self.assertEqual((done.returncode, done.stderr), (2, "trace: /no/such/file: No such file or directory\n"))
 
     def test_what_a_span_shows_is_not_said_again(self) -> None:
@@ -124,9 +124,9 @@ class Content(unittest.TestCase):
         with tempfile.NamedTemporaryFile("w", suffix=".goal") as file:
             file.write(program.call(program.chosen(), ["gen", "allreduce", "64", "100000"]).out)
             file.flush()
-            words = [os.path.join(TOP, "tools", "trace"), file.name]
-            text = subprocess.run(words, capture_output=True, text=True, check=True).stdout
-        self.assertLess(len(text), 430 * 64 * (6 + 6 + 6))
+            done = tool_calls.called("trace", file.name)
+        self.assertEqual(done.returncode, 0, done.stderr)
+        self.assertLess(len(done.stdout), 430 * 64 * (6 + 6 + 6))
 
     def test_what_is_stuck(self) -> None:
         names = [event["name"] for event in events(os.path.join(EXAMPLES, "both_send_first"))]

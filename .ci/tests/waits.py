@@ -9,7 +9,8 @@ import unittest
 from typing import Dict
 
 TOP = os.path.dirname(os.path.dirname(os.path.dirname(os.path.abspath(__file__))))
-sys.path[:0] = [os.path.join(TOP, "tools"), os.path.join(TOP, ".ci", "tests")]
+sys.path[:0] = [os.path.join(TOP, "tools"), os.path.join(TOP, ".ci", "tests"), os.path.join(TOP, ".ci")]
+import tool_calls
 from causes import drawn_parameters, drawn_schedule
 from common import program
 from common.parameters import DEFAULTS, words_of
@@ -20,7 +21,7 @@ SEED, ROUNDS = 20261204, 12
 
 
 def waits(*words: str, text: str = "") -> "subprocess.CompletedProcess[str]":
-    return subprocess.run([os.path.join(TOP, "tools", "waits"), *words], input=text, capture_output=True, text=True, check=False)
+    return tool_calls.called("waits", *words, given=text)
 
 
 def machine(options: Dict[str, int], ranks: int) -> str:
