@@ -145,7 +145,7 @@ def words_fault(words: Sequence[str]) -> Optional[str]:
         if name not in options:
             return f"word {place}: {shown(name)} is no option of {words[0]}" + (near(name, tuple(options)) if options else ", which has none")
         if name in given:
-            return f"word {place}: {name} stands twice"
+            return f"word {place}: {name} is given twice"
         given.add(name)
         root = place if name == "--root" else root
         if not equals:

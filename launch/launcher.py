@@ -60,15 +60,15 @@ class Proof:
         failed = text_of(FAILED)
         is_over = self.is_begun or not self.is_tried_again
         if failed and is_over and sources.is_of(failed):
-            say(f"not proved: {failed.split(chr(10), 2)[2]}. GOAL_PROVED=1 tries it again; log {LOG}")
+            say(f"not proved: {failed.split(chr(10), 2)[2]}. See {LOG}; GOAL_PROVED=1 tries it again")
             sys.exit(NO_PROOF)
         if self.is_begun and not failed and sources.is_as_begun():
-            say(f"the proof was stopped, and the next call takes it up again; log {LOG}")
+            say(f"the proof was stopped, and the next call continues it (log: {LOG})")
             sys.exit(NO_PROOF)
         if not self.is_begun and sources.is_left():
             if is_taken_from_gate():
                 return sources.is_current()
-            say("rt ci kept nothing that says that the program here is of these sources, so they are proved again")
+            say("rt ci left no record of which sources its program is from, so they are proved again")
         self.begin(lock)
         return False
 
@@ -166,7 +166,7 @@ class Call:
                     turn.close()
                 status = trial.status(proof.how_far())
                 if status is None:
-                    say("the sources give no answer without a proof (one of more than 1 MiB or a minute, say)")
+                    say("no answer from the sources (it may take over a minute, or be over 1 MiB): it comes after the proof")
                 return status
             time.sleep(LOOK_SECONDS)
         say("the proof is done: the proved program answers")
@@ -254,7 +254,7 @@ def main(words: list[str]) -> int:
         if words[:1] == ["--"] and sources.is_current():
             become(words[1:])
         if not shutil.which("rt") and not sources.is_current():
-            say("the command rt is not here. It comes with the Rattle kit, which proves and builds this program.")
+            say("no proved program, and rt is not on the PATH: install the Rattle kit, which proves and builds it")
             return NO_PROOF
         return where() if words == ["--where"] else answer(words[1:])
     except OSError as error:

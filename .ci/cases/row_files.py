@@ -132,7 +132,7 @@ def with_line(row: Row, line: str) -> Row:
     if sign == "wrote":
         name, _, value = rest.partition(": ")
         return replace(row, wrote=(*row.wrote, (name, value)))
-    raise RowFault(f"{row.place}: no line of a row: {line}")
+    raise RowFault(f"{row.place}: this is not a line of a row: {line}")
 
 
 def choices_of(withs: tuple[str, ...]) -> list[dict[str, str]]:
@@ -195,5 +195,5 @@ def rows_of(path: Path) -> tuple[list[Made], list[Row]]:
     whole = [one for row in rows for one in ([filled(row, it) for it in choices_of(row.withs)] if row.withs else [row])]
     for row in whole:
         if row.words is None:
-            raise RowFault(f"{row.place}: the row has no call, a line that begins with $")
+            raise RowFault(f"{row.place}: the row has no call: add a line that begins with $")
     return shared, whole

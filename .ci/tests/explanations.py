@@ -43,7 +43,7 @@ class Lines(unittest.TestCase):
                 ("gen bcast 0 8", "word 3: 0 is not from 1 to 65536, in ranks."),
                 ("sin x", "word 1: sin is no command: is it sim?"), ("frobnicate", "word 1: frobnicate is no command: it is one of sim waits"),
                 ("sim x --s 5", "word 3: --s is no option of sim: is it --S?"), ("show x --L 5", "word 3: --L is no option of show, which has none."),
-                ("sim x --L 5 --L=6", "word 5: --L stands twice."), ("sim x --L", "word 3: after --L its number is missing."),
+                ("sim x --L 5 --L=6", "word 5: --L is given twice."), ("sim x --L", "word 3: after --L its number is missing."),
                 ("nodes x", "MACHINE is missing. The form is: goal nodes NAME MACHINE"), ("sim x y", "word 3: y is a word too many."),
                 ("certify x bcast", "word 2: x is no KIND; KIND goes before NAME."), ("gen bcst 8 8", "word 2: bcst is no KIND: is it bcast?"),
                 ("gen scan 8 8 --root 1", "word 5: --root goes with bcast reduce gather scatter alone, and not with scan."),

@@ -189,9 +189,9 @@ class Refused(unittest.TestCase):
                  "operation 0 of rank 2, a receive from any, can not be folded: its message may come from its node or over a card"),
                 ("num_ranks 3", "nodes 2 of 2", ONE, "the machine has 4 ranks, and the schedule has 3"),
                 ("num_ranks 300 " + " ".join(f"rank {rank} {{ calc 1 }}" for rank in range(300)), "nodes 1 of 300", ONE,
-                 "node 0 needs 300 cpus, and a rank has at most 256"),
+                 "node 0 needs 300 cpus, and has at most 256"),
                 ("num_ranks 256 " + " ".join(f"rank {rank} {{ send 1b to {rank} nic 1 send 1b to {rank} }}" for rank in range(256)), "nodes 1 of 256",
-                 OWN, "node 0 needs 512 cards and paths inside, and a rank has at most 256")):
+                 OWN, "node 0 needs 512 cards and paths inside, and has at most 256")):
             with self.assertRaises(command.Fault) as told:
                 run_by(text, read("", CLASSES + nodes), cards)
             self.assertTrue(str(told.exception).startswith(why), str(told.exception))
@@ -238,7 +238,7 @@ class Words(unittest.TestCase):
             file.flush()
             ended = self.ended("fold", "-", file.name, "--run", text="num_ranks 4 rank 0 { recv 8b from 1 }")
             self.assertEqual((ended.returncode, ended.stdout.splitlines()[-1]), (1, "stuck 0 0 alone"))
-            for words, why in ((["--cards", "0"], "a node has at least one card"), (["--cards", "2 in row"], "it is `cards own`"),
+            for words, why in ((["--cards", "0"], "`cards 0`: a node has at least one card"), (["--cards", "2 in row"], "write `cards own`"),
                                (["--placement", "none"], "argument --placement")):
                 ended = self.ended("fold", "-", file.name, *words, text="num_ranks 4")
                 self.assertEqual((ended.returncode, ended.stderr.count("\n")), (2, 1))

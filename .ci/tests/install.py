@@ -194,7 +194,7 @@ class Removing(Place):
         self.refused(self.install("--remove", self.prefix), "nothing is installed at")
         os.makedirs(os.path.join(self.prefix, "lib/goal"))
         self.write(os.path.join(self.prefix, "lib/goal/manifest"), "../checkout/goal\n")
-        self.refused(self.install("--remove", self.prefix), "is no manifest")
+        self.refused(self.install("--remove", self.prefix), "is not a manifest")
         self.assertTrue(os.path.exists(os.path.join(self.checkout, "goal")))
 
 
@@ -250,7 +250,7 @@ class Refused(Place):
     def test_what_another_has_put_there(self) -> None:
         os.makedirs(os.path.join(self.prefix, "bin"))
         self.write(os.path.join(self.prefix, "bin", "goal"), "")
-        self.nothing("bin/goal is there, and was not installed by this")
+        self.nothing("bin/goal exists and is not part of an installation")
 
     def test_a_place_that_cannot_be_written(self) -> None:
         self.write(self.prefix, "")

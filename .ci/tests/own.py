@@ -95,16 +95,16 @@ class Plans(unittest.TestCase):
     def test_what_can_not_be_is_a_fault(self) -> None:
         plan = Plan(2, [8])
         cases: List[Tuple[Callable[[], object], str]] = [
-                (lambda: plan.exchange([Message(0, 2, [0])]), "a rank is 2: it is 0 to 1"),
-                (lambda: plan.exchange([Message(-1, 1, [0])]), "a rank is -1: it is 0 to 1"),
-                (lambda: plan.exchange([Message(0, 1, [0.5])]), "a slot is 0.5, and no whole number"),  # type: ignore[list-item]
+                (lambda: plan.exchange([Message(0, 2, [0])]), "a rank is 2: give 0 to 1"),
+                (lambda: plan.exchange([Message(-1, 1, [0])]), "a rank is -1: give 0 to 1"),
+                (lambda: plan.exchange([Message(0, 1, [0.5])]), "a slot is 0.5: give a whole number"),  # type: ignore[list-item]
                 (lambda: plan.exchange([Message(0, 1, [0], [0, 1])]), "a message of 1 slots into 2"),
                 (lambda: plan.exchange([Message(0, 1, [3])]), "slot 3 has no size, as the plan has 1 sizes"),
-                (lambda: plan.exchange([Message(0, 1, [0], nic=256)]), "the nic of a message is 256: it is 0 to 255"),
+                (lambda: plan.exchange([Message(0, 1, [0], nic=256)]), "the nic of a message is 256: give 0 to 255"),
                 (lambda: plan.exchange([Message(0, 1, [0], size=-1)]), "the size of a message is -1"),
                 (lambda: plan.add(2, [(0, 0)]), "a rank is 2"), (lambda: plan.add(0, [(0, -1)]), "a slot is -1"),
                 (lambda: plan.calc(0, -1), "the cost of a calc is -1"), (lambda: plan.spare(2, 1), "a rank is 2"),
-                (lambda: Plan(0, [8]), "the number of ranks is 0: it is 1 to 65536"), (lambda: Plan(2, [-8]), "the size of a slot is -8")]
+                (lambda: Plan(0, [8]), "the number of ranks is 0: give 1 to 65536"), (lambda: Plan(2, [-8]), "the size of a slot is -8")]
         for call, why in cases:
             with self.assertRaises(command.Fault) as told:
                 call()
@@ -140,22 +140,22 @@ class Mistakes(unittest.TestCase):
 
     def test_each_is_reported_with_its_line(self) -> None:
         body = HEAD + "def mine(ranks, size):\n    plan = Plan(ranks, [size])\n"
-        self.check(body + "    plan.exchange([Message(0, ranks, [0])])\n    return plan\n", ":4: a rank is 4: it is 0 to 3")
+        self.check(body + "    plan.exchange([Message(0, ranks, [0])])\n    return plan\n", ":4: a rank is 4: give 0 to 3")
         self.check(body + "    plan.exchange(\n        [Message(0, rank, [0])])\n    return plan\n", ":5: NameError: name 'rank' is not defined")
         self.check(body + "    return plan\n  return\n", ":5: unindent does not match any outer indentation level")
-        self.check(body + "    return [plan]\n", ": mine returns list, and no Plan")
+        self.check(body + "    return [plan]\n", ": mine returns list: it has to return the Plan")
         self.check(body + "    return plan.exchange(5)\n", ":4: TypeError: 'int' object is not iterable")
         self.check(body + "    raise SystemExit(3)\n", ":4: SystemExit: 3")
         self.check(body + "    return mine(ranks, size)\n", ":4: RecursionError: |:3: RecursionError: ")
         self.check("import no_such_module\n" + body, ":1: ModuleNotFoundError: No module named 'no_such_module'")
         self.check(HEAD + "def other(ranks, size): pass\n", " has no function mine")
         self.check(HEAD + "mine = 5\n", " has no function mine")
-        self.check(HEAD + "\ndef mine(count, size): pass\n", ":3: the first parameters of mine are `ranks` and `size`")
-        self.check(HEAD + "def mine(ranks, size, depth=3): pass\n", ":2: mine takes 'depth', and an algorithm takes ranks, size and of root")
+        self.check(HEAD + "\ndef mine(count, size): pass\n", ":3: mine has to begin with the parameters `ranks` and `size`")
+        self.check(HEAD + "def mine(ranks, size, depth=3): pass\n", ":2: mine takes 'depth': after ranks and size an algorithm can take root")
 
     def test_an_option_that_it_does_not_take(self) -> None:
         done = ended("schedule", EXAMPLE + ":direct", "4", "64", "--root", "1")
-        self.assertEqual((done.returncode, done.stderr), (2, f"schedule: {EXAMPLE}:direct takes no --root\n"))
+        self.assertEqual((done.returncode, done.stderr), (2, f"schedule: {EXAMPLE}:direct takes no --root: leave it out (--list has the options of each)\n"))
 
     def test_a_file_that_is_not_there(self) -> None:
         for tool, words in (("schedule", ["/no/file.py:mine", "4", "64"]), ("sweep", ["algorithm=/no/file.py:mine", "ranks=4", "size=64"])):

@@ -46,9 +46,9 @@ class Pictures(unittest.TestCase):
         self.assertTrue({"A", "B", "C (same as A)", "T", "finish, that of A is 1"} <= set(texts), texts)
 
     def test_faults_are_one_line(self) -> None:
-        for words, why in ((["--by", "more"], "two rows of the curve"), (["--by", "name", "--labels", "A"], "1 labels, and there are 3 curves"),
-                           (["--by", "name", "--ratio", "x"], "--ratio x: the curves are"), (["--y", "none"], "there is no column none"),
-                           (["--y", "protocol", "--by", "name"], "protocol: eager is no number"), (["-o", "/no/such/picture"], "/no/such/picture: No such file")):
+        for words, why in ((["--by", "more"], "two rows of the curve"), (["--by", "name", "--labels", "A"], "1 labels for 3 curves"),
+                           (["--by", "name", "--ratio", "x"], "--ratio x is not the name of a curve"), (["--y", "none"], "there is no column none"),
+                           (["--y", "protocol", "--by", "name"], "protocol: eager is not a number"), (["-o", "/no/such/picture"], "/no/such/picture: No such file")):
             done = plot(*self.paths, "--x", "S", *words)
             self.assertEqual((done.returncode, done.stdout, done.stderr.count("\n")), (2, "", 1), done.stderr)
             self.assertIn(why, done.stderr)

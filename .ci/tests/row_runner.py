@@ -89,7 +89,7 @@ class Rows(Runners):
     def test_a_name_chooses_rows(self) -> None:
         self.assertEqual(self.ran("rows", PASSES + FAILS, "goo")[:2], (0, "row good: ok\n1 passed, 0 failed\n"))
         self.assertEqual(self.ran("rows", PASSES + FAILS, "--list", "some")[:2], (0, "good\nbad\n"))
-        self.assertEqual(self.ran("rows", PASSES, "other"), (2, "", "rows: no row has such a name\n"))
+        self.assertEqual(self.ran("rows", PASSES, "other"), (2, "", "rows: no row or file of rows has the name other: .ci/rows --list has all\n"))
 
     def test_a_template_makes_rows(self) -> None:
         rows = "row {letter}{number}\nwith letter=a number=1..3\nwith letter='b c' number=7\n$ say {letter}-{number}\n> {letter}-{number}\n"
@@ -101,11 +101,11 @@ class Rows(Runners):
         self.assertEqual(self.ran("rows", rows, "--quiet"), (0, "2 passed, 0 failed\n", ""))
 
     def test_a_file_that_is_at_fault_ends_with_2(self) -> None:
-        for rows, fault in ((PASSES + PASSES, "two rows have one name: good"), ("row {n}\nwith n=1\nwith n=1\n$ say\n", "two rows have one name: 1"),
-                            (PASSES + "say 6\n", "some.rows:1: no line of a row: say 6"), ("row bad\n> 5\n", "some.rows:1: the row has no call, a line that begins with $"),
+        for rows, fault in ((PASSES + PASSES, "several rows have the same name, good: rename one"), ("row {n}\nwith n=1\nwith n=1\n$ say\n", "several rows have the same name, 1: rename one"),
+                            (PASSES + "say 6\n", "some.rows:1: this is not a line of a row: say 6"), ("row bad\n> 5\n", "some.rows:1: the row has no call: add a line that begins with $"),
                             ("$ say 5\n", "some.rows:1: before the first row there can only be file, bytes, make")):
             self.assertEqual(self.ran("rows", rows), (2, "", f"rows: {fault}\n"))
-        self.assertEqual(self.ran("mutants", PASSES, "other"), (2, "", "mutants: no row has such a name\n"))
+        self.assertEqual(self.ran("mutants", PASSES, "other"), (2, "", "mutants: no row or file of rows has the name other: .ci/rows --list has all\n"))
 
 
 class Mutants(Runners):

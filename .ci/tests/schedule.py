@@ -246,7 +246,7 @@ class Words(unittest.TestCase):
 
     def test_what_is_wrong_is_told_in_one_line(self) -> None:
         for words, why in (
-                ("bcast-chain 4 8 --root 4", "the root 4 is none of 4 ranks"),
+                ("bcast-chain 4 8 --root 4", "--root 4 is not one of 4 ranks"),
                 ("bcast-chain 4 8 --node 2", "bcast-chain takes no --node"),
                 ("barrier-tree 4 8 --sum-ps 2", "barrier-tree takes no --sum-ps"),
                 ("allgather-doubling 6 8", "allgather-doubling needs a power of two of ranks"),
@@ -254,7 +254,7 @@ class Words(unittest.TestCase):
                 ("bcast-chain 2 1099511627775 --segments 1", None),
                 ("gather-tree 4 1099511627775", "a message of 2199023255550 bytes: it has at most 1099511627775"),
                 ("allreduce-reduce-bcast 2 1099511627775 --sum-ps 999999999", "a sum of"),
-                ("bcast-chain 0 8", "argument RANKS: '0' is no number of ranks from 1 up to 65536"),
+                ("bcast-chain 0 8", "argument RANKS: '0' is not a number of ranks from 1 to 65536"),
                 ("bcast-line 4 8", "argument ALGORITHM: invalid choice")):
             ended = self.ended(*words.split())
             if why is None:

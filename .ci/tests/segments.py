@@ -348,7 +348,7 @@ class Words(unittest.TestCase):
         for text, words, why in (
                 ("num_ranks 1 rank", "bcast FILE 2", "goal: refused: text: syntax at 16"),
                 ("num_ranks 1", "barrier FILE 2 --root 0", "barrier has no root"),
-                ("num_ranks 3", "bcast FILE --root 3", "the root 3 is none of 3 ranks"),
+                ("num_ranks 3", "bcast FILE --root 3", "--root 3 is not a rank of this schedule"),
                 ("num_ranks 300", "allgather FILE 300", "300 segments of 300 slots"),
                 (ring, "bcast FILE 2", "2 segments of 1 slots leave out slot 2, which operation 2 of rank 0 moves"),
                 ("num_ranks 1", "bcast FILE 1 --width 1", "unrecognized arguments: --width 1"),

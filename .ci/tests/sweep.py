@@ -223,7 +223,7 @@ class Lasting(unittest.TestCase):
             assert running.stderr
             told = running.stderr.read().splitlines()[-1]
         self.assertEqual((running.returncode, told, os.listdir(self.folder)), (2, "sweep: standard output: No space left on device", []))
-        self.assertIn("/dev/full: no regular file", sweep(*self.WORDS, "--into", "/dev/full").stderr)
+        self.assertIn("/dev/full: not a regular file", sweep(*self.WORDS, "--into", "/dev/full").stderr)
 
     def test_a_file_that_cannot_grow_keeps_its_whole_rows(self) -> None:
         """A limit on the size of files stands for a full disk."""
@@ -259,7 +259,7 @@ class Lasting(unittest.TestCase):
         self.into("L=1,2")
         kept = self.read()
         for words, why in ((["L=1,3"], "rows.csv:3: a row of other axes: L is 2 there, and 3 in this grid"), (["o=1", "L=1,2"], "rows.csv:1: the columns are "),
-                           (["L=1"], "rows.csv:3: the grid has 1 points"), (["L=1,2", "--wait"], "rows.csv:1: the columns are ")):
+                           (["L=1"], "rows.csv:3: the grid has only 1 points"), (["L=1,2", "--wait"], "rows.csv:1: the columns are ")):
             done = self.into(*words)
             self.assertEqual((done.returncode, self.read()), (2, kept))
             self.assertIn(why, told(done)[0])
@@ -296,7 +296,7 @@ class Parameters(unittest.TestCase):
         for name in ("gather", "scatter"):
             done = sweep(f"algorithm={name}", "ranks=4", "size=8")
             self.assertEqual((done.returncode, done.stdout), (2, ""))
-            self.assertIn(f"take {name}-tree", done.stderr)
+            self.assertIn(f"give {name}-tree", done.stderr)
 
     def test_the_protocol(self) -> None:
         words = ["algorithm=bcast-chain", "ranks=3", "segments=4"]
@@ -352,7 +352,7 @@ class Scaled(unittest.TestCase):
 
     def test_limits_are_refused_before_any_run(self) -> None:
         for words, why in ((["G=0.0025", "L=1099511627775"], "L is 1099511627775: for a rate finer than a picosecond per byte all times are taken 10 times"),
-                           (["G=0.0000025"], "G: 0.0000025 is no number of ns per byte, with up to 6 decimals"),
+                           (["G=0.0000025"], "G: 0.0000025 is not a number of ns per byte, with up to 6 decimals"),
                            (["machine=-"], "-:1: L is 1099511627775: for a rate finer than a picosecond per byte all times are taken 10 times"),
                            (["O=0.00001", "G=1048575"], "G is 1048575: for a rate finer than a picosecond per byte all times are taken 100 times")):
             done = sweep(f"schedule={EXCHANGE}", *words, text="class a L=1099511627775 G=0.0025\nnodes 2 of 1\ninside a\nbetween a\n")
@@ -363,7 +363,7 @@ class Scaled(unittest.TestCase):
         with tempfile.NamedTemporaryFile("w") as file:
             file.write(f"num_ranks 1 rank 0 {{ calc {2**48 - 1} }}")
             file.flush()
-            self.assertIn("a calc is so long that 10 times as much", sweep(f"schedule={file.name}", "G=0.0025").stderr)
+            self.assertIn("a calc times 10 is over ", sweep(f"schedule={file.name}", "G=0.0025").stderr)
 
 
 class Shares(unittest.TestCase):
@@ -515,7 +515,7 @@ class Curves(unittest.TestCase):
 
     def test_too_many_are_refused_before_anything_runs(self) -> None:
         done = sweep("algorithm=bcast", "ranks=2..30+1", "size=1K,2K", "--x", "size", "--plot", "/no/such/picture", "--goal", "/no/such/program")
-        self.assertEqual((done.returncode, done.stdout, done.stderr), (2, "", "sweep: 29 curves: a picture has at most 20\n"))
+        self.assertEqual((done.returncode, done.stdout, done.stderr), (2, "", "sweep: 29 curves: a picture has at most 20, so give fewer values or another --x\n"))
 
     def test_the_step_to_rendezvous_is_marked(self) -> None:
         picture = self.drawn("algorithm=bcast", "ranks=8", "size=16K..256Kx2")

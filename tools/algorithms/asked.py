@@ -45,7 +45,7 @@ def plan_of(given: argparse.Namespace) -> Plan:
     options = {name: getattr(given, name) for name in OPTIONS if getattr(given, name) is not None}
     for name in options:
         if name not in taken:
-            raise command.Fault(f"{algorithm} takes no {OPTIONS[name]}")
+            raise command.Fault(f"{algorithm} takes no {OPTIONS[name]}: leave it out (--list has the options of each)")
     if options.get("root", 0) >= given.ranks:
-        raise command.Fault(f"the root {given.root} is none of {given.ranks} ranks")
+        raise command.Fault(f"--root {given.root} is not one of {given.ranks} ranks, from 0")
     return make(Wish(given.ranks, given.size, **options))  # type: ignore[no-any-return]

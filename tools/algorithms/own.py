@@ -27,7 +27,7 @@ def own_algorithm(word: str) -> Tuple[Callable[[Wish], Plan], Tuple[str, ...]]:
     """The algorithm FILE.py:NAME, and the options that its function takes."""
     found = WORD.fullmatch(word)
     if found is None:
-        raise Fault(f"{word} is no FILE.py:NAME")
+        raise Fault(f"{word}: write FILE.py:NAME")
     path, name = found.groups()
     source = command.read_file(path).decode("utf-8", "replace")
     with faults_of(path):
@@ -41,7 +41,7 @@ def own_algorithm(word: str) -> Tuple[Callable[[Wish], Plan], Tuple[str, ...]]:
         with faults_of(path):
             plan = function(wish.ranks, wish.size, **given)
         if not isinstance(plan, Plan):
-            raise Fault(f"{path}: {name} returns {type(plan).__name__}, and no Plan")
+            raise Fault(f"{path}: {name} returns {type(plan).__name__}: it has to return the Plan")
         return plan
 
     return make, options
@@ -66,12 +66,12 @@ def options_of(path: str, name: str, function: Callable[..., Any]) -> Tuple[str,
     try:
         names = list(inspect.signature(function).parameters)
     except (TypeError, ValueError):
-        raise Fault(f"{where}: {name} is no function") from None
+        raise Fault(f"{where}: {name} is not a function") from None
     if tuple(names[:2]) != FIRST:
-        raise Fault(f"{where}: the first parameters of {name} are `ranks` and `size`")
+        raise Fault(f"{where}: {name} has to begin with the parameters `ranks` and `size`")
     for other in names[2:]:
         if other not in OPTIONS:
-            raise Fault(f"{where}: {name} takes {other!r}, and an algorithm takes ranks, size and of {', '.join(OPTIONS)} what it needs")
+            raise Fault(f"{where}: {name} takes {other!r}: after ranks and size an algorithm can take {', '.join(OPTIONS)}")
     return tuple(names[2:])
 
 

@@ -226,7 +226,7 @@ class Plan:
         for slot in (*message.slots, *(message.into or ())):
             check("a slot", slot, MOST_SLOT)
         if message.into is not None and len(message.into) != len(message.slots):
-            raise Fault(f"a message of {len(message.slots)} slots into {len(message.into)}")
+            raise Fault(f"a message of {len(message.slots)} slots into {len(message.into)}: give as many in `into` as in `slots`")
         if message.size is None and any(slot >= len(self.sizes) for slot in message.slots):
             raise Fault(f"slot {max(message.slots)} has no size, as the plan has {len(self.sizes)} sizes: give the message a size")
         check("the cpu of a message", message.cpu, MOST_DEVICE)
@@ -274,7 +274,7 @@ class Plan:
 def check(what: str, number: object, most: int, least: int = 0) -> int:
     """The number, where it is a whole one within these limits."""
     if not isinstance(number, int):
-        raise Fault(f"{what} is {number!r}, and no whole number")
+        raise Fault(f"{what} is {number!r}: give a whole number")
     if not least <= number <= most:
-        raise Fault(f"{what} is {number}: it is {least} to {most}")
+        raise Fault(f"{what} is {number}: give {least} to {most}")
     return number

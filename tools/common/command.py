@@ -62,12 +62,17 @@ def parser(description: Optional[str], epilog: Optional[str] = None) -> Parser:
     return Parser(description=description, epilog=epilog, formatter_class=how, allow_abbrev=False)
 
 
+def number_of(unit: str) -> str:
+    """`a number of ranks`, `the number of a rank` or, without a unit, `a number`."""
+    return f"{'the' if unit.startswith('a ') else 'a'} number{unit and f' of {unit}'}"
+
+
 def number(low: int, high: int, unit: str = "") -> Callable[[str], int]:
     """The type of an argument that is a decimal number from `low` up to `high`, of this unit if there is one."""
 
     def read(word: str) -> int:
         if not re.fullmatch("[0-9]{1,20}", word) or not low <= int(word) <= high:
-            raise argparse.ArgumentTypeError(f"{word!r} is no number{unit and f' of {unit}'} from {low} up to {high}")
+            raise argparse.ArgumentTypeError(f"{word!r} is not {number_of(unit)} from {low} to {high}")
         return int(word)
 
     return read
@@ -79,7 +84,7 @@ def size(low: int, high: int) -> Callable[[str], int]:
     def read(word: str) -> int:
         found = re.fullmatch("([0-9]{1,20})([KM]?)", word)
         if not found or not low <= int(found[1]) * FACTORS[found[2]] <= high:
-            raise argparse.ArgumentTypeError(f"{word!r} is no number of bytes from {low} up to {high}, as 4096, 4K or 16M")
+            raise argparse.ArgumentTypeError(f"{word!r} is not a number of bytes from {low} to {high}, as 4096, 4K or 16M")
         return int(found[1]) * FACTORS[found[2]]
 
     return read

@@ -18,13 +18,13 @@ Pair = Tuple[Result, Result]
 def algorithms_of(text: str) -> Tuple[str, str]:
     names = text.split(",")
     if len(names) != 2 or names[0] == names[1] or "" in names:
-        raise Fault(f"--cross {text} does not name two algorithms: A,B")
+        raise Fault(f"--cross {text}: give two different algorithms, as bcast,bcast-chain")
     return names[0], names[1]
 
 
 def check_axis(axes: Axes, x_name: str) -> None:
     if x_name in RATES or x_name not in WHOLE or len(axes.get(x_name, ())) < 2:
-        raise Fault(f"--x {x_name} is no axis of whole numbers with several values")
+        raise Fault(f"--x {x_name}: give an axis that has several whole numbers in this grid")
 
 
 class Crossing:
@@ -47,7 +47,7 @@ class Crossing:
         for point, result in zip(points, self.runs.of(points)):
             if result.fault or result.stuck:
                 where = " ".join(f"{axis}={value}" for axis, value in point.items() if value != "")
-                raise Fault(f"no comparison: at {where}: {result.fault or f'{result.stuck} operations are stuck'}")
+                raise Fault(f"--cross can not compare the algorithms: at {where}: {result.fault or f'{result.stuck} operations are stuck'}")
             results.append(result)
         self.found.update({x: (results[2 * at], results[2 * at + 1]) for at, x in enumerate(values)})
 

@@ -43,14 +43,14 @@ def check_count(rows: Sequence[Row], wanted: Wanted) -> None:
     """Keeps the limit on curves."""
     count = len({name_of(row, wanted) for row in rows})
     if count > MOST_CURVES:
-        raise Fault(f"{count} curves: a picture has at most {MOST_CURVES}")
+        raise Fault(f"{count} curves: a picture has at most {MOST_CURVES}, so give fewer values or another --x")
 
 
 def number_of(row: Row, column: str) -> float:
     try:
         return float(row[column])
     except ValueError:
-        raise Fault(f"{column}: {row[column] or 'an empty field'} is no number") from None
+        raise Fault(f"{column}: {row[column] or 'an empty field'} is not a number") from None
 
 
 def curves_of(rows: Sequence[Row], wanted: Wanted) -> List[Curve]:
@@ -77,7 +77,7 @@ def named(curves: List[Curve], labels: List[str]) -> None:
     """Gives the curves these names, in their order."""
     if labels and len(labels) != len(curves):
         names = "; ".join(curve.name for curve in curves)
-        raise Fault(f"{len(labels)} labels, and there are {len(curves)} curves: {names}")
+        raise Fault(f"{len(labels)} labels for {len(curves)} curves: give one for each of {names}")
     for curve, label in zip(curves, labels):
         curve.name = label
 
@@ -86,7 +86,7 @@ def divide(curves: List[Curve], name: str) -> None:
     """Divides all curves by the one of this name, where that has a value."""
     found = [curve for curve in curves if curve.name == name]
     if not found:
-        raise Fault(f"--ratio {name}: the curves are {'; '.join(curve.name for curve in curves)}")
+        raise Fault(f"--ratio {name} is not the name of a curve: they are {'; '.join(curve.name for curve in curves)}")
     base = {x: y for x, y in found[0].points if y}
     for curve in curves:
         curve.points = [(x, None if y is None else y / base[x]) for x, y in curve.points if x in base]
@@ -110,7 +110,7 @@ def picture(rows: Sequence[Row], wanted: Wanted) -> str:
     xs = sorted({x for curve in curves for x in [*curve.refused, *(x for x, _ in curve.points)]})
     ys = [y for curve in curves for _, y in curve.points if y is not None]
     if not ys:
-        raise Fault(f"no row has a number in {wanted.y}")
+        raise Fault(f"no row has a number in the column {wanted.y}, so there is nothing to draw")
     unit = UNITS.get(wanted.x, "")
     is_log = is_geometric(xs) or (unit == "size" and xs[0] > 0 and xs[-1] >= WIDE_RATIO * xs[0])
     is_given = is_geometric(xs) and (unit != "size" or all(math.log2(x).is_integer() for x in xs))

@@ -37,10 +37,10 @@ def cards_of(text: str) -> Cards:
     if words == ["own"]:
         return Cards()
     if not words or words[1:] not in ([], ["in", "turn"]):
-        raise Fault("it is `cards own`, `cards COUNT` or `cards COUNT in turn`")
+        raise Fault("write `cards own`, `cards COUNT` or `cards COUNT in turn`")
     count = number(words[0], MOST_CARDS, "cards")
     if not count:
-        raise Fault("a node has at least one card")
+        raise Fault("`cards 0`: a node has at least one card")
     return Cards(count, len(words) > 1)
 
 
@@ -165,23 +165,23 @@ class Description:
             "group": self.take_group, "inside": self.take_named, "between": self.take_named, "across": self.take_named,
             "pair": self.take_pair, "oneway": self.take_pair, "cards": self.take_cards}
         if words[0] not in takes:
-            raise Fault(f"{words[0]!r} begins no line: {' '.join(takes)} do")
+            raise Fault(f"{words[0]!r} does not begin a line of a description: {', '.join(takes)} do")
         takes[words[0]](words)
 
     def take_class(self, words: List[str]) -> None:
         if len(words) < 2 or "=" in words[1]:
-            raise Fault("a class is `class NAME L=.. o=.. ..`")
+            raise Fault("write `class NAME L=.. o=.. ..`")
         if words[1] in self.classes:
-            raise Fault(f"the class {words[1]} is told twice")
+            raise Fault(f"the class {words[1]} is given twice")
         told: Dict[str, int] = {}
         defaults = scaled_defaults(self.scale)
         for word in words[2:]:
             name, equals, value = word.partition("=")
             if name not in DEFAULTS or not equals:
-                raise Fault(f"{word!r} is no parameter: they are {' '.join(DEFAULTS)}, as L=300")
+                raise Fault(f"{word!r} is not a parameter: they are {' '.join(DEFAULTS)}, as L=300")
             options = value_of(name, value, self.scale)
             for option in options.keys() & told.keys():
-                raise Fault(f"{option} is told twice")
+                raise Fault(f"{option} is given twice")
             told.update(options)
         self.classes[words[1]] = {**defaults, **told}
 
@@ -201,45 +201,45 @@ class Description:
 
     def take_cards(self, words: List[str]) -> None:
         if self.cards is not None:
-            raise Fault("`cards` is told twice")
+            raise Fault("`cards` is given twice")
         self.cards = cards_of(" ".join(words[1:]))
 
     def take_named(self, words: List[str]) -> None:
         if len(words) != 2:
-            raise Fault(f"it is `{words[0]} NAME`")
+            raise Fault(f"write `{words[0]} NAME`, with the name of a class")
         if words[0] in self.named:
-            raise Fault(f"`{words[0]}` is told twice")
+            raise Fault(f"`{words[0]}` is given twice")
         self.named[words[0]] = words[1]
 
     def take_pair(self, words: List[str]) -> None:
         if len(words) != 4:
-            raise Fault(f"it is `{words[0]} A B NAME`")
+            raise Fault(f"write `{words[0]} A B NAME`, with two nodes and the name of a class")
         one, other = (number(word, MOST_NODES - 1, "a node") for word in words[1:3])
         for pair in [(one, other), (other, one)][:2 if words[0] == "pair" else 1]:
             if pair in self.pairs:
-                raise Fault(f"the pair {pair[0]} {pair[1]} is told twice")
+                raise Fault(f"the pair {pair[0]} {pair[1]} is given twice")
             self.pairs[pair] = words[3]
 
     def check(self) -> None:
         """All that must be told is told, once, and of things that are there."""
         for what in ("inside", "between", *(["across"] if self.groups.places else [])):
             if what not in self.named:
-                raise Fault(f"there is no `{what} NAME`")
+                raise Fault(f"the line `{what} NAME` is missing")
         if "across" in self.named and not self.groups.places:
-            raise Fault("`across` is between groups, and there are none")
+            raise Fault("`across` is the class between groups, and there are none: add `groups COUNT of SIZE`, or remove it")
         if not 1 <= len(self.classes) <= MOST_CLASSES:
             raise Fault(f"{len(self.classes)} classes: a machine has 1 to {MOST_CLASSES}")
         for name in (*self.named.values(), *self.pairs.values()):
             if name not in self.classes:
-                raise Fault(f"there is no class {name}")
+                raise Fault(f"there is no class {name}: add `class {name} L=.. o=.. ..`")
         if not self.nodes.places:
-            raise Fault("there are no nodes")
+            raise Fault("there are no nodes: add `nodes COUNT of SIZE`")
         self.nodes.check(len(self.nodes.of))
         if self.groups.places:
             self.groups.check(len(self.nodes.places))
         for one, other in self.pairs:
             if one == other or max(one, other) >= len(self.nodes.places):
-                raise Fault(f"the pair {one} {other} is none of two nodes")
+                raise Fault(f"the pair {one} {other} does not name two of {len(self.nodes.places)} nodes, from 0")
 
     def default_and_pairs(self) -> Tuple[str, Dict[Tuple[int, int], str]]:
         """The class between most nodes, and the pairs of nodes that have another."""
@@ -250,7 +250,7 @@ class Description:
             near = sum(len(group) * (len(group) - 1) for group in self.groups.places)
             far = count * (count - 1) - near
             if min(near, far) > MOST_PAIRS:
-                raise Fault(f"{min(near, far)} pairs of nodes are told apart by groups: a machine has {MOST_PAIRS} at most")
+                raise Fault(f"{min(near, far)} pairs of nodes have a class of their own by groups: a machine has {MOST_PAIRS} at most")
             if near < far:
                 default = self.named["across"]
                 pairs = {(one, other): self.named["between"] for group in self.groups.places for one in group for other in group
@@ -265,7 +265,7 @@ class Description:
         """The machine of a description that is checked."""
         default, pairs = self.default_and_pairs()
         if len(pairs) > MOST_PAIRS:
-            raise Fault(f"{len(pairs)} pairs of nodes: a machine has {MOST_PAIRS} at most")
+            raise Fault(f"{len(pairs)} pairs of nodes have a class of their own: a machine has {MOST_PAIRS} at most")
         class_numbers = {name: place for place, name in enumerate(self.classes)}
         machine = Machine(
             [parameters_of(values) for values in self.classes.values()], class_numbers[self.named["inside"]],
@@ -277,17 +277,17 @@ class Description:
 def number(word: str, most: int, what: str) -> int:
     """A number of these things, or the number of one of them."""
     if not re.fullmatch("[0-9]{1,20}", word) or int(word) > most:
-        raise Fault(f"{word!r} is no number of {what} up to {most}")
+        raise Fault(f"{word!r} is not a number of {what} from 0 to {most}")
     return int(word)
 
 
 def count_and_size(words: List[str]) -> Tuple[int, int]:
     """The two numbers of a line such as `nodes 8 of 16`."""
     if len(words) != 4 or words[2] != "of":
-        raise Fault(f"it is `{words[0]} COUNT of SIZE`")
+        raise Fault(f"write `{words[0]} COUNT of SIZE`")
     count, size = number(words[1], MOST_RANKS, words[0]), number(words[3], MOST_RANKS, "ranks" if words[0] == "nodes" else "nodes")
     if not count or not size:
-        raise Fault("both numbers are above 0")
+        raise Fault(f"write `{words[0]} COUNT of SIZE`, both above 0")
     return count, size
 
 
@@ -300,10 +300,10 @@ def numbers(words: List[str], most: int) -> List[int]:
         low = number(first, most - 1, thing)
         high = number(last, most - 1, thing) if dash else low
         if high < low:
-            raise Fault(f"{word!r} is no range")
+            raise Fault(f"{word!r} is not a range: write LOW-HIGH")
         found.extend(range(low, high + 1))
     if not found:
-        raise Fault(f"the {words[0]} is empty")
+        raise Fault(f"`{words[0]}` is empty: write its numbers, as `{words[0]} 0 4 8-11`")
     return found
 
 
@@ -343,7 +343,7 @@ def cluster_of(name: str, text: str, scale: int = 1) -> Cluster:
     try:
         cluster = Cluster(machine_of(text))
     except (ValueError, RuntimeError, StopIteration):
-        raise Fault(f"{name} is no MACHINE, as `goal nodes` takes it") from None
+        raise Fault(f"{name} begins with `classes`, and is not a MACHINE of `goal nodes`: `goal nodes` says which word is wrong") from None
     return cluster if scale == 1 else cluster.scaled(scale)
 
 

@@ -90,7 +90,7 @@ class Numbers:
         """All that is used is known now."""
         count = self.first + len(self.used)
         if count > MOST_NUMBERS:
-            raise Fault(f"node {node} needs {count} {self.what}, and a rank has at most {MOST_NUMBERS}")
+            raise Fault(f"node {node} needs {count} {self.what}, and has at most {MOST_NUMBERS}: put fewer ranks on a node")
         self.of = {key: place for place, key in enumerate(sorted(self.used), self.first)}
 
 

@@ -47,7 +47,7 @@ def number_of(axis: str, text: str) -> Decimal:
     if not found or ("." in text and axis not in RATES) or (found[2] and axis not in ("size", "S")):
         unit = {"size": "bytes, as 4096, 4K or 16M", "S": "bytes, as 65535 or 64K"}.get(axis, UNITS.get(axis, axis))
         more = f", with up to {MOST_DECIMALS} decimals" if axis in RATES else ""
-        raise command.Fault(f"{axis}: {text} is no number of {unit}{more}")
+        raise command.Fault(f"{axis}: {text} is not a number of {unit}{more}")
     return Decimal(found[1]) * {"": 1, "K": 1024, "M": 1024**2}[found[2]]
 
 
@@ -58,10 +58,10 @@ def range_of(axis: str, text: str) -> List[Decimal]:
         return [number_of(axis, text)]
     low, high = number_of(axis, found[1]), number_of(axis, found[2])
     if not re.fullmatch(r"\d+(\.\d+)?[KM]?", found[4]):
-        raise command.Fault(f"{axis}: {found[4]} is no step")
+        raise command.Fault(f"{axis}: {found[4]} is not a step: write A..B+STEP or A..BxFACTOR")
     step = number_of(axis, found[4]) if found[3] == "+" else Decimal(found[4])
     if step <= (0 if found[3] == "+" else 1) or (found[3] == "x" and low == 0):
-        raise command.Fault(f"{axis}: {text} does not rise")
+        raise command.Fault(f"{axis}: {text} does not rise: a step is above 0, a factor above 1 and its range above 0")
     numbers: List[Decimal] = []
     while low <= high and len(numbers) < MOST_POINTS:
         numbers.append(low)
@@ -89,7 +89,7 @@ def values_of(axis: str, text: str) -> List[str]:
         check_limits(axis, [number for number, _ in numbers])
         values = [rate_of(number, part) if axis in RATES else str(int(number)) for number, part in numbers]
     if "" in values or not values:
-        raise command.Fault(f"{axis} has no value")
+        raise command.Fault(f"{axis}: a value is empty: write {axis}=VALUE,VALUE..")
     return list(dict.fromkeys(values))
 
 
@@ -98,7 +98,7 @@ def check_limits(axis: str, numbers: Iterable[Decimal]) -> None:
     low, high, unit = LIMITED.get(axis, (0, None, ""))
     for number in numbers:
         if high is not None and not low <= number <= high:
-            raise command.Fault(f"{axis}: {number} is no number of {unit} from {low} up to {high}")
+            raise command.Fault(f"{axis}: {number} is not {command.number_of(unit)} from {low} to {high}")
 
 
 def axes_of(words: Iterable[str]) -> Axes:
@@ -107,9 +107,9 @@ def axes_of(words: Iterable[str]) -> Axes:
     for word in words:
         axis, equals, text = word.partition("=")
         if not equals or axis not in AXES:
-            raise command.Fault(f"{word} is no axis: AXIS=VALUES, AXIS one of {' '.join(AXES)}")
+            raise command.Fault(f"{word} is not an axis: write AXIS=VALUES, AXIS one of {' '.join(AXES)}")
         if axis in axes:
-            raise command.Fault(f"{axis} stands twice")
+            raise command.Fault(f"{axis} is given twice: write all its values in one word")
         axes[axis] = values_of(axis, text)
     check_axes(axes)
     return axes
@@ -119,35 +119,35 @@ def check_axes(axes: Axes) -> None:
     if "schedule" in axes:
         wrong = [axis for axis in MADE_BY if axis in axes]
         if wrong:
-            raise command.Fault(f"schedule gives files: {wrong[0]} does not go with it")
+            raise command.Fault(f"{wrong[0]} is of schedules that are made, and schedule= names files: leave out one of them")
     elif not all(axis in axes for axis in MADE_BY[:3]):
-        raise command.Fault("algorithm, ranks and size must be there, or schedule")
+        raise command.Fault("give the axes algorithm, ranks and size, or schedule")
     for name in axes.get("algorithm", ()):
         if own.is_own(name):
             OPTIONS[name] = own.own_algorithm(name)[1]
         if name in ONE_SIZE:
             why = "has BYTES in each message, for any number of items"
-            raise command.Fault(f"{name} of `goal gen` {why}: take {ONE_SIZE[name]}")
+            raise command.Fault(f"{name} of `goal gen` {why}: give {ONE_SIZE[name]}")
         if name not in OPTIONS:
             where = "see `tools/schedule --list` and `goal gen`, or give FILE.py:NAME"
-            raise command.Fault(f"{name} is no algorithm: {where}")
+            raise command.Fault(f"{name} is not an algorithm: {where}")
     check_machines(axes)
     files = [name for axis in ("schedule", "machine") for name in axes.get(axis, ())]
     if sum(command.source(name) == command.STANDARD_INPUT for name in files) > 1:
-        raise command.Fault("only one file can be standard input")
+        raise command.Fault("only one file can be standard input: give the others by name")
     if "machine" in axes and any(axis in axes for axis in PARAMETERS):
-        raise command.Fault("a machine has its own parameters: give no others")
+        raise command.Fault("a machine has its own parameters: leave out L, o, g, G, O and S")
 
 
 def check_machines(axes: Axes) -> None:
     for axis in ON_MACHINES:
         if axis in axes and "machine" not in axes:
-            raise command.Fault(f"{axis} is of a machine: give machine=FILE")
+            raise command.Fault(f"{axis} is an axis of runs on a machine: give machine=FILE too")
     for cards in axes.get("cards", ()):
         cards_of(cards)
     for placement in axes.get("placement", ()):
         if placement not in PLACEMENTS:
-            raise command.Fault(f"{placement} is no placement: {' or '.join(PLACEMENTS)}")
+            raise command.Fault(f"{placement} is not a placement: give {' or '.join(PLACEMENTS)}")
 
 
 def note_on_cards(axes: Axes, scale: int) -> None:
@@ -175,7 +175,7 @@ def points_of(axes: Axes) -> List[Point]:
         point = with_options_taken(dict(zip(axes, values)))
         points[tuple(point.items())] = point
         if len(points) > MOST_POINTS:
-            raise command.Fault(f"more than {MOST_POINTS} points")
+            raise command.Fault(f"more than {MOST_POINTS} points: divide the grid into several sweeps")
     return list(points.values())
 
 

@@ -78,7 +78,7 @@ def ranks_of(text: Optional[str], count: int) -> Dict[int, None]:
     for part in text.split(","):
         found = re.fullmatch(r"(\d+)(?:-(\d+))?", part)
         if not found:
-            raise Fault(f"--ranks is a list such as 0-7 or 0,4-5,9, not {text}")
+            raise Fault(f"--ranks {text}: give a list such as 0-7 or 0,4-5,9")
         first, last = int(found[1]), int(found[2] or found[1])
         if not first <= last < count:
             raise Fault(f"--ranks {part}: the schedule has the ranks 0 to {count - 1}")
@@ -112,17 +112,17 @@ def load(arguments: argparse.Namespace) -> Loaded:
 def check_words(arguments: argparse.Namespace, options: Dict[str, int]) -> None:
     """What can be wrong with the words, before anything is read."""
     if arguments.until is not None and arguments.until <= arguments.since:
-        raise Fault("--to is not after --from")
+        raise Fault(f"--to {arguments.until} is not after --from {arguments.since}")
     check_sources(arguments, options)
 
 
 def check_sources(arguments: argparse.Namespace, options: Dict[str, int]) -> None:
     """What can be wrong with the names of files, and with parameters beside them."""
     if arguments.machine is not None and options:
-        raise Fault("a machine has its own parameters: give no others")
+        raise Fault("--machine has its own parameters: leave out --L, --o, --g, --G, --Gp, --O, --Op and --S")
     files = [name for name in (arguments.name, arguments.run, arguments.machine) if name is not None]
     if sum(command.source(name) == command.STANDARD_INPUT for name in files) > 1:
-        raise Fault("only one of the schedule, its run and the machine can be standard input")
+        raise Fault("only one of the schedule, its run and the machine can be standard input: give the others by name")
 
 
 def is_whole(arguments: argparse.Namespace) -> bool:

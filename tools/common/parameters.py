@@ -100,7 +100,7 @@ def given_options(arguments: argparse.Namespace) -> Dict[str, int]:
         if text is not None:
             told = options_of(name, text)
             if options.keys() & told.keys():
-                raise ValueError(f"{name} is told twice: --{name} and the decimals of its nanoseconds")
+                raise ValueError(f"{name} is given twice: --{name} and the decimals of its nanoseconds")
             options.update(told)
     return options
 

@@ -202,7 +202,7 @@ def scaled(text: str, scale: int) -> str:
     if scale == 1:
         return text
     if any(int(nanos) * scale > MOST_CALC for nanos in CALC.findall(text)):
-        raise command.Fault(f"a calc is so long that {scale} times as much is more than {MOST_CALC} ns")
+        raise command.Fault(f"a calc times {scale} is over {MOST_CALC} ns: give rates of whole picoseconds, or shorter calcs")
     return CALC.sub(lambda nanos: str(int(nanos[0]) * scale), text)
 
 

@@ -78,11 +78,11 @@ def opened(path: str) -> IO[str]:
         file = open(path, "a+", encoding="utf-8", newline="")
         fcntl.flock(file, fcntl.LOCK_EX | fcntl.LOCK_NB)
     except BlockingIOError:
-        raise Fault(f"{path}: another sweep is writing it") from None
+        raise Fault(f"{path}: another sweep is writing to it: wait for it, or give another file") from None
     except OSError as why:
         raise Fault(f"{path}: {why.strerror}") from None
     if not stat.S_ISREG(os.fstat(file.fileno()).st_mode):
-        raise Fault(f"{path}: no regular file")
+        raise Fault(f"{path}: not a regular file: give another to --into")
     return file
 
 
@@ -100,11 +100,11 @@ def rows_kept(table: Table, points: Sequence[Point], file: IO[str]) -> List[Row]
             continue
         row = row_of(table, f"{file.name}:{line}", fields)
         if len(rows) == len(points):
-            raise Fault(f"{file.name}:{line}: the grid has {len(points)} points, and this row is one more")
+            raise Fault(f"{file.name}:{line}: the grid has only {len(points)} points: give the axes of this file, or another file")
         check_axes(table, f"{file.name}:{line}", row, points[len(rows)])
         if row["program"] != table.version:
             versions = f"the program is {row['program']} there, and {table.version} now"
-            raise Fault(f"{file.name}:{line}: {versions}: take another file")
+            raise Fault(f"{file.name}:{line}: {versions}: give another file")
         rows.append(row)
     return rows
 
@@ -123,7 +123,7 @@ def check_columns(table: Table, where: str, fields: List[str]) -> None:
 
 def row_of(table: Table, where: str, fields: List[str]) -> Row:
     if len(fields) != len(table.columns):
-        raise Fault(f"{where}: {len(fields)} fields, and there are {len(table.columns)} columns")
+        raise Fault(f"{where}: {len(fields)} fields in this row, and {len(table.columns)} columns")
     return dict(zip(table.columns, fields))
 
 
@@ -156,7 +156,7 @@ def gathered(table: Table, points: Sequence[Point], paths: Iterable[str]) -> Lis
             if row["program"] != version:
                 raise Fault(f"{where}: the program is {row['program']} there, and {version} in the rows before")
             if rows[place] not in (None, row):
-                raise Fault(f"{where}: another result for a point that a row before has")
+                raise Fault(f"{where}: another result than in an earlier row of the same point")
             rows[place] = row
     return rows
 

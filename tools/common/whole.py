@@ -76,7 +76,7 @@ def load_whole(arguments: argparse.Namespace, wanted: Optional[Key] = None) -> W
         canonical = canonical_of(arguments, text, source)
         check_machine(costs, rank_count(canonical))
         if wanted is not None and wanted[1] >= operation_counts(canonical).get(wanted[0], 0):
-            raise Fault(f"rank {wanted[0]} has no operation {wanted[1]}")
+            raise Fault(f"rank {wanted[0]} has no operation {wanted[1]}: it has {operation_counts(canonical).get(wanted[0], 0)}, from 0")
         lines, cards = run_lines(arguments, options, source, text), cards_of_machine(arguments.machine)
         return whole_of(goal, source, text, options, lines, costs, cards, canonical.splitlines())
     except ValueError as why:
