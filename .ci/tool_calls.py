@@ -72,9 +72,11 @@ def run_tool(module: ModuleType, words: list[str], streams: Sequence[int], cwd: 
             os.environ.clear()
             os.environ.update(env)
         sys.argv = words
-        sys.stdin, sys.stdout, sys.stderr = (open(number, mode, closefd=False) for number, mode in enumerate("rww"))
-        for kept in (command.standard_input, program.proved, program.version):
-            kept.cache_clear()
+        sys.stdin = open(0, encoding="utf-8", closefd=False)
+        sys.stdout, sys.stderr = open(1, "w", encoding="utf-8", closefd=False), open(2, "w", encoding="utf-8", closefd=False)
+        command.standard_input.cache_clear()
+        program.proved.cache_clear()
+        program.version.cache_clear()
         command.run(module.main)
     except SystemExit as end:
         status = end.code if isinstance(end.code, int) else 0
