@@ -211,4 +211,4 @@ if __name__ == "__main__":
     elif sys.argv[1:] != ["end"]:
         sys.exit(__doc__)
     elif not end():
-        sys.exit("goal: a source was touched during the proof: the program is not known to be of the sources as they are")
+        sys.exit("goal: a source was touched during the proof, so the program may be of other sources: run it again")
