@@ -1,9 +1,8 @@
 -- Heaps in parts of a table, none of which has a key.
-use Rattle.std.proofs.Common.{◌≡◌, ◌≢◌, ◌⊎◌, ◌<◌, ◌≤◌, ◌+◌, ◌-◌, ◌^◌, ◌++◌, true, ℕ, suc, List, [], ◌∷◌, length, map, take, drop, slice_get, slice_index, Option, Some, refl, sym, ap, ap₂, ◌∙◌, subst, arith, replicate, inl, inr}
+use Rattle.std.proofs.Common.{◌≡◌, ◌≢◌, ◌⊎◌, ◌<◌, ◌≤◌, ◌+◌, ◌-◌, ◌^◌, ℕ, suc, List, [], ◌∷◌, length, map, take, drop, slice_get, slice_index, Option, Some, refl, sym, ap, ap₂, ◌∙◌, subst, arith, replicate, inl, inr}
 use Rattle.std.proofs.lemmas.Bool.{cases_eq}
 use Rattle.std.proofs.lemmas.List.{length-map, take_all}
-use Rattle.std.specs.Option.{option_map}
-use Rattle.std.proofs.lemmas.Option.{same_Some, slice_get-map}
+use Rattle.std.proofs.lemmas.Option.{same_Some}
 use Rattle.goal_limits.specs.declared.limits.TheConstants.{MAX_OPS}
 use Rattle.goal_graph.specs.declared.action.Timed.{Timed}
 use Rattle.sim_order.specs.Events.{event_before}
@@ -11,14 +10,11 @@ use Rattle.sim_heaps.specs.Heap.{keys_of, IsSlotHeap}
 use Rattle.sim_heaps.specs.Item.{Item}
 use Rattle.sim_heaps.specs.Map.{key_at, no_keys}
 use Rattle.sim_heaps.specs.TopHeap.{placed}
-use Rattle.sim_heaps.proofs.ForCallers.{get_added, get_before_added, none_of, none_there}
-use Rattle.sim_groups.specs.declared.item_heaps.Plot.{Plot}
+use Rattle.sim_heaps.proofs.ForCallers.{none_of, none_there}
 use Rattle.sim_groups.specs.declared.parts.Part.{Part}
-use Rattle.sim_groups.specs.declared.stretch.Stretch.{Stretch}
-use Rattle.sim_groups.specs.Parts.{room_of, places_of, keyed_of, map_of_slots, maps_of_slots, ArePacked, AreWithoutKeys, IsInOrder, AreSlotHeaps}
-use Rattle.sim_groups.specs.Stretches.{map_on, part_of_plot, room_of_plot, map_of_items, maps_of_items, roomed, AreFresh, IsStretch, AreItemHeaps}
+use Rattle.sim_groups.specs.Parts.{room_of, places_of, keyed_of, map_of_slots, maps_of_slots, map_of_items, maps_of_items, roomed, ArePacked, AreWithoutKeys, IsInOrder, AreSlotHeaps, AreItemHeaps}
 use Rattle.sim_groups.proofs.InParts.{put_mid, length-places, part_written, places_elsewhere}
-use Rattle.sim_groups.proofs.StretchSteps.{empty_stretch}
+use Rattle.sim_groups.proofs.ItemParts.{no_items_heap}
 
 -- no place has a key
 keyed_none : {X : Type 0} (table : List X) (part : Part) → part.count ≡ 0 → keyed_of table part ≡ []
@@ -32,69 +28,34 @@ maps_none f [] each = refl
 maps_none f (part ∷ parts) each =
     ap₂ (λ (h : List (Option Timed)) hs. h ∷ hs) (each 0 part refl) (maps_none f parts (λ group p e. each (suc group) p e))
 
--- the maps of plots, each without a key
-maps_unset : (f : Plot → List (Option Timed)) (slots : ℕ) (plots : List Plot) → ((group : ℕ) (plot : Plot) → slice_get plots group ≡ Some plot → f plot ≡ no_keys slots) → map f plots ≡ replicate (length plots) (no_keys {K = Timed} slots)
+-- the maps of parts of items, each without a key
+maps_unset : (f : Part → List (Option Timed)) (slots : ℕ) (parts : List Part) → ((group : ℕ) (part : Part) → slice_get parts group ≡ Some part → f part ≡ no_keys slots) → map f parts ≡ replicate (length parts) (no_keys {K = Timed} slots)
 maps_unset f slots [] each = refl
-maps_unset f slots (plot ∷ plots) each =
-    ap₂ (λ (h : List (Option Timed)) hs. h ∷ hs) (each 0 plot refl) (maps_unset f slots plots (λ group q e. each (suc group) q e))
-
--- their rooms
-rooms_same : (plots : List Plot) → map room_of_plot plots ≡ map room_of (map part_of_plot plots)
-rooms_same [] = refl
-rooms_same (plot ∷ plots) = ap (λ ns. plot.room ∷ ns) (rooms_same plots)
+maps_unset f slots (part ∷ parts) each =
+    ap₂ (λ (h : List (Option Timed)) hs. h ∷ hs) (each 0 part refl) (maps_unset f slots parts (λ group p e. each (suc group) p e))
 
 placed_none : (slots : ℕ) → placed {K = Timed} slots [] ≡ no_keys slots
 unfolding placed
 placed_none slots = refl
 
-abbrev counted : Part → ℕ → Part
-counted part n = record { start = part.start; room = part.room; count = n }
-
--- another plot, on the next part, without a key
-pub plot_more : (parts : List Part) (none : AreWithoutKeys parts) (index : ℕ) (part : Part) (at : slice_get parts index ≡ Some part) → part_of_plot (record { start = part.start; room = part.room; stretch = record { first = 0; end = 0; in_order = true } }) ≡ part
-plot_more parts none index part at =
-    ap (counted part) (sym (none index part at))
-
-pub fresh_more : (plots : List Plot) (plot : Plot) → AreFresh plots → plot.stretch ≡ (record { first = 0; end = 0; in_order = true }) → AreFresh (plots ++ plot ∷ [])
-fresh_more plots plot fresh empty group q e = go (cases_eq group (length plots))
-  where
-    go : (group ≡ length plots) ⊎ (group ≢ length plots) → q.stretch ≡ (record { first = 0; end = 0; in_order = true })
-    go (inl s) =
-        let same : plot ≡ q = same_Some plot q (sym (get_added plots plot) ∙ ap (slice_get (plots ++ plot ∷ [])) (sym s) ∙ e) in
-        ap (λ (u : Plot). u.stretch) (sym same) ∙ empty
-    go (inr n) = fresh group q (sym (get_before_added plots plot group n) ∙ e)
-
 module _ (parts : List Part) (size : ℕ) (packed : ArePacked parts size) (none : AreWithoutKeys parts) (counts : List ℕ) (rooms : map room_of parts ≡ counts) where
-  -- plots on these parts, without items
-  module _ (plots : List Plot) (are : map part_of_plot plots ≡ parts) (fresh : AreFresh plots) (items : List (Item Timed)) (long : length items ≡ size) where
-    plot_at : (group : ℕ) (plot : Plot) → slice_get plots group ≡ Some plot → slice_get parts group ≡ Some (part_of_plot plot)
-    plot_at group plot at = ap (λ ps. slice_get ps group) (sym are) ∙ slice_get-map part_of_plot plots group ∙ ap (option_map part_of_plot) at
-
-    length_plot : (group : ℕ) (plot : Plot) → slice_get plots group ≡ Some plot → length (places_of items (part_of_plot plot)) ≡ plot.room
-    length_plot group plot at =
-        length-places items (part_of_plot plot) (omega (arith, packed.within group (part_of_plot plot) (plot_at group plot at), long))
-
-    pub items_begun : (slots : ℕ) → slots ≤ MAX_OPS → size < 2 ^ 32 → AreItemHeaps event_before slots plots items
-    items_begun slots few short = record {
-      packed = subst (λ (ps : List Part). ArePacked ps (length items)) (sym are) (subst (ArePacked parts) (sym long) packed);
-      heap =
-          λ group plot at.
-          subst (λ (s : Stretch). IsStretch event_before slots (places_of items (part_of_plot plot)) s) (sym (fresh group plot at))
-          (empty_stretch slots (places_of items (part_of_plot plot)) few (omega (arith, length_plot group plot at, packed.within group (part_of_plot plot) (plot_at group plot at), short)));
+  -- without items
+  module _ (items : List (Item Timed)) (long : length items ≡ size) where
+    pub items_begun : (slots : ℕ) → slots ≤ MAX_OPS → AreItemHeaps event_before slots parts items
+    items_begun slots few = record {
+      packed = subst (ArePacked parts) (sym long) packed;
+      heap = λ group part at. no_items_heap (keyed_of items part) slots (ap length (keyed_none items part (none group part at))) few;
     }
 
-    rooms_are : map room_of_plot plots ≡ counts
-    rooms_are = rooms_same plots ∙ ap (map room_of) are ∙ rooms
+    as_many : length parts ≡ length counts
+    as_many = sym (length-map parts room_of) ∙ ap length rooms
 
-    as_many : length plots ≡ length counts
-    as_many = sym (length-map plots room_of_plot) ∙ ap length rooms_are
-
-    maps_are : (slots : ℕ) → maps_of_items slots plots items ≡ replicate (length counts) (no_keys {K = Timed} slots)
+    maps_are : (slots : ℕ) → maps_of_items slots parts items ≡ replicate (length counts) (no_keys {K = Timed} slots)
     maps_are slots =
-        maps_unset (map_of_items slots items) slots plots (λ group plot at. ap (λ (s : Stretch). map_on slots (places_of items (part_of_plot plot)) s) (fresh group plot at) ∙ placed_none slots) ∙ ap (λ n. replicate n (no_keys {K = Timed} slots)) as_many
+        maps_unset (map_of_items slots items) slots parts (λ group part at. ap (placed slots) (keyed_none items part (none group part at)) ∙ placed_none slots) ∙ ap (λ n. replicate n (no_keys {K = Timed} slots)) as_many
 
-    pub items_none : (slots : ℕ) → roomed slots plots items ≡ record { maps = replicate (length counts) (no_keys {K = Timed} slots); rooms = counts }
-    items_none slots i = record { maps = maps_are slots i; rooms = rooms_are i }
+    pub items_none : (slots : ℕ) → roomed slots parts items ≡ record { maps = replicate (length counts) (no_keys {K = Timed} slots); rooms = counts }
+    items_none slots i = record { maps = maps_are slots i; rooms = rooms i }
 
   module _ (sorted : List Timed) (slots places : List ℕ) (each : length sorted ≡ size) (slots_each : length slots ≡ size) (places_each : length places ≡ size) where
     places_long : (group : ℕ) (part : Part) → slice_get parts group ≡ Some part → (table : List ℕ) → length table ≡ size → length (places_of table part) ≡ part.room

@@ -1,6 +1,6 @@
 -- A heap of items, after one was appended and after its top was removed.
-use Rattle.std.proofs.Common.{◌≡◌, ◌<◌, ◌≤◌, ◌+◌, ◌-◌, ◌++◌, ◌∷◌, [], ℕ, List, length, set, take, get_or, slice_get, slice_set, Some, None, sym, ap, ◌∙◌, subst, arith}
-use Rattle.std.proofs.lemmas.List.{length-set, length-append, length-take-le, take_all, take_at, take_more, take_more_set}
+use Rattle.std.proofs.Common.{◌≡◌, ◌≢◌, ◌<◌, ◌≤◌, ◌+◌, ◌-◌, ◌++◌, ◌∷◌, [], ℕ, suc, List, length, set, take, get_or, slice_get, slice_set, Some, None, refl, sym, ap, ◌∙◌, subst, arith}
+use Rattle.std.proofs.lemmas.List.{length-set, length-append, length-take-le, take_all, take_at, take_more, take_more_set, get_or-set_other}
 use Rattle.std.proofs.lemmas.Option.{slice_get_within}
 use Rattle.goal_limits.specs.declared.limits.TheConstants.{MAX_OPS}
 use Rattle.goal_graph.specs.declared.action.Timed.{Timed}
@@ -10,7 +10,7 @@ use Rattle.sim_heaps.specs.Item.{Item}
 use Rattle.sim_heaps.specs.Map.{key_at, IsSoleLeast}
 use Rattle.sim_heaps.specs.Places.{AreOrdered, AreOrderedBut}
 use Rattle.sim_heaps.specs.TopHeap.{placed, key_there, AreApart, AreMoved, IsTopHeap}
-use Rattle.sim_heaps.proofs.ForCallers.{added_apart, added_placed, added_ordered, some_items, taken_apart, taken_placed, taken_ordered, emptied_placed}
+use Rattle.sim_heaps.proofs.ForCallers.{added_apart, added_placed, added_ordered, taken_apart, taken_placed, taken_ordered, emptied_placed, none_of}
 use Rattle.sim_groups.specs.Parts.{all_but_last}
 
 module _ {X : Type 0} (xs : List X) (some : 0 < length xs) where
@@ -93,3 +93,11 @@ module _ (items front : List (Item Timed)) (last : Item Timed) (are : items ≡ 
 
       pub left_placed : placed slots new ≡ slice_set (placed slots items) slot None
       left_placed = moved.same slots left_apart ∙ taken_placed event_before event_laws slots items heap.apart heap.ordered slot sole front last are some
+
+-- a slot without an item
+pub absent : (slots slot : ℕ) (xs : List (Item Timed)) → ((place : ℕ) (y : Item Timed) → slice_get xs place ≡ Some y → y.slot ≢ slot) → key_at (placed slots xs) slot ≡ None
+unfolding placed
+absent slots slot [] other = none_of slots slot
+absent slots slot (x ∷ xs) other =
+    get_or-set_other (placed slots xs) x.slot slot (Some x.key) None (λ e. other 0 x refl (sym e))
+    ∙ absent slots slot xs (λ place y e. other (suc place) y e)

@@ -1,140 +1,113 @@
 -- Heaps of items in one table, one of which is written.
-use Rattle.std.proofs.Common.{◌≡◌, ◌≢◌, ◌⊎◌, ◌<◌, ◌≤◌, ◌+◌, ◌-◌, [], ℕ, List, length, map, set, take, drop, get_or, slice_get, slice_index, slice_set, Option, Some, count_by, is_some, refl, sym, ap, ◌∙◌, subst, arith, inl, inr}
-use Rattle.std.specs.Option.{option_map}
+use Rattle.std.proofs.Common.{◌≡◌, ◌≢◌, ◌⊎◌, ◌<◌, ◌≤◌, ◌+◌, ◌-◌, [], ℕ, List, length, map, set, take, drop, slice_get, slice_index, slice_set, Option, Some, count_by, is_some, refl, sym, ap, ◌∙◌, subst, arith, inl, inr}
 use Rattle.std.proofs.Math.Seq.{map-set_same}
-use Rattle.std.proofs.lemmas.Bool.{cases_eq}
-use Rattle.std.proofs.lemmas.List.{get_or-map, get_or-take, get_or-drop, take_all}
-use Rattle.std.proofs.lemmas.Option.{same_Some, slice_get-map, slice_get-get_or, slice_get_within, get_or_from_slice_get}
+use Rattle.std.proofs.lemmas.List.{get_or-map, length-drop, length-take-le, take-take}
+use Rattle.std.proofs.lemmas.Option.{slice_get_within, get_or_from_slice_get}
 use Rattle.goal_graph.specs.declared.action.Timed.{Timed}
 use Rattle.sim_order.specs.Events.{event_before}
 use Rattle.sim_order.specs.EventLaws.{event_laws}
 use Rattle.sim_heaps.specs.Item.{Item}
 use Rattle.sim_heaps.specs.Map.{IsEmptyMap, IsLeast}
-use Rattle.sim_heaps.proofs.ForCallers.{get_set_same, get_set_other, length-placed, empty_items, top_is_least}
-use Rattle.sim_groups.specs.declared.item_heaps.Plot.{Plot}
+use Rattle.sim_heaps.specs.TopHeap.{placed, IsTopHeap}
+use Rattle.sim_heaps.proofs.ForCallers.{length-placed, empty_items, top_is_least}
 use Rattle.sim_groups.specs.declared.parts.Part.{Part}
-use Rattle.sim_groups.specs.declared.stretch.Stretch.{Stretch}
 use Rattle.sim_groups.specs.Groups.{at_home, heap_at, with_key}
-use Rattle.sim_groups.specs.Parts.{places_of, ArePacked}
-use Rattle.sim_groups.specs.Stretches.{standing, map_on, part_of_plot, room_of_plot, map_of_items, maps_of_items, roomed, IsStretch, AreItemHeaps}
-use Rattle.sim_groups.proofs.InParts.{put_mid, part_written, length-places, map_written, length-written, places_elsewhere}
-use Rattle.sim_groups.proofs.Stretching.{length-standing}
+use Rattle.sim_groups.specs.Parts.{room_of, keyed_of, all_but_last, ArePacked, map_of_items, maps_of_items, roomed, AreItemHeaps}
+use Rattle.sim_groups.proofs.InParts.{put_mid, part_written, length-keyed, first_keyed, map_written, counting, part_after, packed_after, length-written, keyed_elsewhere}
 use Rattle.sim_groups.proofs.Rooms.{items_counted}
 
-module _ (slots : ℕ) (plots : List Plot) (items : List (Item Timed)) (heaps : AreItemHeaps event_before slots plots items) (group : ℕ) (plot : Plot) (at : slice_get plots group ≡ Some plot) where
-  -- the properties of its plot
-  abbrev part : Part
-  part = part_of_plot plot
+module _ (slots : ℕ) (parts : List Part) (items : List (Item Timed)) (heaps : AreItemHeaps event_before slots parts items) (group : ℕ) (part : Part) (at : slice_get parts group ≡ Some part) where
+  -- the properties of its part
+  pub part_in : part.start + part.room ≤ length items
+  part_in = heaps.packed.within group part at
 
-  abbrev parts : List Part
-  parts = map part_of_plot plots
+  pub part_fits : part.count ≤ part.room
+  part_fits = heaps.packed.fits group part at
 
-  abbrev places : List (Item Timed)
-  places = places_of items part
+  pub heap_there : IsTopHeap event_before (keyed_of items part) slots slots
+  heap_there = heaps.heap group part at
 
-  part_at : slice_get parts group ≡ Some part
-  part_at = slice_get-map part_of_plot plots group ∙ ap (option_map part_of_plot) at
+  pub many_there : length (keyed_of items part) ≡ part.count
+  many_there = length-keyed items part (omega (arith, part_in, part_fits))
 
-  pub plot_in : plot.start + plot.room ≤ length items
-  plot_in = heaps.packed.within group part part_at
-
-  pub length_plot : length places ≡ plot.room
-  length_plot = length-places items part plot_in
-
-  pub stands : IsStretch event_before slots places plot.stretch
-  stands = heaps.heap group plot at
-
-  pub many_stand : length (standing places plot.stretch) ≡ plot.stretch.end - plot.stretch.first
-  many_stand = length-standing places plot.stretch.first plot.stretch.end stands.begins stands.ends
-
-  pub map_there : heap_at (maps_of_items slots plots items) group ≡ map_of_items slots items plot
+  pub map_there : heap_at (maps_of_items slots parts items) group ≡ map_of_items slots items part
   map_there =
-      get_or-map (map_of_items slots items) plots group plot [] (slice_get_within plots group plot at) ∙ ap (map_of_items slots items) (get_or_from_slice_get plots group plot plot at)
+      get_or-map (map_of_items slots items) parts group part [] (slice_get_within parts group part at) ∙ ap (map_of_items slots items) (get_or_from_slice_get parts group part part at)
 
-  pub length_there : length (heap_at (maps_of_items slots plots items) group) ≡ slots
-  length_there = ap length map_there ∙ length-placed slots (standing places plot.stretch)
+  pub length_there : length (heap_at (maps_of_items slots parts items) group) ≡ slots
+  length_there = ap length map_there ∙ length-placed slots (keyed_of items part)
 
-  pub room_there : slice_index (map room_of_plot plots) group ≡ length places
+  pub room_there : slice_index (map room_of parts) group ≡ part.room
   room_there =
-      get_or-map room_of_plot plots group plot 0 (slice_get_within plots group plot at) ∙ ap room_of_plot (get_or_from_slice_get plots group plot plot at) ∙ sym length_plot
+      get_or-map room_of parts group part 0 (slice_get_within parts group part at) ∙ ap room_of (get_or_from_slice_get parts group part part at)
 
   -- fewer keys than its room are fewer items than its places
-  pub fewer_stand : count_by is_some (heap_at (maps_of_items slots plots items) group) < slice_index (map room_of_plot plots) group → length (standing places plot.stretch) < length places
-  fewer_stand room =
-      omega (arith, room, room_there, items_counted slots (standing places plot.stretch) stands.heap.apart, ap (count_by is_some) map_there)
+  pub fewer_there : count_by is_some (heap_at (maps_of_items slots parts items) group) < slice_index (map room_of parts) group → part.count < part.room
+  fewer_there room =
+      omega (arith, room, room_there, many_there, items_counted slots (keyed_of items part) heap_there.apart, ap (count_by is_some) map_there)
+
+  -- its items, before one more place
+  pub before_free : part.count < part.room → all_but_last (take (part.start + (part.count + 1) - part.start) (drop part.start items)) ≡ keyed_of items part
+  before_free room =
+      let rest = drop part.start items in
+      let more : part.start + (part.count + 1) - part.start ≡ part.count + 1 = omega arith in
+      let many : part.start + part.count - part.start ≡ part.count = omega arith in
+      let long : length (take (part.count + 1) rest) ≡ part.count + 1 = length-take-le (part.count + 1) rest (omega (arith, room, part_in, length-drop part.start items)) in
+      ap (λ n. all_but_last (take n rest)) more
+      ∙ ap (λ n. take n (take (part.count + 1) rest)) (omega (arith, long))
+      ∙ take-take part.count (part.count + 1) rest (omega arith)
+      ∙ ap (λ n. take n rest) (sym many)
 
   -- its least
-  pub none_of_plot : plot.stretch.end ≤ plot.stretch.first → IsEmptyMap (heap_at (maps_of_items slots plots items) group)
-  none_of_plot none =
-      subst IsEmptyMap (sym map_there) (empty_items event_before event_laws slots (standing places plot.stretch) stands.heap.apart stands.heap.ordered (omega (arith, many_stand, none)))
+  pub none_of_part : part.count ≡ 0 → IsEmptyMap (heap_at (maps_of_items slots parts items) group)
+  none_of_part none =
+      subst IsEmptyMap (sym map_there) (empty_items event_before event_laws slots (keyed_of items part) heap_there.apart heap_there.ordered (omega (arith, many_there, none)))
 
-  first_stands : (top : Item Timed) → plot.stretch.first < plot.stretch.end → slice_get items (plot.start + plot.stretch.first) ≡ Some top → slice_get (standing places plot.stretch) 0 ≡ Some top
-  first_stands top some e =
-      let first = plot.stretch.first in
-      let end = plot.stretch.end in
-      let same : plot.start + (first + 0) ≡ plot.start + first = omega arith in
-      slice_get-get_or (standing places plot.stretch) 0 top (omega (arith, many_stand, some))
-      ∙ ap Some
-      (get_or-drop first (take end places) 0 top
-      ∙ get_or-take end places (first + 0) top (omega (arith, some))
-      ∙ get_or-take (plot.start + plot.room - plot.start) (drop plot.start items) (first + 0) top (omega (arith, some, stands.ends, length_plot))
-      ∙ get_or-drop plot.start items (first + 0) top
-      ∙ ap (λ n. get_or items n top) same
-      ∙ get_or_from_slice_get items (plot.start + first) top top e)
-
-  pub least_of_plot : (top : Item Timed) → plot.stretch.first < plot.stretch.end → slice_get items (plot.start + plot.stretch.first) ≡ Some top → IsLeast event_before (heap_at (maps_of_items slots plots items) group) top.slot top.key
-  least_of_plot top some e =
+  pub least_of_part : (top : Item Timed) → 0 < part.count → slice_get items part.start ≡ Some top → IsLeast event_before (heap_at (maps_of_items slots parts items) group) top.slot top.key
+  least_of_part top some e =
       subst (λ h. IsLeast event_before h top.slot top.key) (sym map_there)
-      (top_is_least event_before event_laws slots (standing places plot.stretch) stands.heap.apart stands.heap.ordered top (first_stands top some e))
+      (top_is_least event_before event_laws slots (keyed_of items part) heap_there.apart heap_there.ordered top (first_keyed items part top (omega (arith, part_in, part_fits)) some e))
 
-  -- its places are written
-  module _ (ys : List (Item Timed)) (k : ℕ) (is_room : k ≡ plot.room) (each : length ys ≡ k) (stretch : Stretch) where
-    abbrev pub plot_now : Plot
-    plot_now = record { start = plot.start; room = plot.room; stretch = stretch }
-
+  -- the first places are written, and this number of them have an item
+  module _ (ys : List (Item Timed)) (k : ℕ) (in_part : k ≤ part.room) (each : length ys ≡ k) (count : ℕ) (few : count ≤ k) where
     abbrev pub new_items : List (Item Timed)
-    new_items = put_mid plot.start k items ys
+    new_items = put_mid part.start k items ys
 
-    abbrev pub new_plots : List Plot
-    new_plots = set plots group plot_now
+    abbrev now : Part
+    now = counting parts (length items) heaps.packed group part at count
 
-    same_parts : map part_of_plot new_plots ≡ parts
-    same_parts =
-        map-set_same part_of_plot plots group plot_now plot (ap part_of_plot (sym (get_or_from_slice_get plots group plot plot at)))
+    abbrev pub new_parts : List Part
+    new_parts = set parts group now
 
     pub long : length new_items ≡ length items
-    long = length-written parts (length items) heaps.packed group part part_at items ys k refl (omega (arith, is_room)) each
+    long = length-written parts (length items) heaps.packed group part at items ys k refl in_part each
 
-    places_now : places_of new_items part ≡ ys
-    places_now =
-        part_written plot.start k items ys (omega (arith, plot_in)) plot.room (omega (arith, is_room, each)) ∙ take_all plot.room ys (omega (arith, is_room, each))
+    keyed_now : keyed_of new_items now ≡ take count ys
+    keyed_now = part_written part.start k items ys (omega (arith, part_in)) count (omega (arith, few, each))
 
-    elsewhere : (other : ℕ) (q : Plot) → slice_get plots other ≡ Some q → other ≢ group → places_of new_items (part_of_plot q) ≡ places_of items (part_of_plot q)
-    elsewhere other q e n =
-        places_elsewhere parts (length items) heaps.packed group part part_at items ys k refl (omega (arith, is_room)) each other (part_of_plot q) (slice_get-map part_of_plot plots other ∙ ap (option_map part_of_plot) e) n
+    elsewhere : (other : ℕ) (q : Part) → slice_get parts other ≡ Some q → other ≢ group → keyed_of new_items q ≡ keyed_of items q
+    elsewhere = keyed_elsewhere parts (length items) heaps.packed group part at items ys k refl in_part each
 
-    pub items_after : IsStretch event_before slots ys stretch → AreItemHeaps event_before slots new_plots new_items
-    items_after now = record {
-      packed = subst (λ (n : ℕ). ArePacked (map part_of_plot new_plots) n) (sym long) (subst (λ (ps : List Part). ArePacked ps (length items)) (sym same_parts) heaps.packed);
-      heap = λ other q e. there other q e (cases_eq other group);
+    pub items_after : IsTopHeap event_before (take count ys) slots slots → AreItemHeaps event_before slots new_parts new_items
+    items_after heap = record {
+      packed = subst (λ (n : ℕ). ArePacked new_parts n) (sym long) (packed_after parts (length items) heaps.packed group part at count (omega (arith, few, in_part)));
+      heap = λ other q e. there other q (part_after parts (length items) heaps.packed group part at count other q e);
     }
       where
-        there : (other : ℕ) (q : Plot) → slice_get new_plots other ≡ Some q → (other ≡ group) ⊎ (other ≢ group) → IsStretch event_before slots (places_of new_items (part_of_plot q)) q.stretch
-        there other q e (inl s) =
-            let same : plot_now ≡ q = same_Some plot_now q (sym (get_set_same plots group plot_now (slice_get_within plots group plot at)) ∙ ap (slice_get new_plots) (sym s) ∙ e) in
-            subst (λ (u : Plot). IsStretch event_before slots (places_of new_items (part_of_plot u)) u.stretch) same (subst (λ (xs : List (Item Timed)). IsStretch event_before slots xs stretch) (sym places_now) now)
-        there other q e (inr n) =
-            let was : slice_get plots other ≡ Some q = sym (get_set_other plots group other plot_now n) ∙ e in
-            subst (λ (xs : List (Item Timed)). IsStretch event_before slots xs q.stretch) (sym (elsewhere other q was n)) (heaps.heap other q was)
+        there : (other : ℕ) (q : Part) → ((other ≡ group) × (now ≡ q)) ⊎ ((other ≢ group) × (slice_get parts other ≡ Some q)) → IsTopHeap event_before (keyed_of new_items q) slots slots
+        there other q (inl s) =
+            subst (λ (u : Part). IsTopHeap event_before (keyed_of new_items u) slots slots) s.1 (subst (λ (xs : List (Item Timed)). IsTopHeap event_before xs slots slots) (sym keyed_now) heap)
+        there other q (inr s) =
+            subst (λ (xs : List (Item Timed)). IsTopHeap event_before xs slots slots) (sym (elsewhere other q s.1 s.0)) (heaps.heap other q s.1)
 
-    maps_after : (slot : ℕ) (value : Option Timed) → map_on slots ys stretch ≡ slice_set (map_of_items slots items plot) slot value → maps_of_items slots new_plots new_items ≡ with_key (maps_of_items slots plots items) (at_home group slot) value
+    maps_after : (slot : ℕ) (value : Option Timed) → placed slots (take count ys) ≡ slice_set (map_of_items slots items part) slot value → maps_of_items slots new_parts new_items ≡ with_key (maps_of_items slots parts items) (at_home group slot) value
     maps_after slot value is =
-        map_written (map_of_items slots items) (map_of_items slots new_items) plots group plot_now (λ other q e n. ap (λ xs. map_on slots xs q.stretch) (elsewhere other q e n))
-        ∙ ap (set (maps_of_items slots plots items) group) (ap (λ xs. map_on slots xs stretch) places_now ∙ is ∙ ap (λ h. slice_set h slot value) (sym map_there))
+        map_written (map_of_items slots items) (map_of_items slots new_items) parts group now (λ other q e n. ap (placed slots) (elsewhere other q e n))
+        ∙ ap (set (maps_of_items slots parts items) group) (ap (placed slots) keyed_now ∙ is ∙ ap (λ h. slice_set h slot value) (sym map_there))
 
-    same_rooms : map room_of_plot new_plots ≡ map room_of_plot plots
+    same_rooms : map room_of new_parts ≡ map room_of parts
     same_rooms =
-        map-set_same room_of_plot plots group plot_now plot (ap room_of_plot (sym (get_or_from_slice_get plots group plot plot at)))
+        map-set_same room_of parts group now part (ap room_of (sym (get_or_from_slice_get parts group part part at)))
 
-    pub roomed_after : (slot : ℕ) (value : Option Timed) → map_on slots ys stretch ≡ slice_set (map_of_items slots items plot) slot value → roomed slots new_plots new_items ≡ record { maps = with_key (maps_of_items slots plots items) (at_home group slot) value; rooms = map room_of_plot plots }
+    pub roomed_after : (slot : ℕ) (value : Option Timed) → placed slots (take count ys) ≡ slice_set (map_of_items slots items part) slot value → roomed slots new_parts new_items ≡ record { maps = with_key (maps_of_items slots parts items) (at_home group slot) value; rooms = map room_of parts }
     roomed_after slot value is i = record { maps = maps_after slot value is i; rooms = same_rooms i }

@@ -3,10 +3,8 @@ pub mod Homes
 pub mod InParts
 pub mod ItemParts
 pub mod ItemTable
-pub mod Stretching
 pub mod Rooms
 pub mod AtSlots
-pub mod StretchSteps
 pub mod SlotTable
 pub mod SlotParts
 pub mod Fresh

@@ -11,7 +11,7 @@ use Rattle.sim_heaps.specs.Map.{key_at}
 use Rattle.sim_heaps.specs.TopHeap.{placed, AreApart}
 use Rattle.sim_heaps.proofs.ForCallers.{length-placed}
 use Rattle.sim_groups.specs.Groups.{members, AreCounts}
-use Rattle.sim_groups.proofs.Stretching.{absent}
+use Rattle.sim_groups.proofs.ItemParts.{absent}
 
 -- what another number that passes a test, or does not, adds to a count
 abbrev one_if : Bool → ℕ

@@ -2,6 +2,8 @@
 use Rattle.std.specs.Prelude.{◌≡◌, ◌<◌, ◌≤◌, ◌+◌, ◌-◌, ℕ, Bool, List, Option, Some, length, map, take, slice_get, slice_index, slice_range}
 use Rattle.sim_groups.specs.declared.parts.Part.{Part}
 use Rattle.sim_heaps.specs.Heap.{keys_of, IsSlotHeap}
+use Rattle.sim_heaps.specs.Item.{Item}
+use Rattle.sim_heaps.specs.TopHeap.{placed, IsTopHeap}
 
 abbrev pub room_of : Part → ℕ
 room_of part = part.room
@@ -40,6 +42,23 @@ module _ {K : Type 0} where
   abbrev pub maps_of_slots : List Part → List K → List ℕ → List (List (Option K))
   maps_of_slots parts sorted places = map (map_of_slots sorted places) parts
 
+-- the maps of the groups, and the room of each for keys
+pub record Roomed (K : Type 0) : Type 0 where
+  pub maps : List (List (Option K))
+  pub rooms : List ℕ
+
+-- There are `slots` slots, any of which may have its key in the heap of any group.
+module _ {K : Type 0} (slots : ℕ) where
+  -- the map of a part that has items
+  abbrev pub map_of_items : List (Item K) → Part → List (Option K)
+  map_of_items items part = placed slots (keyed_of items part)
+
+  abbrev pub maps_of_items : List Part → List (Item K) → List (List (Option K))
+  maps_of_items parts items = map (map_of_items items) parts
+
+  abbrev pub roomed : List Part → List (Item K) → Roomed K
+  roomed parts items = record { maps = maps_of_items parts items; rooms = map room_of parts }
+
 module _ {K : Type 0} (before : K → K → Bool) where
   -- each part is a heap whose slots know their places
   pub record AreSlotHeaps (parts : List Part) (sorted : List K) (slots places : List ℕ) : Type 0 where
@@ -49,3 +68,10 @@ module _ {K : Type 0} (before : K → K → Bool) where
     pub heap :
         (group : ℕ) (part : Part) → slice_get parts group ≡ Some part
         → IsSlotHeap before (keyed_of sorted part) (places_of slots part) (places_of places part) part.room
+
+  -- each part is a heap of items
+  pub record AreItemHeaps (slots : ℕ) (parts : List Part) (items : List (Item K)) : Type 0 where
+    pub packed : ArePacked parts (length items)
+    pub heap :
+        (group : ℕ) (part : Part) → slice_get parts group ≡ Some part
+        → IsTopHeap before (keyed_of items part) slots slots

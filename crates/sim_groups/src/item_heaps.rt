@@ -1,32 +1,20 @@
 //! Heaps whose keys are removed only from the top, in one table.
-ghost use Rattle.std.specs.Prelude.{◌≡◌, ◌+◌, ◌*◌, ◌^◌, ◌<◌, ◌≤◌, ℕ, IfOk, IfSome, IsNone, Some, None, count_by, is_some, length, map, replicate, slice_index, sum};
+ghost use Rattle.std.specs.Prelude.{◌≡◌, ◌+◌, ◌*◌, ◌^◌, ◌<◌, ◌≤◌, ℕ, IfOk, IfSome, IsNone, Some, None, count_by, is_some, length, replicate, slice_index, slice_set, sum};
 ghost use Rattle.goal_limits.specs.declared.limits.TheConstants.{MAX_OPS};
 ghost use Rattle.sim_order.specs.Events.{event_before};
 ghost use Rattle.sim_heaps.specs.Item.{at_time};
 ghost use Rattle.sim_heaps.specs.Map.{key_at, no_keys, IsEmptyMap, IsLeast, IsSoleLeast};
+ghost use Rattle.sim_heaps.specs.TopHeap.{placed, IsTopHeap};
 ghost use Rattle.sim_groups.specs.Groups.{at_home, heap_at, with_key};
-ghost use Rattle.sim_groups.specs.Parts.{AreWithoutKeys};
-ghost use Rattle.sim_groups.specs.Stretches.{part_of_plot, AreFresh};
+ghost use Rattle.sim_groups.specs.Parts.{all_but_last};
 
 use crate::parts::{Part, parts};
-use crate::stretch::{Stretch, empty, put, take};
 use goal_limits::NoMemory;
-use sim_heaps::{AtZero, HeapItem};
+use sim_heaps::{AtZero, HeapItem, rise, sink};
 use sim_order::{CompactKey, Steps};
 use std::alloc::Global;
 use std::marker::Model;
 use std::sync::ledger::Ledger;
-
-/// The places of a heap in the table, and those of its items among them.
-#[derive(Clone, Copy)]
-pub struct Plot {
-    /// The first place.
-    pub start: u32,
-    /// The number of places.
-    pub room: u32,
-    /// The places that have items, counted from `start`.
-    pub stretch: Stretch,
-}
 
 /// A heap for each group. Its keys are at time 0; any slot without a key in it may get one, and only the least is
 /// removed. A group has room for as many keys as it has slots. Contracts see the maps of the groups, each of all slots.
@@ -34,20 +22,21 @@ pub struct Plot {
 pub struct ItemHeaps {
     // the number of slots; any of them may have its key in the heap of any group
     slots: u32,
-    plots: Vec<Plot>,
+    parts: Vec<Part>,
+    // the items at the places of each part; those of its heap come first
     items: Vec<HeapItem<AtZero>>,
 }
 
 impl Model for ItemHeaps {
     ghost use Rattle.goal_graph.specs.declared.action.Timed.{Timed};
     ghost use Rattle.sim_order.specs.Events.{event_before};
-    ghost use Rattle.sim_groups.specs.Stretches.{Roomed, roomed, AreItemHeaps};
+    ghost use Rattle.sim_groups.specs.Parts.{Roomed, roomed, AreItemHeaps};
 
     ghost Value = { Roomed Timed };
 
-    ghost view = { λ h. roomed h.slots h.plots.items h.items.items };
+    ghost view = { λ h. roomed h.slots h.parts.items h.items.items };
 
-    ghost invariant = { λ h. AreItemHeaps event_before h.slots h.plots.items h.items.items };
+    ghost invariant = { λ h. AreItemHeaps event_before h.slots h.parts.items h.items.items };
 }
 
 // Creates `count` items that do not belong to any group.
@@ -59,21 +48,48 @@ fn no_items(alloc: Global, count: usize) -> Result<Vec<HeapItem<AtZero>>, NoMemo
     Ok(items)
 }
 
-// Creates plots on these parts, without items.
-fn plots(alloc: Global, parts: &[Part]) -> Result<Vec<Plot>, NoMemory>
-    requires { AreWithoutKeys parts.now }
-    ensures parts { IfOk result (λ plots. map part_of_plot plots.items ≡ parts.now) }
-    ensures fresh { IfOk result (λ plots. AreFresh plots.items) }
+// Inserts an item of one of `slots` slots; the last place is free for it.
+#[inline(always)]
+fn enter<L: Ledger>(
+    items: &mut [HeapItem<AtZero>],
+    slots: u32,
+    item: HeapItem<AtZero>,
+    steps: &mut Steps<L>,
+)
+    requires some { 0 < length items.old }
+    requires heap { IsTopHeap event_before (all_but_last items.old) slots slots }
+    requires slot_in { item.slot < slots }
+    requires free { key_at (placed slots (all_but_last items.old)) item.slot ≡ None }
+    ensures each { length items.new ≡ length items.old }
+    ensures heap { IsTopHeap event_before items.new slots slots }
+    ensures put { placed slots items.new ≡ slice_set (placed slots (all_but_last items.old)) item.slot (Some item.key) }
+    ensures counted { (k : ℕ) → length items.old ≤ 2 ^ k → steps.new ≤ steps.old + k }
+    ensures onward { steps.old ≤ steps.new }
 {
-    let mut plots = Vec::with_capacity(alloc, parts.len())?;
-    'parts: for part in parts {
-        plots.push(Plot {
-            start: part.start,
-            room: part.room,
-            stretch: empty(),
-        })?;
+    let last = items.len() - 1;
+    items[last] = item;
+    rise(items, last, steps);
+}
+
+// Removes the least key, that of this slot of `slots` slots. The last place is free then.
+#[inline(always)]
+fn leave<L: Ledger>(items: &mut [HeapItem<AtZero>], slots: u32, slot: u32, steps: &mut Steps<L>)
+    requires heap { IsTopHeap event_before items.old slots slots }
+    requires least { IsSoleLeast event_before (placed slots items.old) slot }
+    ensures each { length items.new ≡ length items.old }
+    ensures heap { IsTopHeap event_before (all_but_last items.new) slots slots }
+    ensures taken { placed slots (all_but_last items.new) ≡ slice_set (placed slots items.old) slot None }
+    ensures counted { (k : ℕ) → length items.old ≤ 2 ^ k → steps.new ≤ steps.old + (2 * k + 1) }
+    ensures onward { steps.old ≤ steps.new }
+{
+    let left = items.len() - 1;
+    if left == 0 {
+        return;
     }
-    Ok(plots)
+    let last = items[left];
+    let front = &mut items[..left];
+    front[0] = last;
+    sink(front, steps);
 }
 
 impl ItemHeaps {
@@ -85,11 +101,10 @@ impl ItemHeaps {
         ensures { IfOk result (λ heaps. heaps ≡ record { maps = replicate (length counts.now) (no_keys slots); rooms = counts.now }) }
     {
         let (parts, size) = parts(alloc, counts)?;
-        let plots = plots(alloc, &parts)?;
         let items = no_items(alloc, size as usize)?;
         Ok(ItemHeaps {
             slots,
-            plots,
+            parts,
             items,
         })
     }
@@ -98,7 +113,7 @@ impl ItemHeaps {
     pub fn len(&self) -> usize
         ensures { result ≡ length self.now.maps }
     {
-        self.plots.len()
+        self.parts.len()
     }
 
     /// Gives a slot that has no key in a group one there, with time 0. The group has room for it.
@@ -111,18 +126,16 @@ impl ItemHeaps {
         ensures counted { (k : ℕ) → slice_index self.old.rooms group ≤ 2 ^ k → steps.new ≤ steps.old + (2 * k + 1) }
         ensures onward { steps.old ≤ steps.new }
     {
-        let plot = self.plots[group as usize];
-        let start = plot.start as usize;
-        let end = start + plot.room as usize;
-        let stretch = put(
-            &mut self.items[start..end],
-            plot.stretch,
+        let part = self.parts[group as usize];
+        let start = part.start as usize;
+        let count = part.count + 1;
+        enter(
+            &mut self.items[start..start + count as usize],
             self.slots,
-            slot,
-            key,
+            HeapItem::new(key, slot),
             steps,
         );
-        self.plots[group as usize] = Plot { stretch, ..plot };
+        self.parts[group as usize] = Part { count, ..part };
     }
 
     /// Removes the least key of a group, which this slot has; it is before every other.
@@ -133,17 +146,16 @@ impl ItemHeaps {
         ensures counted { (k : ℕ) → slice_index self.old.rooms group ≤ 2 ^ k → steps.new ≤ steps.old + (2 * k + 1) }
         ensures onward { steps.old ≤ steps.new }
     {
-        let plot = self.plots[group as usize];
-        let start = plot.start as usize;
-        let end = start + plot.room as usize;
-        let stretch = take(
-            &mut self.items[start..end],
-            plot.stretch,
+        let part = self.parts[group as usize];
+        let start = part.start as usize;
+        leave(
+            &mut self.items[start..start + part.count as usize],
             self.slots,
             slot,
             steps,
         );
-        self.plots[group as usize] = Plot { stretch, ..plot };
+        let count = part.count - 1;
+        self.parts[group as usize] = Part { count, ..part };
     }
 
     /// Returns the least key of a group, or `None` if it has none.
@@ -152,11 +164,10 @@ impl ItemHeaps {
         ensures none { IsNone result → IsEmptyMap (heap_at self.now.maps group) }
         ensures least { IfSome result (λ key. (slot : ℕ) × IsLeast event_before (heap_at self.now.maps group) slot key) }
     {
-        let plot = self.plots[group as usize];
-        let stretch = plot.stretch;
-        if stretch.first >= stretch.end {
+        let part = self.parts[group as usize];
+        if part.count == 0 {
             return None;
         }
-        Some(self.items[plot.start as usize + stretch.first as usize].key())
+        Some(self.items[part.start as usize].key())
     }
 }

@@ -6,7 +6,6 @@ mod item_heaps;
 mod parts;
 mod slot_groups;
 mod slot_heaps;
-mod stretch;
 mod waiting_key;
 
 pub use groups::Groups;

@@ -13,4 +13,4 @@ pub use queue::EventQueue;
 pub use run_heap::RunHeap;
 pub use sift::{settle, swap};
 pub use slot_heap::SlotHeap;
-pub use top_heap::{Arrivals, TopHeap, rise, sink};
+pub use top_heap::{TopHeap, rise, sink};

@@ -6,7 +6,7 @@ use crate::same::same;
 use goal_graph::{Class, Kind, Op, OpId, RankPlan, Sched};
 use goal_limits::NoMemory;
 use sim_order::{CompactKey, Counted, Steps};
-use sim_queue::{Arrivals, EventQueue, RankedQueue, SlotHeap, TopHeap, VecQueue, row_28};
+use sim_queue::{EventQueue, RankedQueue, SlotHeap, TopHeap, VecQueue, row_28};
 use std::alloc::{AllocError, Global};
 use std::marker::Brand;
 use std::sync::ledger::{Blank, Ledger};
@@ -116,7 +116,7 @@ fn first_and_second<L: Ledger>(
     heap.put(1, begin(2), &mut steps);
     heap.put(2, begin(3), &mut steps);
     let first = heap.least();
-    heap.take(1, Arrivals::Mixed, &mut steps);
+    heap.take(1, &mut steps);
     (first, heap.least())
 }
 

@@ -1,13 +1,12 @@
-use Rattle.std.proofs.Common.{◌∙◌, arith}
 use Rattle.sim_groups.proofs.Fresh.{items_begun, items_none}
 use Rattle.sim_groups.proofs.item_heaps.ItemHeaps.new.Goals as goal
 
 pub invariant_of-result : goal.invariant_of-result
 invariant_of-result c =
     let is = c.in_ok-parts.ensures in
-    items_begun c.in_ok-parts.parts.items c.in_ok-parts.size is.packed is.none c.args.counts.now is.rooms c.in_ok-plots.plots.items (c.in_ok-plots.ensures.parts ∙ c.deref.ensures.value) c.in_ok-plots.ensures.fresh c.in_ok-items.items.items c.in_ok-items.ensures c.args.slots c.requires.few (omega (arith, is.all, c.requires.few_in_all))
+    items_begun c.in_ok-parts.parts.items c.in_ok-parts.size is.packed is.none c.args.counts.now is.rooms c.in_ok-items.items.items c.in_ok-items.ensures c.args.slots c.requires.few
 
 pub returns : goal.returns
 returns c =
     let is = c.in_ok-parts.ensures in
-    items_none c.in_ok-parts.parts.items c.in_ok-parts.size is.packed is.none c.args.counts.now is.rooms c.in_ok-plots.plots.items (c.in_ok-plots.ensures.parts ∙ c.deref.ensures.value) c.in_ok-plots.ensures.fresh c.in_ok-items.items.items c.in_ok-items.ensures c.args.slots
+    items_none c.in_ok-parts.parts.items c.in_ok-parts.size is.packed is.none c.args.counts.now is.rooms c.in_ok-items.items.items c.in_ok-items.ensures c.args.slots

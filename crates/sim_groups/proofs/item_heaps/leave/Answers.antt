@@ -9,7 +9,7 @@ use Rattle.sim_heaps.specs.TopHeap.{placed, IsTopHeap}
 use Rattle.sim_heaps.proofs.ForCallers.{item_of, items_fit, some_items}
 use Rattle.sim_groups.specs.Parts.{all_but_last}
 use Rattle.sim_groups.proofs.ItemParts.{length-front, with_last, front_back, emptied, left_ordered, left_heap, left_placed}
-use Rattle.sim_groups.proofs.stretch.leave.Goals as goal
+use Rattle.sim_groups.proofs.item_heaps.leave.Goals as goal
 
 pub overflow_sub-left : goal.overflow_sub-left
 overflow_sub-left g c =

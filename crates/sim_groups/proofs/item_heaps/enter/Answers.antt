@@ -7,7 +7,7 @@ use Rattle.sim_heaps.specs.Places.{AreOrdered, AreOrderedBut}
 use Rattle.sim_heaps.specs.TopHeap.{key_there, AreMoved}
 use Rattle.sim_groups.specs.Parts.{all_but_last}
 use Rattle.sim_groups.proofs.ItemParts.{length-front, set_last, entered_ordered, entered_heap, entered_placed}
-use Rattle.sim_groups.proofs.stretch.enter.Goals as goal
+use Rattle.sim_groups.proofs.item_heaps.enter.Goals as goal
 
 pub rise-requires-clause-but : goal.rise-requires-clause-but
 rise-requires-clause-but g c =
