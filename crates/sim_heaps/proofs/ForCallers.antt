@@ -7,3 +7,5 @@ pub use Rattle.sim_heaps.proofs.Swapping.{length-swapped, swapped_inverse}
 pub use Rattle.sim_heaps.proofs.Changing.{dropped_last, dropped_within, entered, replaced}
 pub use Rattle.sim_heaps.proofs.Placed.{entered_keys, key_of_place, left_keys, moved_keys, none_there, settled, written}
 pub use Rattle.sim_heaps.proofs.Top.{empty_heap, top_of_heap}
+pub use Rattle.sim_heaps.proofs.Grouping.{changed, empty_group, group_at_home, heap_read, home_read, key_at_home, least_of_answer, no_group, sole_of_heap, still_housed}
+pub use Rattle.sim_heaps.proofs.Homes.{counted, counted_within, empty_grouped, empty_housed, home_given, homes_length, no_homes, none_at}

@@ -15,4 +15,6 @@ pub mod ItemSteps
 pub mod ItemChanges
 pub mod Joined
 pub mod Runs
+pub mod Grouping
+pub mod Homes
 pub mod ForCallers

@@ -1,6 +1,7 @@
 -- What only the code keeps.
 pub mod Map
 pub mod Places
+pub mod Groups
 pub mod Heap
 pub mod Item
 pub mod TopHeap

@@ -2,6 +2,7 @@
 #![tactic(auto)]
 
 mod heap_item;
+mod home;
 mod queue;
 mod run_heap;
 mod sift;
@@ -9,6 +10,7 @@ mod slot_heap;
 mod top_heap;
 
 pub use heap_item::{AtZero, HeapItem, ItemTime};
+pub use home::PlaceInGroup;
 pub use queue::EventQueue;
 pub use run_heap::RunHeap;
 pub use sift::{settle, swap};

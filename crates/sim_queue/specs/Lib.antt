@@ -7,4 +7,4 @@ pub mod Ranks
 pub use Rattle.goal_graph.specs.Schedule
 pub use Rattle.sim_order.specs.Events
 pub use Rattle.sim_heaps.specs.Map
-pub use Rattle.sim_groups.specs.Groups
+pub use Rattle.sim_heaps.specs.Groups

@@ -7,6 +7,5 @@ mod vec_queue;
 
 pub use ranked_queue::RankedQueue;
 pub use row::row_28;
-pub use sim_groups::{Groups, PlaceInGroup};
-pub use sim_heaps::{EventQueue, SlotHeap, TopHeap};
+pub use sim_heaps::{EventQueue, PlaceInGroup, SlotHeap, TopHeap};
 pub use vec_queue::VecQueue;

@@ -4,12 +4,11 @@ ghost use Rattle.goal_graph.specs.Schedule.{operations};
 ghost use Rattle.sim_heaps.specs.Map.{IsEmptyMap, IsLeast, no_keys};
 ghost use Rattle.sim_queue.specs.Ranked.{size_of};
 ghost use Rattle.sim_queue.specs.Ranks.{home_of, IsTold};
-ghost use Rattle.sim_groups.specs.Groups.{heap_at};
+ghost use Rattle.sim_heaps.specs.Groups.{heap_at};
 
 use goal_graph::Sched;
 use goal_limits::NoMemory;
-use sim_groups::PlaceInGroup;
-use sim_heaps::{EventQueue, SlotHeap};
+use sim_heaps::{EventQueue, PlaceInGroup, SlotHeap};
 use sim_order::{EventOrder, Steps};
 use std::alloc::Global;
 use std::marker::Model;

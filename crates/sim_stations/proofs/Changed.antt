@@ -9,7 +9,7 @@ use Rattle.goal_graph.specs.declared.action.Timed.{Timed}
 use Rattle.sim_order.specs.Events.{event_before}
 use Rattle.sim_heaps.specs.Map.{key_at, IsSoleLeast}
 use Rattle.sim_heaps.proofs.ForCallers.{key_within}
-use Rattle.sim_groups.specs.Groups.{Grouped, IsEmptyGroup, IsLeastOf, IsSoleLeastOf}
+use Rattle.sim_heaps.specs.Groups.{Grouped, IsEmptyGroup, IsLeastOf, IsSoleLeastOf}
 use Rattle.sim_stations.specs.declared.pair.Pair.{Pair}
 use Rattle.sim_stations.specs.declared.key_place.KeyPlace.{KeyPlace}
 use Rattle.sim_stations.specs.declared.key_place.KeyPlace.TheVariants.{Nowhere, Ahead, Waiting}

@@ -11,7 +11,7 @@ use Rattle.sim_order.specs.Events.{event_before}
 use Rattle.sim_order.specs.EventLaws.{event_laws}
 use Rattle.sim_heaps.specs.Map.{key_at, IsEmptyMap, IsLeast, IsSoleLeast}
 use Rattle.sim_heaps.proofs.ForCallers.{through, key_within}
-use Rattle.sim_groups.specs.Groups.{Grouped, IsLeastOf, IsSoleLeastOf}
+use Rattle.sim_heaps.specs.Groups.{Grouped, IsLeastOf, IsSoleLeastOf}
 use Rattle.sim_stations.specs.declared.pair.Pair.{Pair}
 use Rattle.sim_stations.specs.declared.key_place.KeyPlace.{KeyPlace}
 use Rattle.sim_stations.specs.Stations.{waits_for_room, at_time, both_free, earliest, when_free, pair_at, AreOfSlots}

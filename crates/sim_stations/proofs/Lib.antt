@@ -1,3 +1,11 @@
+pub mod InParts
+pub mod ItemParts
+pub mod ItemTable
+pub mod Rooms
+pub mod AtSlots
+pub mod SlotTable
+pub mod SlotParts
+pub mod Fresh
 pub mod Sides
 pub mod Seen
 pub mod Heads

@@ -5,7 +5,7 @@ use Rattle.std.proofs.lemmas.Option.{slice_get-get_or}
 use Rattle.goal_graph.specs.declared.action.Timed.{Timed}
 use Rattle.sim_heaps.specs.Map.{no_keys}
 use Rattle.sim_heaps.proofs.ForCallers.{none_of, same_maps}
-use Rattle.sim_groups.specs.Groups.{Grouped}
+use Rattle.sim_heaps.specs.Groups.{Grouped}
 use Rattle.sim_stations.specs.declared.pair.Pair.{Pair}
 use Rattle.sim_stations.specs.Stations.{DoExist}
 use Rattle.sim_stations.specs.Rows.{Rowed, sides, place_in, side_of, seen, turned_at, IsHead, IsInRows, AreHeads}

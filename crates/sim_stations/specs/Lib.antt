@@ -1,4 +1,6 @@
 -- What only the code keeps.
+pub mod Parts
+pub mod AtSlots
 pub mod Stations
 pub mod Moves
 pub mod Rows
@@ -6,4 +8,5 @@ pub mod Kept
 -- What the clauses cite of lower crates.
 pub use Rattle.goal_graph.specs.Schedule
 pub use Rattle.sim_order.specs.Events
+pub use Rattle.sim_heaps.specs.Groups
 pub use Rattle.sim_heaps.specs.Map

@@ -2,11 +2,17 @@
 //! later.
 #![tactic(auto)]
 
+mod groups;
+mod item_heaps;
 mod key_place;
 mod laws;
 mod pair;
+mod parts;
 mod rows;
+mod slot_groups;
+mod slot_heaps;
 mod station_queue;
+mod waiting_key;
 
 pub use key_place::KeyPlace;
 pub use laws::laws_of_changes;

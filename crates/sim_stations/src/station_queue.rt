@@ -12,11 +12,11 @@ ghost use Rattle.sim_stations.specs.Moves.{HaveReturned, HaveMoved, held_once_mo
 ghost use Rattle.sim_stations.specs.Rows.{IsFirst};
 ghost use Rattle.sim_stations.specs.Kept.{has_key, is_waiting, seen_of, AreShown, IsKept, IsFound, IsFirstOfAll, IsDeparted, IsBeforeAll, HasOneBefore};
 
+use crate::groups::Groups;
 use crate::rows::Rows;
 use crate::{KeyPlace, Pair};
 use goal_graph::{Class, Sched};
 use goal_limits::NoMemory;
-use sim_groups::Groups;
 use sim_heaps::RunHeap;
 use sim_order::{CompactKey, EventOrder, Steps};
 use std::alloc::Global;
