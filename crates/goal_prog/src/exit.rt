@@ -1,4 +1,4 @@
-// The numbers with which the program ends.
+// The exit statuses of the program.
 ghost use Rattle.std.specs.Prelude.{◌≡◌};
 ghost use Rattle.std.specs.Process.{exit_status};
 ghost use Rattle.std.specs.IoError.{error_kind};
@@ -9,10 +9,10 @@ use std::io;
 use std::io::ErrorKind;
 use std::process::ExitCode;
 
-// The number of a program whose words the system does not hand over, though it has memory.
+// The exit status where the system cannot give the words of the command line, for a reason other than memory.
 const NO_WORDS: u8 = 8;
 
-/// How the program ends after a status of the top call.
+/// Returns the exit status for a status of `goal`, 0 to 7.
 pub fn exit_of(status: Status) -> ExitCode
     ensures { exit_status result ≡ number_of status }
 {
@@ -29,7 +29,7 @@ pub fn exit_of(status: Status) -> ExitCode
     ExitCode::from(number)
 }
 
-/// How the program ends where the system does not hand over the words.
+/// Returns the exit status where the system cannot give the words of the command line: 7 if it ran out of memory, else 8.
 pub fn exit_without_words(error: &io::Error) -> ExitCode
     ensures { exit_status result ≡ number_without_words (error_kind error.now) }
 {

@@ -1,4 +1,4 @@
-//! The program `goal`: the words and devices of the system, handed to the top call of goal_cli.
+//! The program `goal`: calls `goal_cli::goal` with the words of the command line and the devices of the system.
 #![tactic(auto)]
 
 mod exit;
@@ -12,17 +12,17 @@ use std::process::ExitCode;
 use std::rt::Files;
 use std::{env, fs, io};
 
-// A folder that is always there: no byte is read from it or written to it.
+// A folder that always exists. No byte is read from it or written to it.
 const HELD: &str = "/";
 
-// The standard streams, by the names that the system has for what is open.
+// The standard streams, by the paths under which the system lists open files.
 const INPUT: &str = "/proc/self/fd/0";
 
 const OUTPUT: &str = "/proc/self/fd/1";
 
 const ERRORS: &str = "/proc/self/fd/2";
 
-// The line for words that the system does not hand over: one of them is no text.
+// The error line where a word of the command line is not UTF-8.
 const NO_TEXT: &[u8] = b"goal: a word of the command line is not UTF-8\n";
 
 // The words after the program's name.
@@ -30,8 +30,8 @@ fn command_words(rt: &HostRuntime) -> io::Result<Vec<String>> {
     Ok(env::args(rt)?.skip(1).collect(rt.alloc())?)
 }
 
-// Opens a folder where a standard stream is closed, so that no file of the command stands for it. Where the system does not
-// say what is open, it is opened as well. Where it cannot be opened, nothing is held.
+// Opens a folder if a standard stream is closed or its state is unknown, so that a file opened later does not become that
+// stream. Where the folder cannot be opened, the program continues without it.
 fn hold_stream<R: Files>(rt: &R, stream: &str) -> Option<io::Result<R::File>> {
     match fs::symlink_metadata(rt, stream) {
         Ok(_) => None,
