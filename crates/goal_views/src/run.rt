@@ -1,4 +1,4 @@
-// From a schedule and its costs to what a view shows of its run.
+// Runs a schedule and makes what a view shows of the run.
 ghost use Rattle.std.specs.Prelude.{ℕ, ◌≡◌, ◌≢◌, ◌+◌, ◌*◌, ◌++◌, ◌<◌, ◌≤◌, ◌^◌, [], length, unwrap_or, List, OnOk, IfOk, IfErr};
 ghost use Rattle.goal_graph.specs.declared.action.Timed.{Timed};
 ghost use Rattle.goal_graph.specs.Schedule.{operations};
@@ -25,8 +25,8 @@ use sim_waits::waits;
 use std::alloc::Global;
 use std::sync::ledger::Ledger;
 
-// The run of a schedule with these costs, to its end. Counters count the comparisons of its queue, the looks of its matcher
-// at entries, and its looks at needs of operations.
+// Runs a schedule with these costs to the end. `steps` counts the comparisons of its queue, `looks` the entries of match
+// lists that its matcher examines, and `reads` the needs that its actions examine.
 fn run_counted<'a, C: Costs + Drop, L: Ledger, M: Ledger, N: Ledger>(
     alloc: Global,
     sched: &'a Sched,
@@ -54,7 +54,8 @@ fn run_counted<'a, C: Costs + Drop, L: Ledger, M: Ledger, N: Ledger>(
     }
 }
 
-// What a view other than the printed run shows of an engine whose run is over, a row for each; and whether an operation has no end.
+// Returns what a view other than the printed run shows of a finished run, and whether an operation is stuck. Each view has
+// one row.
 fn text_of<C: Costs>(
     alloc: Global,
     sched: &Sched,
@@ -77,12 +78,12 @@ fn text_of<C: Costs>(
     }
 }
 
-// Gives back the memory of an engine. A function of its own keeps what goes here out of the proofs of its callers.
+// Releases an engine. As a separate function, it keeps the parts of the engine out of the proofs of its callers.
 fn let_go<C: Costs + Drop>(engine: Engine<'_, C, Unkept>) {
     let _engine = engine;
 }
 
-// What such a view shows, made whole.
+// Makes the whole text of a view other than the printed run, and releases the engine.
 fn show_whole<'a, C: Costs + Drop>(
     alloc: Global,
     sched: &'a Sched,
@@ -103,7 +104,7 @@ fn show_whole<'a, C: Costs + Drop>(
     Ok(Shown::whole(alloc, text, stuck))
 }
 
-// What a view shows of an engine whose run is over.
+// Returns what a view shows of a finished run: the printed run in pages, any other view whole.
 fn show<'a, C: Costs + Drop>(
     alloc: Global,
     sched: &'a Sched,
@@ -123,16 +124,17 @@ fn show<'a, C: Costs + Drop>(
     }
 }
 
-/// Runs a schedule with these costs, and gives what a view shows of its run. From the start of the run to its end a counter
-/// counts the comparisons of keys, one the looks of the matcher at entries, and one the looks at needs of operations.
+/// Runs a schedule with these costs, and returns what a view shows of the run. Throughout the run `steps` counts the
+/// comparisons of keys, `looks` the entries of match lists that the matcher examines, and `reads` the needs of operations
+/// that actions examine.
 ///
-/// - `counted`: among 2^k operations the run makes at most `cost_of_start` and `cost_of_run` comparisons.
-/// - `looked`: the matcher counts eight looks at most for each action.
-/// - `needed`: each action counts one look at each need whose moment it may give, and no other. The number is exact.
+/// - `counted`: among 2^k operations the run makes at most `cost_of_start` plus `cost_of_run` comparisons.
+/// - `looked`: the matcher examines at most eight entries per action.
+/// - `needed`: an action examines each need that its start or end may satisfy once, and no other. The number is exact.
 ///
 /// # Errors
 ///
-/// `Budget` where the time budget, this sum in nanoseconds, exceeds 2^63-1. And want of memory.
+/// `Budget` with the time budget in nanoseconds, where it exceeds 2^63-1. `NoMemory` where memory runs out.
 pub fn show_run<'a, C: Costs + Drop, L: Ledger, M: Ledger, N: Ledger>(
     alloc: Global,
     sched: &'a Sched,
