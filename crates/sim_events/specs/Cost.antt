@@ -1,5 +1,5 @@
--- What a run costs: how often its queue compares keys at most, and how many looks at needs it counts, over the schedule and
--- what has happened.
+-- The cost of a run, as a function of the schedule and the history: a bound on the comparisons of its queue, and the number
+-- of needs that its actions examine.
 use Rattle.std.specs.Prelude.{ℕ, ◌+◌, ◌*◌, ◌&&◌, ◌||◌, ◌==◌, ◌++◌, min, Bool, false, List, [], ◌∷◌, length, count_by, Option, Some, None, if◌then◌else◌}
 use Rattle.std.specs.List.{fold, list_any, sum_by}
 use Rattle.goal_graph.specs.declared.action.OpId.{OpId}
@@ -13,7 +13,7 @@ use Rattle.sim_events.specs.declared.station.Station.{Station}
 pub use Rattle.goal_graph.specs.Choices.{same_choice}
 pub use Rattle.sim_state.specs.Awaited.{given_by}
 
--- the station of an operation: what it waits for before it works
+-- the station of an operation: the cpu, and the side of a NIC, that it waits for before it works
 abbrev pub station_by : OpId → Op → Kind → Station
 station_by x o (Calc nanos) = record { rank = x.rank; cpu = Some o.cpu; sends = None; receives = None }
 station_by x o (Send bytes to tag) = record { rank = x.rank; cpu = Some o.cpu; sends = Some o.nic; receives = None }
@@ -44,7 +44,7 @@ abbrev pub station_as : OpId → Option Op → Station
 station_as x None = record { rank = x.rank; cpu = None; sends = None; receives = None }
 station_as x (Some o) = station_of x o
 
--- one more station, unless it is there
+-- adds a station to a list, unless it is listed already
 abbrev pub with_station : List Station → Station → List Station
 with_station stations s = if list_any (same_station s) stations then stations else stations ++ s ∷ []
 
@@ -52,8 +52,8 @@ with_station stations s = if list_any (same_station s) stations then stations el
 abbrev pub stations_among : List Plan → List OpId → List Station
 stations_among plans ops = fold (λ stations x. with_station stations (station_as x (op_at plans x))) [] ops
 
--- An action that waits for room holds two resources: the cpu of its operation, and that side of its interface or, where it
--- needs none, the cpu alone.
+-- An action that waits for free resources holds two: the cpu of its operation and the side of its NIC. Where it needs no
+-- side, it holds the cpu alone.
 abbrev pub holds_as : Station → Timed → Option Op → Bool
 holds_as resource a None = false
 holds_as resource a (Some o) =
@@ -69,18 +69,19 @@ module _ (plans : List Plan) where
   most_moves h =
       sum_by (λ s. 1 + 2 * min (times_held h (cpu_alone s)) (times_held h (side_alone s))) (stations_among plans (operations plans))
 
--- what so many actions cost, with so many changes of place: a key is put, found and taken out
+-- the comparisons for `actions` actions and `moves` changes of place: a key is put, found and taken out
 abbrev pub cost_of_actions : ℕ → ℕ → ℕ → ℕ
 cost_of_actions k actions moves = actions * (18 * k + 29) + moves * (8 * k + 15)
 
--- what the first keys of a schedule cost at most, among 2^k operations
+-- a bound on the comparisons for the first keys of a schedule, among 2^k operations
 abbrev pub cost_of_start : ℕ → List Plan → ℕ
 cost_of_start k plans = length (operations plans) * (10 * k + 16)
 
--- what a run costs at most, among 2^k operations: its actions, the changes of place that these allow, and its end
+-- a bound on the comparisons of a run, among 2^k operations: for its actions, the changes of place that they allow, and the
+-- end
 abbrev pub cost_of_run : ℕ → List Plan → List Timed → ℕ
 cost_of_run k plans h = cost_of_actions k (length h) (most_moves plans h) + 3
 
--- how many looks at needs are counted as so much happens: for each action one at each need whose moment it may give
+-- the number of needs that the actions of a history examine: each action those that its start or end may satisfy
 abbrev pub reads_of_run : List Plan → List Timed → ℕ
 reads_of_run plans h = sum_by (given_by plans) h

@@ -1,4 +1,4 @@
-// The engine: what has happened so far, and what happens next.
+// The engine: the history so far, and the action that happens next.
 ghost use Rattle.std.specs.Prelude.{◌≡◌, ℕ, ◌<◌, ◌≤◌, ◌+◌, ◌*◌, ◌^◌, ◌↔◌, List, [], ◌∷◌, IsTrue, IfSome, IfNone, IfOk, IfErr, OnOk, count_by, length, reverse};
 ghost use Rattle.goal_graph.specs.declared.action.OpId.{OpId};
 ghost use Rattle.goal_graph.specs.declared.action.Timed.{Timed};
@@ -24,16 +24,16 @@ use std::alloc::Global;
 use std::marker::{Brand, Model};
 use std::sync::ledger::{Blank, Ledger};
 
-/// Runs a schedule. Contracts see it as the plans of the schedule, the costs, and what has happened so far, newest
-/// first. Its type says whether the actions are kept that have happened: `Kept`, or `Unkept`, which takes no memory.
+/// Runs a schedule. Contracts see it as the plans of the schedule, the costs, and the history so far, newest first. Its
+/// type says whether it stores the history: `Kept` does, `Unkept` does not and takes no memory for it.
 pub struct Engine<'a, C: Costs, H: History = Kept> {
-    // what has happened, and what is known of each operation
+    // the history, and the state of each operation
     state: State<'a, C, H>,
-    // what may come, given back by a run once nothing may
+    // the queue of the actions that may come next; a finished run releases it
     pending: Option<Queue>,
 }
 
-// It goes by a call, and not field by field: so those that let one go are shorter to prove.
+// A call releases it, not each field in turn: so the callers that release one are shorter to prove.
 impl<C: Costs + Drop, H: History> Drop for Engine<'_, C, H> {
     fn drop(self) {
         let Engine {
@@ -55,8 +55,11 @@ impl<'a, C: Costs, H: History> Model for Engine<'a, C, H> {
 }
 
 impl<'a, C: Costs + Drop> Engine<'a, C> {
-    /// An engine before its first step. It takes all memory of the run; no later call takes any. Where the time budget
-    /// is over 2^63-1 the fault carries it, whether memory is there or not.
+    /// Creates an engine with the empty history. It takes all memory of the run; no later call takes any.
+    ///
+    /// # Errors
+    ///
+    /// `Budget` with the time budget in nanoseconds, where it exceeds 2^63-1. `NoMemory` where memory runs out.
     pub fn new(alloc: Global, sched: &'a Sched, costs: C) -> Result<Engine<'a, C>, EngineFault>
         ensures plans { IfOk result (λ e. e.plans ≡ sched.now) }
         ensures costs { IfOk result (λ e. e.costs ≡ costs) }
@@ -69,12 +72,12 @@ impl<'a, C: Costs + Drop> Engine<'a, C> {
 }
 
 impl<'a, C: Costs + Drop, H: History> Engine<'a, C, H> {
-    /// An engine before its first step, which keeps its actions or not, as its type says. A counter counts the comparisons
-    /// of keys. Else as `new`.
+    /// Creates an engine as `new` does. Its type says whether it stores the history, and `steps` counts the comparisons of
+    /// keys.
     ///
-    /// - `counted`: among 2^k operations it compares 10k + 16 times at most for each.
+    /// - `counted`: among 2^k operations it makes at most 10k + 16 comparisons per operation.
     ///
-    /// It asks the schedule how many needs each operation has, and whether another needs it. No counter counts that.
+    /// It also asks the schedule how many needs each operation has, and whether another needs it. This is not counted.
     pub fn start_counted<L: Ledger>(
         alloc: Global,
         sched: &'a Sched,
@@ -97,7 +100,7 @@ impl<'a, C: Costs + Drop, H: History> Engine<'a, C, H> {
     }
 }
 
-// An engine before its first step, with a counter of its own.
+// Creates an engine with a counter made for this call.
 fn new_by<'a, C: Costs + Drop, L: Ledger>(
     alloc: Global,
     blank: Blank,
@@ -118,7 +121,7 @@ fn new_by<'a, C: Costs + Drop, L: Ledger>(
 }
 
 impl<'a, C: Costs> Engine<'a, C> {
-    /// What has happened, oldest first.
+    /// Returns the history, oldest first.
     pub fn trace(&self) -> &[Timed]
         ensures { result.now ≡ reverse self.now.history }
     {
@@ -127,8 +130,8 @@ impl<'a, C: Costs> Engine<'a, C> {
 }
 
 impl<'a, C: Costs, H: History> Engine<'a, C, H> {
-    /// Lets the next action happen and answers it: the possible one of the least key. Where nothing is possible it
-    /// answers None, and nothing changes.
+    /// Performs the possible action with the least key, and returns it. Where no action is possible it returns None and
+    /// changes nothing.
     pub fn step(&mut self) -> Option<Timed>
         ensures next { IfSome result (IsNext self.old.plans (C.model self.old.costs) self.old.history) }
         ensures after { IfSome result (λ a. self.new ≡ record self.old { history = a ∷ self.old.history }) }
@@ -150,13 +153,13 @@ impl<'a, C: Costs, H: History> Engine<'a, C, H> {
         )
     }
 
-    /// Lets all that is possible happen, until nothing is. Then it gives back the memory that steps need.
+    /// Performs actions until none is possible. Then it releases the memory that steps need.
     ///
-    /// - `complete`: what has happened is a complete run, and `only` one is.
+    /// - `complete`: the history is a complete run, and `only` this one is.
     /// - `three_each`: no operation has more than three actions.
-    /// - `times`: no time of it is later than the time budget.
-    /// - `interleaving`: without its times it is a complete interleaving, in which those sends are eager that the costs
-    ///   call so.
+    /// - `times`: no time in it is later than the time budget.
+    /// - `interleaving`: without its times it is a complete interleaving, in which exactly those sends are eager that the
+    ///   costs say are.
     pub fn run(&mut self)
         ensures plans { self.new.plans ≡ self.old.plans }
         ensures costs { self.new.costs ≡ self.old.costs }
@@ -169,16 +172,16 @@ impl<'a, C: Costs, H: History> Engine<'a, C, H> {
         self.run_by::<Brand, Brand, Brand>(Blank::new(1), Blank::new(1), Blank::new(1));
     }
 
-    /// The same, with a counter of the comparisons of keys, one of the looks of the matcher at entries, and one of the looks
-    /// at needs of operations. What `run` says besides follows from `complete`.
+    /// Runs as `run` does, and counts: `steps` the comparisons of keys, `looks` the entries of match lists that the matcher
+    /// examines, `reads` the needs of operations that actions examine. The other clauses of `run` follow from `complete`.
     ///
-    /// - `counted`: among 2^k operations it compares 18k + 29 times at most for each action that has happened then, and 8k + 15
-    ///   times for each change of place of a station, of which there are at most `most_moves`.
-    /// - `looked`: the matcher counts eight looks at most for each action.
-    /// - `needed`: each action counts one look at each need whose moment it may give, and no other. The number is exact.
+    /// - `counted`: among 2^k operations it makes at most 18k + 29 comparisons per action of the history, and 8k + 15 per
+    ///   change of place of a station. There are at most `most_moves` such changes.
+    /// - `looked`: the matcher examines at most eight entries per action.
+    /// - `needed`: an action examines each need that its start or end may satisfy once, and no other. The number is exact.
     ///
-    /// The bounds are on counted looks: no clause bounds a look that ticks no counter. An action goes over the needs of
-    /// others twice, to give its moments and to follow it, and counts the first.
+    /// The clauses bound only what is counted. An action visits the needs of waiting operations twice: to satisfy them, which
+    /// is counted, and to update the queue, which is not.
     pub fn run_counted<L: Ledger, M: Ledger, N: Ledger>(
         &mut self,
         steps: &mut Steps<L>,
@@ -207,7 +210,7 @@ impl<'a, C: Costs, H: History> Engine<'a, C, H> {
         drop(self.pending.take());
     }
 
-    // Lets all that is possible happen, with counters of its own.
+    // Performs actions until none is possible, with counters made for this call.
     fn run_by<L: Ledger, M: Ledger, N: Ledger>(
         &mut self,
         blank: Blank,
@@ -233,7 +236,7 @@ impl<'a, C: Costs, H: History> Engine<'a, C, H> {
         self.run_counted(&mut steps, &mut looks, &mut reads);
     }
 
-    /// Whether nothing is possible.
+    /// Returns whether no action is possible.
     pub fn is_done(&self) -> bool
         ensures { IsTrue result ↔ IsFinished self.now.plans (C.model self.now.costs) self.now.history }
     {
@@ -244,7 +247,7 @@ impl<'a, C: Costs, H: History> Engine<'a, C, H> {
         }
     }
 
-    /// What is known of an operation.
+    /// Returns the start, the end and the partner of an operation, as far as the history has them.
     pub fn record(&self, id: OpId) -> Record
         requires { IsOp self.now.plans id }
         ensures start { result.start ≡ start_known self.now.plans (C.model self.now.costs) self.now.history id }
@@ -254,22 +257,22 @@ impl<'a, C: Costs, H: History> Engine<'a, C, H> {
         self.state.record(id)
     }
 
-    /// The schedule that runs.
+    /// Returns the schedule that runs.
     pub fn sched(&self) -> &'a Sched
         ensures { result.now ≡ self.now.plans }
     {
         self.state.sched()
     }
 
-    /// The costs of its messages.
+    /// Returns the costs of its messages.
     pub fn costs(&self) -> &C
         ensures { result.now ≡ self.now.costs }
     {
         self.state.costs()
     }
 
-    /// What holds of every engine: its schedule is accepted, its time budget is at most 2^63-1, what
-    /// has happened is the run so far, and no time of it is later than the budget.
+    /// States the invariant: the schedule is accepted, the time budget is at most 2^63-1, the history is a run, and no
+    /// time in it is later than the budget.
     pub fn known(&self)
         ensures accepted { IsAccepted self.now.plans }
         ensures fits { budget self.now.plans (C.model self.now.costs) < 2 ^ 63 }

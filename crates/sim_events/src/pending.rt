@@ -1,4 +1,4 @@
-// What may come, and how a run goes through it.
+// The queue of the actions that may come next, and the steps of a run.
 ghost use Rattle.std.specs.Prelude.{◌≡◌, ℕ, ◌<◌, ◌≤◌, ◌+◌, ◌*◌, ◌^◌, [], IfOk, length};
 ghost use Rattle.goal_graph.specs.Schedule.{operations};
 ghost use Rattle.sim_params.specs.Costs.{CostModel};
@@ -21,7 +21,7 @@ use sim_state::{History, State};
 use std::alloc::Global;
 use std::sync::ledger::{Blank, Ledger};
 
-// The queue of a schedule, in which no operation has a key.
+// Creates the queue of a schedule, without keys.
 fn queue_of(alloc: Global, sched: &Sched) -> Result<Queue, NoMemory>
     ensures of_it { IfOk result (λ q. (costs : CostModel) → IsOfSchedule sched.now costs [] q) }
     ensures empty { IfOk result (λ q. IsEmptyMap q.keys) }
@@ -36,8 +36,8 @@ fn queue_of(alloc: Global, sched: &Sched) -> Result<Queue, NoMemory>
     )
 }
 
-/// The queue before the first action: it has the key of each operation that may act. Among 2^k operations it compares 10k + 16
-/// times at most for each.
+/// Creates the queue before the first action, with the key of each operation that may act. Among 2^k operations it makes at
+/// most 10k + 16 comparisons per operation.
 pub fn at_the_start<C: Costs, H: History, L: Ledger>(
     alloc: Global,
     state: &State<C, H>,
@@ -53,7 +53,7 @@ pub fn at_the_start<C: Costs, H: History, L: Ledger>(
     Ok(queue)
 }
 
-// Lets the next action happen and answers it. What it compares is the cost of the action and of the changes of place.
+// Performs the next action and returns it. `counted` bounds the comparisons by the action and the changes of place.
 fn step<C: Costs, H: History, L: Ledger, R: Ledger, M: Ledger, N: Ledger>(
     state: &mut State<C, H>,
     queue: &mut Queue,
@@ -81,9 +81,9 @@ fn step<C: Costs, H: History, L: Ledger, R: Ledger, M: Ledger, N: Ledger>(
     Some(action)
 }
 
-// Lets all that is possible happen. Among 2^k operations each action costs 18k + 29 comparisons at most, and each change of
-// place of a station 8k + 15, what the keys have cost that are there before it included. The matcher counts eight looks
-// an action at most, and each need whose moment an action may give is counted once.
+// Performs actions until none is possible. Among 2^k operations it makes at most 18k + 29 comparisons per action and 8k + 15
+// per change of place of a station, including those for the keys that are in the queue already. The matcher examines at most
+// eight entries per action, and each need that an action may satisfy is counted once.
 fn run<C: Costs, H: History, L: Ledger, R: Ledger, M: Ledger, N: Ledger>(
     state: &mut State<C, H>,
     queue: &mut Queue,
@@ -105,8 +105,8 @@ fn run<C: Costs, H: History, L: Ledger, R: Ledger, M: Ledger, N: Ledger>(
     'steps: while step(state, queue, steps, moves, looks, reads).is_some() {}
 }
 
-/// Lets the next action happen and answers it: the possible one of the least key. Where nothing is possible it answers
-/// None, and nothing changes.
+/// Performs the possible action with the least key, and returns it. Where no action is possible it returns None and changes
+/// nothing.
 pub fn step_once<C: Costs, H: History, L: Ledger, R: Ledger, M: Ledger, N: Ledger>(
     state: &mut State<C, H>,
     queue: &mut Queue,
@@ -138,8 +138,8 @@ pub fn step_once<C: Costs, H: History, L: Ledger, R: Ledger, M: Ledger, N: Ledge
     step(state, queue, &mut steps, &mut moves, &mut looks, &mut reads)
 }
 
-/// Lets all that is possible happen, until nothing is. What it compares, and what the matcher looks at, is bounded by what has
-/// happened then, and the looks at needs are counted exactly.
+/// Performs actions until none is possible. The history at the end bounds the comparisons and the entries that the matcher
+/// examines, and gives the exact number of needs that were examined.
 pub fn run_on<C: Costs, H: History, L: Ledger, R: Ledger, M: Ledger, N: Ledger>(
     state: &mut State<C, H>,
     queue: &mut Queue,
