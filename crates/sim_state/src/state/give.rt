@@ -1,4 +1,4 @@
-// The moments that an action gives those that wait for its operation.
+// Gives the start or end of an action's operation to the operations that wait for it.
 ghost use Rattle.std.specs.Prelude.{◌≡◌, ◌≢◌, ◌+◌, ◌<◌, ◌^◌, ◌∷◌, All, map};
 ghost use Rattle.goal_graph.specs.declared.action.Class.TheVariants.{Arrive};
 ghost use Rattle.goal_graph.specs.declared.plan.When.{When};
@@ -19,7 +19,7 @@ use sim_order::Steps;
 use sim_params::Costs;
 use std::sync::ledger::Ledger;
 
-// The moment of an operation, of these times, that a need is of, once it is there.
+// Returns the start or the end among these times, as a need of this kind asks for, if the operation has it.
 #[inline(always)]
 fn moment_of(times: &Times, when: When) -> Option<u64>
     ensures { result ≡ moment_in times.now when }
@@ -30,9 +30,11 @@ fn moment_of(times: &Times, when: When) -> Option<u64>
     }
 }
 
-/// Gives those that wait for an action's operation the moments that the action gives: its operation has the start and the
-/// end of these times since. `given`: the counter counts exactly the needs whose moment the action may give. The costs and
-/// the history are read by clauses alone.
+/// Gives `times`, the start and end that an action's operation has since the action, to the operations in `waiting`.
+///
+/// - `given`: `reads` counts exactly the needs that the action may satisfy.
+///
+/// Only the contract uses the costs and the history.
 #[inline(always)]
 pub fn give<C: Costs, H: History, N: Ledger>(
     sched: &Sched,

@@ -1,4 +1,4 @@
-// What each action changes.
+// Performs an action: what it changes of its operation, of the resources and of the match lists.
 ghost use Rattle.std.specs.Prelude.{◌≡◌, ◌≢◌, ◌≤◌, ◌+◌, ◌<◌, ◌^◌, ◌∷◌, All, map, None};
 ghost use Rattle.goal_graph.specs.declared.action.Class.TheVariants.{Arrive, Begin};
 ghost use Rattle.goal_graph.specs.Schedule.{operations, needed};
@@ -28,12 +28,12 @@ use sim_resources::Resources;
 use std::sync::ledger::Ledger;
 
 impl<'a, C: Costs, H: History> State<'a, C, H> {
-    /// Lets the next action happen, and gives its moments to those that wait for its operation, which an Arrive need not be told: it
-    /// gives none.
+    /// Performs the next action, and gives the start or end of its operation to the operations in `waiting`, which wait for
+    /// it. An Arrive gives neither, so `waiting` may be anything then.
     ///
-    /// - `looked`: for the action the matcher counts at most eight looks at entries of match lists. Those that it passes
-    ///   were counted when they came (`Matcher::post_counted`).
-    /// - `given`: `reads` counts exactly the needs whose moment the action may give.
+    /// - `looked`: the matcher examines at most eight entries of match lists for the action. The entries that it skips were
+    ///   counted when they came (`Matcher::post_counted`).
+    /// - `given`: `reads` counts exactly the needs that the action may satisfy.
     pub fn perform<M: Ledger, N: Ledger>(
         &mut self,
         action: Timed,
@@ -75,8 +75,8 @@ impl<'a, C: Costs, H: History> State<'a, C, H> {
     }
 }
 
-// What the next action changes of its operation. What it uses is held, and the matcher is told of a post or an arrival. The
-// history is read by clauses alone.
+// Returns what the next action changes of its operation. It holds the resources that the action uses, and passes a post or
+// an arrival to the matcher. Only the contract uses the history.
 #[inline(always)]
 fn change_of<C: Costs, H: History, M: Ledger>(
     sched: &Sched,
@@ -128,7 +128,7 @@ fn change_of<C: Costs, H: History, M: Ledger>(
     }
 }
 
-// What the begin of a calc or a send makes known of its times. What it uses is held.
+// Returns the times of a calc or a send after its Begin, and holds the resources that it uses.
 #[inline(always)]
 fn begin<C: Costs, H: History>(
     sched: &Sched,
