@@ -1,4 +1,4 @@
-// The certifier of all segments of a collective in one run that begins with all of them.
+// Certifies all segments of a collective in one run that begins with all of them.
 ghost use Rattle.std.specs.Prelude.{◌≡◌, ◌⊎◌, ◌*◌, ◌^◌, ◌<◌, ◌≤◌, length, Err, OnOk, IfErr, IsErrAnd};
 ghost use Rattle.goal_certify.specs.declared.at_once.AtOnceFault.{AtOnceFault};
 ghost use Rattle.goal_certify.specs.AtOnce.{named, AreCertifiedAtOnce, AreRightAtOnce, IsAtOnceFault, IsOutOfMemory};
@@ -12,11 +12,11 @@ use std::alloc::Global;
 /// Why not all segments of a collective are certified at once.
 #[derive(Clone, Copy, Debug, PartialEq, Eq)]
 pub enum AtOnceFault {
-    /// A block has fewer slots than the collective names: so it is for each collective where the width is 0.
+    /// A block has fewer slots than the collective names. A width of 0 is always too narrow.
     Narrow,
     /// A segment is not certified in its block.
     Segment(SegmentFault),
-    /// What begins in the segment `from` is at the end in the slot, which is of another segment's block.
+    /// A contribution of segment `from` ends in a slot of another segment's block.
     Stray {
         /// The number of the segment's block, from 0.
         from: u32,
@@ -27,7 +27,7 @@ pub enum AtOnceFault {
     },
 }
 
-// How many slots a collective names, from slot 0 on.
+// Returns the number of slots that a collective names, from slot 0 on.
 fn named_slots(what: Collective, ranks: u32) -> u32
     requires few { ranks ≤ 65536 }
     ensures named { result ≡ named what ranks }
@@ -42,20 +42,22 @@ fn named_slots(what: Collective, ranks: u32) -> u32
     }
 }
 
-/// Certifies that all `count` segments of a collective are right in one run that begins with all of them: the segment j
-/// in the slots from `j` times `width` on, as the collective is done in the slots from 0 on.
+/// Certifies that all `count` segments of a collective are right in one run that begins with all of them. Segment j uses the
+/// slots from `j * width` on as the collective uses those from 0 on.
 ///
-/// In every interleaving of what is certified, and whatever is eager, each segment's slots hold at the end what the
-/// collective wants there, and nothing that began in another segment. `certify_segments` asks for less: it lets each
-/// segment begin alone, so that a calc which adds a slot of one segment to a slot of another adds nothing.
+/// If a schedule passes, then in every interleaving and for every choice of eager sends each segment's slots hold at the end
+/// what the collective wants there, and no contribution of another segment. `certify_segments` asks for less: it starts with
+/// one segment at a time, so a calc that adds a slot of one segment to a slot of another adds nothing.
 ///
-/// It takes two walks for each segment.
+/// This takes two walks per segment.
 ///
 /// # Errors
 ///
-/// `Narrow` exactly where a block has fewer slots than the collective names, so wherever `width` is 0; else the fault of
-/// `certify_segments`, where it finds one; else the first segment that leaves something in the block of another, and the
-/// least slot there. `NoMemory` may come in place of any answer but `Narrow`, and says nothing of the schedule.
+/// - `Narrow` exactly where a block has fewer slots than the collective names.
+/// - Else `Segment` with the fault of `certify_segments`, if it finds one.
+/// - Else `Stray` with the first segment that leaves a contribution in the block of another, and the least such slot.
+///
+/// `Segment` with `NoMemory` may replace any result but `Narrow`; it says nothing about the schedule.
 pub fn certify_at_once(
     alloc: Global,
     sched: &Sched,

@@ -1,4 +1,4 @@
-//! Whether a schedule does what a collective wants, in every interleaving: the first fault of it, or none.
+//! Certifies that a schedule implements a collective in every interleaving, or returns its first fault.
 #![tactic(auto)]
 
 mod at_once;

@@ -1,4 +1,4 @@
-// The certifier of collectives that are done in segments.
+// Certifies collectives that are done in segments.
 ghost use Rattle.std.specs.Prelude.{ℕ, ◌≡◌, ◌⊎◌, ◌+◌, ◌*◌, ◌^◌, ◌<◌, ◌≤◌, OnOk, IfErr, IsErrAnd};
 ghost use Rattle.goal_blocks.specs.Segments.{IsCertifiedIn, AreAllRight};
 ghost use Rattle.goal_certify.specs.declared.segments.SegmentFault.{SegmentFault};
@@ -19,18 +19,18 @@ pub struct SegmentFault {
     pub fault: CertFault,
 }
 
-/// Certifies a schedule for a collective that is done in `count` segments, each in a block of `width` slots: the segment j in
-/// the slots from `j` times `width` on, as the collective is done in the slots from 0 on.
+/// Certifies a schedule for a collective that is done in `count` segments, each in a block of `width` slots. Segment j uses
+/// the slots from `j * width` on as the collective uses those from 0 on.
 ///
-/// Each segment is certified from the start that the collective has in its block, and for what it wants there at the end, so
-/// the other blocks are empty at the start, unless the collective names slots beyond `width`. What is certified in all blocks
-/// is right in all of them, in every interleaving and whatever is eager, each from its own start: that segments keep apart is
-/// what `certify_at_once` certifies. It takes a walk for each segment.
+/// Each segment is certified on its own: the collective's initial values are in its block and nowhere else, unless the
+/// collective names slots beyond `width`. A schedule that passes leaves the wanted values in each block, in every
+/// interleaving and for every choice of eager sends, when it starts with that segment alone. `certify_at_once` certifies
+/// that the segments do not mix. This takes one walk per segment.
 ///
 /// # Errors
 ///
-/// The first block in which the schedule is not certified, and its first fault there, exactly where there is one. Any answer
-/// may give way to `NoMemory` in some block, which says nothing of the schedule.
+/// The first block in which the schedule is not certified, with its first fault there, exactly where there is one.
+/// `NoMemory`, with some block, may replace any result; it says nothing about the schedule.
 pub fn certify_segments(
     alloc: Global,
     sched: &Sched,

@@ -1,5 +1,4 @@
-// The walk: one run without times in which no send is eager, and the first of the actions that may happen is always the
-// next.
+// The walk: the interleaving in which no send is eager and the first allowed action is always the next.
 ghost use Rattle.std.specs.Prelude.{◌≡◌, ◌<◌, [], true, IfSome, IfNone, IfOk};
 ghost use Rattle.goal_graph.specs.Action.{Act};
 ghost use Rattle.goal_graph.specs.Matching.{pairs, partner};
@@ -36,17 +35,17 @@ use progress::Progress;
 use state::State;
 use turns::Turns;
 
-/// Walks through a schedule. Contracts see it as the plans of the schedule and what has happened so far, newest first.
+/// Walks through a schedule. Contracts see it as the plans of the schedule and the history so far, newest first.
 pub struct Walker<'a> {
-    // what has happened, and what is known of each operation
+    // the history, and the state of each operation
     state: State<'a>,
-    // which operations may act
+    // the operations that may act
     queue: Turns,
-    // how far the needs of each operation have been looked at
+    // how many needs of each operation have been examined
     cursors: Vec<Cursor>,
 }
 
-// It goes by a call, and not field by field: so those that let one go are shorter to prove.
+// A call releases it, not each field in turn: so the callers that release one are shorter to prove.
 impl Drop for Walker<'_> {
     fn drop(self) {
         let Walker {
@@ -69,7 +68,7 @@ impl<'a> Model for Walker<'a> {
 }
 
 impl<'a> Walker<'a> {
-    /// A walker before its first step. It takes all memory of the walk; no later call takes any.
+    /// Creates a walker with the empty history. It takes all memory of the walk; no later call takes any.
     pub fn new(alloc: Global, sched: &'a Sched) -> Result<Walker<'a>, NoMemory>
         ensures plans { IfOk result (λ w. w.plans ≡ sched.now) }
         ensures empty { IfOk result (λ w. w.history ≡ []) }
@@ -85,8 +84,8 @@ impl<'a> Walker<'a> {
         })
     }
 
-    /// Lets the next action happen and answers it: the first of those that may. Where none may it answers None, what has
-    /// happened is the walk, and nothing changes.
+    /// Performs the first allowed action, and returns it. Where no action is allowed it returns None and changes nothing:
+    /// the history is then the walk.
     pub fn next(&mut self) -> Option<Action>
         ensures allowed { IfSome result (λ a. allowed self.old.plans no_send self.old.history a.class a.op ≡ true) }
         ensures first { IfSome result (λ a. (b : Act) → allowed self.old.plans no_send self.old.history b.class b.op ≡ true → ComesFirst (act_of a) b) }
@@ -102,7 +101,7 @@ impl<'a> Walker<'a> {
         Some(action)
     }
 
-    /// Walks to the end: what has happened is then the walk.
+    /// Walks to the end: the history is then the walk.
     pub fn finish(&mut self)
         ensures plans { self.new.plans ≡ self.old.plans }
         ensures walk { IsWalk self.new.plans self.new.history }
@@ -111,7 +110,7 @@ impl<'a> Walker<'a> {
         'steps: while self.next().is_some() {}
     }
 
-    /// The operation that another is paired with, once it is.
+    /// Returns the operation that `id` is paired with, once it is.
     pub fn partner(&self, id: OpId) -> Option<OpId>
         requires { IsOp self.now.plans id }
         ensures { result ≡ partner (pairs self.now.plans self.now.history) id }
@@ -119,7 +118,7 @@ impl<'a> Walker<'a> {
         self.state.partner(id)
     }
 
-    /// Whether an operation has an end.
+    /// Returns whether an operation has an end.
     pub fn has_ended(&self, id: OpId) -> bool
         requires { IsOp self.now.plans id }
         ensures { result ≡ has_ended self.now.plans no_send id self.now.history }
@@ -127,15 +126,15 @@ impl<'a> Walker<'a> {
         self.state.is_met(When::AfterEnd, id)
     }
 
-    /// The schedule.
+    /// Returns the schedule.
     pub fn sched(&self) -> &'a Sched
         ensures { result.now ≡ self.now.plans }
     {
         self.state.sched()
     }
 
-    /// What holds of every walker: its schedule is accepted, what has happened is an interleaving, and each action was
-    /// the first of those that might happen.
+    /// States the invariant: the schedule is accepted, the history is an interleaving, and each action was the first
+    /// allowed one.
     pub fn known(&self)
         ensures accepted { IsAccepted self.now.plans }
         ensures each { IsInterleaving self.now.plans no_send self.now.history }

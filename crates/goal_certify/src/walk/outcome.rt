@@ -1,5 +1,5 @@
-// The last three kinds of faults, those of the walk: operations without an end in it, more contributions than may be held
-// at a moment of it, and slots that do not hold at its end what is wanted of them.
+// The last three kinds of faults, which the walk finds: an operation has no end, too many contributions are held at some
+// point, or a slot does not hold the wanted value at the end.
 ghost use Rattle.std.specs.Prelude.{◌≡◌, ◌+◌, ◌*◌, ◌^◌, ◌≤◌, [], None, replicate, OnOk, IfOk, IfErr, IfSome, IfNone};
 ghost use Rattle.goal_blocks.specs.Channels.{HasNoWildcard};
 ghost use Rattle.goal_blocks.specs.declared.cert_fault.CertFault.TheVariants.{Wrong, NoMemory};
@@ -19,7 +19,7 @@ use goal_graph::Sched;
 use goal_values::SlotValues;
 use std::alloc::{AllocError, Global};
 
-// Nothing is under way of so many operations.
+// No parcel for any of `count` operations.
 fn no_parcels(alloc: Global, count: u32) -> Result<Vec<Option<Parcel>>, AllocError>
     ensures { IfOk result (λ parcels. parcels.items ≡ replicate count None) }
 {
@@ -30,8 +30,8 @@ fn no_parcels(alloc: Global, count: u32) -> Result<Vec<Option<Parcel>>, AllocErr
     Ok(parcels)
 }
 
-// Walks from the start of a segment to the end with the values of a collective: what the slots hold then, or the first
-// moment at which more contributions are held than may be. The walker has not taken a step before.
+// Walks from the start of a segment to the end, and returns the final values of the slots, or the first point at which more
+// contributions are held than the limit. The walker has taken no step yet.
 fn final_values(
     alloc: Global,
     walker: &mut Walker,
@@ -73,8 +73,8 @@ fn final_values(
     Ok(held.store)
 }
 
-// The first moment of the walk at which more contributions are held than may be, or else the least slot that does not
-// hold at its end what the collective wants in the segment. The walker has not taken a step before.
+// Finds the first point of the walk at which more contributions are held than the limit, or else the least slot that does
+// not hold at the end the value that the collective wants in the segment. The walker has taken no step yet.
 fn check_values(
     alloc: Global,
     walker: &mut Walker,
@@ -101,9 +101,9 @@ fn check_values(
     }
 }
 
-/// The faults of the walk, which is walked once: an operation without an end in it, or else the first moment at which
-/// more contributions are held than may be, or else the least slot that does not hold at its end what the collective
-/// wants in the segment.
+/// Walks once through a schedule. Reports the least operation without an end, or else the first point at which more
+/// contributions are held than the limit, or else the least slot that does not hold at the end the value that the
+/// collective wants in the segment. `NoMemory` where memory runs out.
 pub fn check_walk(
     alloc: Global,
     sched: &Sched,
@@ -126,8 +126,8 @@ pub fn check_walk(
     found
 }
 
-/// The least slot that lies in the block of another segment, of so many, and is not empty at the end of the walk, where a
-/// schedule that is certified in a segment begins with that segment alone. `NoMemory` where memory ran out.
+/// Walks through a schedule that is certified in a segment, with that segment alone at the start. Returns the least slot in
+/// the block of another of the `count` segments that is not empty at the end. `NoMemory` where memory runs out.
 pub fn find_stray(
     alloc: Global,
     sched: &Sched,

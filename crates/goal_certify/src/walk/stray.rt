@@ -1,4 +1,4 @@
-// What is in the blocks of other segments at the end.
+// Finds values that a segment leaves in the blocks of other segments.
 ghost use Rattle.std.specs.Prelude.{ℕ, ◌≡◌, ◌+◌, ◌*◌, ◌^◌, ◌<◌, ◌≤◌, true, false, not, IfSome, IfNone};
 ghost use Rattle.goal_blocks.specs.Joined.{keeps_out};
 ghost use Rattle.goal_blocks.specs.Faults.{SlotAt, IsLeast, slot_key};
@@ -7,7 +7,7 @@ ghost use Rattle.goal_values.specs.Kept.{values};
 use goal_blocks::Segment;
 use goal_values::SlotValues;
 
-// Whether a slot of one of so many blocks is of another segment and holds something.
+// Returns whether a slot is in the block of another segment and is not empty.
 fn is_stray(store: &SlotValues, rank: u32, segment: Segment, count: u32, slot: u32) -> bool
     requires rank { rank < store.now.kept.ranks }
     requires fits { segment.block * segment.width + segment.width ≤ 2 ^ 32 }
@@ -19,7 +19,7 @@ fn is_stray(store: &SlotValues, rank: u32, segment: Segment, count: u32, slot: u
     !is_own && store.size_at(rank, slot) > 0
 }
 
-// The least such slot of the rank.
+// Returns the least such slot of the rank.
 fn first_stray_of(store: &SlotValues, rank: u32, segment: Segment, count: u32) -> Option<u32>
     requires rank { rank < store.now.kept.ranks }
     requires fits { segment.block * segment.width + segment.width ≤ 2 ^ 32 }
@@ -40,8 +40,7 @@ fn first_stray_of(store: &SlotValues, rank: u32, segment: Segment, count: u32) -
     None
 }
 
-/// The least rank and slot that lies in the block of another segment, of so many, and holds something. None where there is
-/// none.
+/// Returns the least rank and slot that is in the block of another of the `count` segments and is not empty, or None.
 pub fn first_stray(
     store: &SlotValues,
     ranks: u32,
