@@ -23,9 +23,9 @@ whole_by_ends xs ys far few front back =
     ∙ take-append-drop far ys
 
 -- if the last bytes are the same, the first decide
-pub told_by_front : (xs ys : List ℕ) (far : ℕ) → far + 4 ≡ length xs → far + 4 ≡ length ys → far ≤ 4 →
+pub front_decides : (xs ys : List ℕ) (far : ℕ) → far + 4 ≡ length xs → far + 4 ≡ length ys → far ≤ 4 →
     bytes_eq (last_four xs far) (last_four ys far) ≡ true → bytes_eq (take 4 xs) (take 4 ys) ≡ bytes_eq xs ys
-told_by_front xs ys far one other few alike =
+front_decides xs ys far one other few alike =
     let back : drop far xs ≡ drop far ys =
     sym (behind_far xs far one) ∙ (bytes_eq-Decides (last_four xs far) (last_four ys far)).0 alike ∙ behind_far ys far other in
     one_answer {P = xs ≡ ys} (bytes_eq (take 4 xs) (take 4 ys)) (bytes_eq xs ys) (
@@ -34,8 +34,8 @@ told_by_front xs ys far one other few alike =
     ) (bytes_eq-Decides xs ys)
 
 -- if they differ, the labels differ
-pub told_by_back : (xs ys : List ℕ) (far : ℕ) → bytes_eq (last_four xs far) (last_four ys far) ≡ false → false ≡ bytes_eq xs ys
-told_by_back xs ys far other =
+pub back_decides : (xs ys : List ℕ) (far : ℕ) → bytes_eq (last_four xs far) (last_four ys far) ≡ false → false ≡ bytes_eq xs ys
+back_decides xs ys far other =
     one_answer {P = xs ≡ ys} false (bytes_eq xs ys) (
       λ told. absurd cc,
       λ same. sym other ∙ (bytes_eq-Decides (last_four xs far) (last_four ys far)).1 (ap (λ (l : List ℕ). last_four l far) same),

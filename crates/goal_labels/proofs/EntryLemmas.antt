@@ -6,132 +6,132 @@ use Rattle.std.proofs.lemmas.Cmp.{nat_list_eq_equiv}
 use Rattle.std.proofs.lemmas.Slice.Eq.{bytes_eq-Decides}
 use Rattle.std.proofs.lemmas.Bool.Decides.{Decides-ltb, not_from_Decides}
 use Rattle.std.proofs.lemmas.Option.{slice_get_within}
-use Rattle.goal_labels.specs.declared.label_map.Slot.{Slot}
+use Rattle.goal_labels.specs.declared.label_map.LabelInfo.{LabelInfo}
 use Rattle.goal_labels.specs.Entries.{Entries, put, is_at, IsAt, IsAbsent, AreUnique}
 use Rattle.goal_labels.proofs.PlaceLemmas.{slice_get-left, slice_get-before, slice_get-last}
 
-equal : (x y : List ℕ) → bytes_eq x y ≡ true → x ≡ y
-equal x y h = (bytes_eq-Decides x y).0 h
+bytes_eq_means_equal : (x y : List ℕ) → bytes_eq x y ≡ true → x ≡ y
+bytes_eq_means_equal x y h = (bytes_eq-Decides x y).0 h
 
-own : (x : List ℕ) → bytes_eq x x ≡ true
-own x = nat_list_eq_equiv.refl x
+bytes_eq_reflexive : (x : List ℕ) → bytes_eq x x ≡ true
+bytes_eq_reflexive x = nat_list_eq_equiv.refl x
 
 -- the test of an entry
 
-pub is_at-yes : (es : Entries) (label : List ℕ) (i : ℕ) → is_at es label i ≡ true → IsAt es label i
+pub is_at-means : (es : Entries) (label : List ℕ) (i : ℕ) → is_at es label i ≡ true → IsAt es label i
 unfolding is_at
-is_at-yes es label i h = by (slice_get es i) refl h
+is_at-means es label i h = by (slice_get es i) refl h
   where
-    by : (o : Option (List ℕ × Slot)) → slice_get es i ≡ o → option_map_or (λ e. bytes_eq e.0 label) o false ≡ true → IsAt es label i
+    by : (o : Option (List ℕ × LabelInfo)) → slice_get es i ≡ o → option_map_or (λ e. bytes_eq e.0 label) o false ≡ true → IsAt es label i
     by None at h = cc
-    by (Some e) at h = (e.1, at ∙ ap (λ k. Some (k, e.1)) (equal e.0 label h))
+    by (Some e) at h = (e.1, at ∙ ap (λ k. Some (k, e.1)) (bytes_eq_means_equal e.0 label h))
 
 -- a guess that passed the test
 pub is_at-guess : (read es : Entries) (label : List ℕ) (guess : ℕ) → is_at read label guess ≡ true → read ≡ es → IsAt es label guess
-is_at-guess read es label guess told same = subst (λ (ds : Entries). IsAt ds label guess) same (is_at-yes read label guess told)
+is_at-guess read es label guess told same = subst (λ (ds : Entries). IsAt ds label guess) same (is_at-means read label guess told)
 
 -- an entry is added
 
-pub IsAt-left : (es : Entries) (e : List ℕ × Slot) (label : List ℕ) (i : ℕ) → IsAt es label i → IsAt (es ++ e ∷ []) label i
+pub IsAt-left : (es : Entries) (e : List ℕ × LabelInfo) (label : List ℕ) (i : ℕ) → IsAt es label i → IsAt (es ++ e ∷ []) label i
 IsAt-left es e label i at = (at.0, slice_get-left es (e ∷ []) i (label, at.0) at.1)
 
-pub IsAt-before : (es : Entries) (e : List ℕ × Slot) (label : List ℕ) (i : ℕ) → i < length es → IsAt (es ++ e ∷ []) label i → IsAt es label i
+pub IsAt-before : (es : Entries) (e : List ℕ × LabelInfo) (label : List ℕ) (i : ℕ) → i < length es → IsAt (es ++ e ∷ []) label i → IsAt es label i
 IsAt-before es e label i within at = (at.0, slice_get-before es (e ∷ []) i (label, at.0) within at.1)
 
 pub IsAt-within : (es : Entries) (label : List ℕ) (i : ℕ) → IsAt es label i → i < length es
 IsAt-within es label i at = slice_get_within es i (label, at.0) at.1
 
-pub IsAt-last : (es : Entries) (label : List ℕ) (slot : Slot) → IsAt (es ++ (label, slot) ∷ []) label (length es)
-IsAt-last es label slot = (slot, slice_get-last es (label, slot))
+pub IsAt-last : (es : Entries) (label : List ℕ) (info : LabelInfo) → IsAt (es ++ (label, info) ∷ []) label (length es)
+IsAt-last es label info = (info, slice_get-last es (label, info))
 
-pub IsAt-added : (es fs : Entries) (label : List ℕ) (slot : Slot) (n : ℕ) → fs ≡ es ++ (label, slot) ∷ []
+pub IsAt-added : (es fs : Entries) (label : List ℕ) (info : LabelInfo) (n : ℕ) → fs ≡ es ++ (label, info) ∷ []
     → n ≡ length es → IsAt fs label n
-IsAt-added es fs label slot n same last =
+IsAt-added es fs label info n same last =
     let there : IsAt fs label (length es) =
-    subst (λ (ds : Entries). IsAt ds label (length es)) (sym same) (IsAt-last es label slot) in
+    subst (λ (ds : Entries). IsAt ds label (length es)) (sym same) (IsAt-last es label info) in
     subst (λ (k : ℕ). IsAt fs label k) (sym last) there
 
-pub last-label : (es : Entries) (label q : List ℕ) (slot : Slot) (i : ℕ) → i ≡ length es → IsAt (es ++ (label, slot) ∷ []) q i → q ≡ label
-last-label es label q slot i same at =
-    let one : Some (q, at.0) ≡ Some (label, slot) = sym at.1 ∙ ap (slice_get (es ++ (label, slot) ∷ [])) same ∙ slice_get-last es (label, slot) in
-    ap (λ (o : Option (List ℕ × Slot)). option_map_or (λ e. e.0) o []) one
+pub last-label : (es : Entries) (label q : List ℕ) (info : LabelInfo) (i : ℕ) → i ≡ length es → IsAt (es ++ (label, info) ∷ []) q i → q ≡ label
+last-label es label q info i same at =
+    let one : Some (q, at.0) ≡ Some (label, info) = sym at.1 ∙ ap (slice_get (es ++ (label, info) ∷ [])) same ∙ slice_get-last es (label, info) in
+    ap (λ (o : Option (List ℕ × LabelInfo)). option_map_or (λ e. e.0) o []) one
 
-pub AreUnique-more : (es : Entries) (label : List ℕ) (slot : Slot) → AreUnique es → IsAbsent es label → AreUnique (es ++ (label, slot) ∷ [])
-AreUnique-more es label slot unique absent i j q a b = by (ltb i (length es)) (Decides-ltb _ _) (ltb j (length es)) (Decides-ltb _ _)
+pub AreUnique-more : (es : Entries) (label : List ℕ) (info : LabelInfo) → AreUnique es → IsAbsent es label → AreUnique (es ++ (label, info) ∷ [])
+AreUnique-more es label info unique absent i j q a b = by (ltb i (length es)) (Decides-ltb _ _) (ltb j (length es)) (Decides-ltb _ _)
   where
-    bound : (k : ℕ) → IsAt (es ++ (label, slot) ∷ []) q k → (k < length es → ⊥) → k ≡ length es
-    bound k at past = omega (arith, past, IsAt-within (es ++ (label, slot) ∷ []) q k at, length-append es ((label, slot) ∷ []))
+    bound : (k : ℕ) → IsAt (es ++ (label, info) ∷ []) q k → (k < length es → ⊥) → k ≡ length es
+    bound k at past = omega (arith, past, IsAt-within (es ++ (label, info) ∷ []) q k at, length-append es ((label, info) ∷ []))
 
     by : (c : Bool) → Decides c (i < length es) → (d : Bool) → Decides d (j < length es) → i ≡ j
     by true p true q' = unique i j q (IsAt-before es _ q i (p.0 refl) a) (IsAt-before es _ q j (q'.0 refl) b)
     by true p false q' =
         let last = bound j b (not_from_Decides false q' refl) in
-        absurd (absent i (subst (λ k. IsAt es k i) (last-label es label q slot j last b) (IsAt-before es _ q i (p.0 refl) a)))
+        absurd (absent i (subst (λ k. IsAt es k i) (last-label es label q info j last b) (IsAt-before es _ q i (p.0 refl) a)))
     by false p true q' =
         let last = bound i a (not_from_Decides false p refl) in
-        absurd (absent j (subst (λ k. IsAt es k j) (last-label es label q slot i last a) (IsAt-before es _ q j (q'.0 refl) b)))
+        absurd (absent j (subst (λ k. IsAt es k j) (last-label es label q info i last a) (IsAt-before es _ q j (q'.0 refl) b)))
     by false p false q' = bound i a (not_from_Decides false p refl) ∙ sym (bound j b (not_from_Decides false q' refl))
 
 -- the entries without the first
 
-IsAt-tail : (e : List ℕ × Slot) (es : Entries) (label : List ℕ) (i : ℕ) → IsAt es label i → IsAt (e ∷ es) label (suc i)
+IsAt-tail : (e : List ℕ × LabelInfo) (es : Entries) (label : List ℕ) (i : ℕ) → IsAt es label i → IsAt (e ∷ es) label (suc i)
 IsAt-tail e es label i at = at
 
-AreUnique-tail : (e : List ℕ × Slot) (es : Entries) → AreUnique (e ∷ es) → AreUnique es
+AreUnique-tail : (e : List ℕ × LabelInfo) (es : Entries) → AreUnique (e ∷ es) → AreUnique es
 AreUnique-tail e es unique i j q a b =
     let one : suc i ≡ suc j = unique (suc i) (suc j) q (IsAt-tail e es q i a) (IsAt-tail e es q j b) in
     omega (arith, one)
 
-IsAbsent-tail : (e : List ℕ × Slot) (es : Entries) (label : List ℕ) → IsAbsent (e ∷ es) label → IsAbsent es label
+IsAbsent-tail : (e : List ℕ × LabelInfo) (es : Entries) (label : List ℕ) → IsAbsent (e ∷ es) label → IsAbsent es label
 IsAbsent-tail e es label absent i at = absent (suc i) (IsAt-tail e es label i at)
 
 -- the first entry has another label, if the label's entry comes later
-other : (e : List ℕ × Slot) (es : Entries) (label : List ℕ) (i : ℕ) → AreUnique (e ∷ es) → IsAt es label i → bytes_eq label e.0 ≡ false
-other e es label i unique at = by (bytes_eq label e.0) refl
+later_label_differs : (e : List ℕ × LabelInfo) (es : Entries) (label : List ℕ) (i : ℕ) → AreUnique (e ∷ es) → IsAt es label i → bytes_eq label e.0 ≡ false
+later_label_differs e es label i unique at = by (bytes_eq label e.0) refl
   where
     by : (b : Bool) → bytes_eq label e.0 ≡ b → b ≡ false
     by false h = refl
     by true h =
-        let one : 0 ≡ suc i = unique 0 (suc i) label (e.1, ap (λ k. Some (k, e.1)) (sym (equal label e.0 h))) (IsAt-tail e es label i at) in
+        let one : 0 ≡ suc i = unique 0 (suc i) label (e.1, ap (λ k. Some (k, e.1)) (sym (bytes_eq_means_equal label e.0 h))) (IsAt-tail e es label i at) in
         absurd (omega (arith, one))
 
-not_first : (e : List ℕ × Slot) (es : Entries) (label : List ℕ) → IsAbsent (e ∷ es) label → bytes_eq label e.0 ≡ false
-not_first e es label absent = by (bytes_eq label e.0) refl
+absent_is_not_first : (e : List ℕ × LabelInfo) (es : Entries) (label : List ℕ) → IsAbsent (e ∷ es) label → bytes_eq label e.0 ≡ false
+absent_is_not_first e es label absent = by (bytes_eq label e.0) refl
   where
     by : (b : Bool) → bytes_eq label e.0 ≡ b → b ≡ false
     by false h = refl
-    by true h = absurd (absent 0 (e.1, ap (λ k. Some (k, e.1)) (sym (equal label e.0 h))))
+    by true h = absurd (absent 0 (e.1, ap (λ k. Some (k, e.1)) (sym (bytes_eq_means_equal label e.0 h))))
 
 -- what a lookup finds, and what `put` replaces
 
-pub lookup-there : (es : Entries) (label : List ℕ) (i : ℕ) (slot : Slot) → AreUnique es → slice_get es i ≡ Some (label, slot) → lookup (bytes_eq label) es ≡ Some slot
-lookup-there [] label i slot unique at = cc
-lookup-there (e ∷ es) label zero slot unique at =
-    let here : e ≡ (label, slot) = cc in
+pub lookup-there : (es : Entries) (label : List ℕ) (i : ℕ) (info : LabelInfo) → AreUnique es → slice_get es i ≡ Some (label, info) → lookup (bytes_eq label) es ≡ Some info
+lookup-there [] label i info unique at = cc
+lookup-there (e ∷ es) label zero info unique at =
+    let here : e ≡ (label, info) = cc in
     let first : e.0 ≡ label = ap (λ p. p.0) here in
-    ap (λ b. cond b (Some e.1) (lookup (bytes_eq label) es)) (ap (bytes_eq label) first ∙ own label) ∙ ap (λ p. Some p.1) here
-lookup-there (e ∷ es) label (suc i) slot unique at =
-    ap (λ b. cond b (Some e.1) (lookup (bytes_eq label) es)) (other e es label i unique (slot, at))
-    ∙ lookup-there es label i slot (AreUnique-tail e es unique) at
+    ap (λ b. cond b (Some e.1) (lookup (bytes_eq label) es)) (ap (bytes_eq label) first ∙ bytes_eq_reflexive label) ∙ ap (λ p. Some p.1) here
+lookup-there (e ∷ es) label (suc i) info unique at =
+    ap (λ b. cond b (Some e.1) (lookup (bytes_eq label) es)) (later_label_differs e es label i unique (info, at))
+    ∙ lookup-there es label i info (AreUnique-tail e es unique) at
 
 pub lookup-absent : (es : Entries) (label : List ℕ) → IsAbsent es label → lookup (bytes_eq label) es ≡ None
 lookup-absent [] label absent = refl
 lookup-absent (e ∷ es) label absent =
-    ap (λ b. cond b (Some e.1) (lookup (bytes_eq label) es)) (not_first e es label absent) ∙ lookup-absent es label (IsAbsent-tail e es label absent)
+    ap (λ b. cond b (Some e.1) (lookup (bytes_eq label) es)) (absent_is_not_first e es label absent) ∙ lookup-absent es label (IsAbsent-tail e es label absent)
 
-pub put-absent : (es : Entries) (label : List ℕ) (slot : Slot) → IsAbsent es label → es ++ (label, slot) ∷ [] ≡ put es label slot
-put-absent [] label slot absent = refl
-put-absent (e ∷ es) label slot absent =
-    ap (λ l. e ∷ l) (put-absent es label slot (IsAbsent-tail e es label absent))
-    ∙ sym (ap (λ (b : Bool). if b then (e.0, slot) ∷ es else e ∷ put es label slot) (not_first e es label absent))
+pub put-absent : (es : Entries) (label : List ℕ) (info : LabelInfo) → IsAbsent es label → es ++ (label, info) ∷ [] ≡ put es label info
+put-absent [] label info absent = refl
+put-absent (e ∷ es) label info absent =
+    ap (λ l. e ∷ l) (put-absent es label info (IsAbsent-tail e es label absent))
+    ∙ sym (ap (λ (b : Bool). if b then (e.0, info) ∷ es else e ∷ put es label info) (absent_is_not_first e es label absent))
 
-pub put-there : (es : Entries) (label : List ℕ) (i : ℕ) (old slot : Slot) → AreUnique es → slice_get es i ≡ Some (label, old)
-    → slice_set es i (label, slot) ≡ put es label slot
-put-there [] label i old slot unique at = cc
-put-there (e ∷ es) label zero old slot unique at =
+pub put-there : (es : Entries) (label : List ℕ) (i : ℕ) (old info : LabelInfo) → AreUnique es → slice_get es i ≡ Some (label, old)
+    → slice_set es i (label, info) ≡ put es label info
+put-there [] label i old info unique at = cc
+put-there (e ∷ es) label zero old info unique at =
     let here : e ≡ (label, old) = cc in
     let first : e.0 ≡ label = ap (λ p. p.0) here in
-    sym (ap (λ (b : Bool). if b then (e.0, slot) ∷ es else e ∷ put es label slot) (ap (bytes_eq label) first ∙ own label) ∙ ap (λ k. (k, slot) ∷ es) first)
-put-there (e ∷ es) label (suc i) old slot unique at =
-    ap (λ l. e ∷ l) (put-there es label i old slot (AreUnique-tail e es unique) at)
-    ∙ sym (ap (λ (b : Bool). if b then (e.0, slot) ∷ es else e ∷ put es label slot) (other e es label i unique (old, at)))
+    sym (ap (λ (b : Bool). if b then (e.0, info) ∷ es else e ∷ put es label info) (ap (bytes_eq label) first ∙ bytes_eq_reflexive label) ∙ ap (λ k. (k, info) ∷ es) first)
+put-there (e ∷ es) label (suc i) old info unique at =
+    ap (λ l. e ∷ l) (put-there es label i old info (AreUnique-tail e es unique) at)
+    ∙ sym (ap (λ (b : Bool). if b then (e.0, info) ∷ es else e ∷ put es label info) (later_label_differs e es label i unique (old, at)))

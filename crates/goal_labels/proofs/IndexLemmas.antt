@@ -6,9 +6,9 @@ use Rattle.std.proofs.lemmas.Slice.Eq.{bytes_eq-Decides}
 use Rattle.std.proofs.lemmas.Bool.Decides.{eqb_tells, Decides-ltb, not_from_Decides}
 use Rattle.std.proofs.lemmas.Option.{slice_get_within, none-some}
 use Rattle.std.proofs.lemmas.List.{length-set}
-use Rattle.goal_labels.specs.declared.numbers.Numbers.{Numbers}
-use Rattle.goal_labels.specs.declared.label_map.Slot.{Slot}
-use Rattle.goal_labels.specs.declared.label_map.Entry.{Entry}
+use Rattle.goal_labels.specs.declared.numbers.LabelNumbers.{LabelNumbers}
+use Rattle.goal_labels.specs.declared.label_map.LabelInfo.{LabelInfo}
+use Rattle.goal_labels.specs.declared.label_map.LabelEntry.{LabelEntry}
 use Rattle.goal_labels.specs.Entries.{Entries, entries_of, IsAt, IsAbsent, AreUnique, AreHeld}
 use Rattle.goal_labels.specs.Indexed.{IsMap}
 use Rattle.goal_labels.specs.Numbers.{number_of, AreFew}
@@ -19,10 +19,10 @@ use Rattle.goal_labels.proofs.HeldLemmas.{AreHeld-none, entries_of-empty}
 use Rattle.goal_labels.proofs.OrderedLemmas.{IsAt-same, ascending_left, ascending_more}
 
 -- a map without labels
-module _ (bytes : List ℕ) (es : List Entry) (first ascending : ℕ) (numbers : Numbers) (none : es ≡ []) (start : first ≡ 0) (end : ascending ≡ 0)
-    (unnumbered : (label : List ℕ) → number_of numbers label ≡ None) (few : AreFew numbers) where
-  empty : entries_of bytes es ≡ []
-  empty = entries_of-empty bytes es none
+module _ (bytes : List ℕ) (es : List LabelEntry) (first ascending : ℕ) (numbers : LabelNumbers) (none : es ≡ []) (start : first ≡ 0) (end : ascending ≡ 0)
+    (absent_has_no_number : (label : List ℕ) → number_of numbers label ≡ None) (few : AreFew numbers) where
+  no_entries : entries_of bytes es ≡ []
+  no_entries = entries_of-empty bytes es none
 
   pub keeps-none : AreHeld bytes es × IsMap (entries_of bytes es) first ascending numbers
   keeps-none = (
@@ -32,16 +32,16 @@ module _ (bytes : List ℕ) (es : List Entry) (first ascending : ℕ) (numbers :
       within = omega (arith, end);
       ascend = λ i j one other from less below a b. absurd (omega (arith, below, end));
       numbered_before = λ i label below at. absurd (omega (arith, below, start));
-      numbered_after = λ i label past at. absurd (omega (arith, IsAt-within (entries_of bytes es) label i at, ap length empty));
-      there = λ i label is. absurd (none-some i (sym (unnumbered label) ∙ is));
+      numbered_after = λ i label past at. absurd (omega (arith, IsAt-within (entries_of bytes es) label i at, ap length no_entries));
+      there = λ i label is. absurd (none-some i (sym (absent_has_no_number label) ∙ is));
       apart = λ i label is from. omega (arith, end);
       few = few;
-      unique = λ i j label a b. absurd (omega (arith, IsAt-within (entries_of bytes es) label i a, ap length empty));
+      unique = λ i j label a b. absurd (omega (arith, IsAt-within (entries_of bytes es) label i a, ap length no_entries));
     },
   )
 
 -- a label that is neither in the run nor numbered has no entry
-pub find-absent : (es : Entries) (first ascending : ℕ) (numbers : Numbers) (label : List ℕ) → IsMap es first ascending numbers
+pub find-absent : (es : Entries) (first ascending : ℕ) (numbers : LabelNumbers) (label : List ℕ) → IsMap es first ascending numbers
     → ((i : ℕ) → first ≤ i → i < ascending → IsAt es label i → ⊥) → (o : Option ℕ) → o ≡ number_of numbers label → IfNone o (IsAbsent es label)
 find-absent es first ascending numbers label map not_in_run (Some i) is = tt
 find-absent es first ascending numbers label map not_in_run None is = absent
@@ -55,30 +55,30 @@ find-absent es first ascending numbers label map not_in_run None is = absent
         by false p false q = none-some i (is ∙ map.numbered_after i label (omega (arith, not_from_Decides false q refl)) at)
 
 -- a label that has no entry has no number
-pub unnumbered : (es : Entries) (first ascending : ℕ) (numbers : Numbers) (label : List ℕ) → IsMap es first ascending numbers → IsAbsent es label
+pub absent_has_no_number : (es : Entries) (first ascending : ℕ) (numbers : LabelNumbers) (label : List ℕ) → IsMap es first ascending numbers → IsAbsent es label
     → number_of numbers label ≡ None
-unnumbered es first ascending numbers label map absent = by (number_of numbers label) refl
+absent_has_no_number es first ascending numbers label map absent = by (number_of numbers label) refl
   where
     by : (o : Option ℕ) → number_of numbers label ≡ o → o ≡ None
     by None told = refl
     by (Some i) told = absurd (absent i (map.there i label told))
 
 -- the run's first label has no number
-pub unnumbered_first : (es : Entries) (first ascending : ℕ) (numbers : Numbers) (label : List ℕ) → IsMap es first ascending numbers → first < ascending
+pub unnumbered_first : (es : Entries) (first ascending : ℕ) (numbers : LabelNumbers) (label : List ℕ) → IsMap es first ascending numbers → first < ascending
     → IsAt es label first → number_of numbers label ≡ None
 unnumbered_first es first ascending numbers label map some at = by (number_of numbers label) refl
   where
     by : (o : Option ℕ) → number_of numbers label ≡ o → o ≡ None
     by None told = refl
     by (Some i) told =
-        let here : i ≡ first = map.unique i first label (map.there i label told) at in
-        absurd (omega (arith, some, here, map.apart i label told (omega (arith, here))))
+        let changed_entry : i ≡ first = map.unique i first label (map.there i label told) at in
+        absurd (omega (arith, some, changed_entry, map.apart i label told (omega (arith, changed_entry))))
 
 -- the label of an entry gets its number
-module _ (es : Entries) (label : List ℕ) (n : ℕ) (unique : AreUnique es) (at : IsAt es label n) (numbers new : Numbers)
+module _ (es : Entries) (label : List ℕ) (n : ℕ) (unique : AreUnique es) (at : IsAt es label n) (numbers new : LabelNumbers)
     (gives : (q : List ℕ) → number_of new q ≡ (if bytes_eq label q then Some n else number_of numbers q)) where
-  given : (q : List ℕ) (b : Bool) → bytes_eq label q ≡ b → number_of new q ≡ (if b then Some n else number_of numbers q)
-  given q b told = gives q ∙ ap (λ (c : Bool). if c then Some n else number_of numbers q) told
+  number_after_insert : (q : List ℕ) (b : Bool) → bytes_eq label q ≡ b → number_of new q ≡ (if b then Some n else number_of numbers q)
+  number_after_insert q b told = gives q ∙ ap (λ (c : Bool). if c then Some n else number_of numbers q) told
 
   -- it has this number, and each other label keeps its own
   given-number : (i : ℕ) (q : List ℕ) → IsAt es q i → (i ≢ n → number_of numbers q ≡ Some i) → number_of new q ≡ Some i
@@ -87,27 +87,27 @@ module _ (es : Entries) (label : List ℕ) (n : ℕ) (unique : AreUnique es) (at
       by : (b : Bool) → bytes_eq label q ≡ b → number_of new q ≡ Some i
       by true same =
           let there : IsAt es q n = subst (λ (k : List ℕ). IsAt es k n) ((bytes_eq-Decides label q).0 same) at in
-          given q true same ∙ ap Some (unique n i q there is)
+          number_after_insert q true same ∙ ap Some (unique n i q there is)
       by false other =
-          given q false other ∙ had (λ here.
-          let same : q ≡ label = IsAt-same es q label n (subst (IsAt es q) here is) at in
+          number_after_insert q false other ∙ had (λ changed_entry.
+          let same : q ≡ label = IsAt-same es q label n (subst (IsAt es q) changed_entry is) at in
           let told : bytes_eq label q ≡ true = ap (bytes_eq label) same ∙ nat_list_eq_equiv.refl label in
           absurd cc)
 
   -- a number is the new one, or existed before
-  given-there : (i : ℕ) (q : List ℕ) (P : ℕ → List ℕ → Type 0) → P n label → (number_of numbers q ≡ Some i → P i q) → number_of new q ≡ Some i → P i q
-  given-there i q P here had is = by (bytes_eq label q) refl
+  number_after_insert-cases : (i : ℕ) (q : List ℕ) (P : ℕ → List ℕ → Type 0) → P n label → (number_of numbers q ≡ Some i → P i q) → number_of new q ≡ Some i → P i q
+  number_after_insert-cases i q P changed_entry had is = by (bytes_eq label q) refl
     where
       by : (b : Bool) → bytes_eq label q ≡ b → P i q
       by true same =
-          let number : n ≡ i = ap (λ (o : Option ℕ). unwrap_or o 0) (sym (given q true same) ∙ is) in
-          subst (λ (k : List ℕ). P i k) ((bytes_eq-Decides label q).0 same) (subst (λ (k : ℕ). P k label) number here)
-      by false other = had (sym (given q false other) ∙ is)
+          let number : n ≡ i = ap (λ (o : Option ℕ). unwrap_or o 0) (sym (number_after_insert q true same) ∙ is) in
+          subst (λ (k : List ℕ). P i k) ((bytes_eq-Decides label q).0 same) (subst (λ (k : ℕ). P k label) number changed_entry)
+      by false other = had (sym (number_after_insert q false other) ∙ is)
 
 -- a run of one label ends, and its label gets a number
-module _ (es : Entries) (first ascending : ℕ) (numbers : Numbers) (map : IsMap es first ascending numbers) (label : List ℕ) (at : IsAt es label first)
+module _ (es : Entries) (first ascending : ℕ) (numbers : LabelNumbers) (map : IsMap es first ascending numbers) (label : List ℕ) (at : IsAt es label first)
     (one : first + 1 ≡ ascending) where
-  pub IsMap-ended : (new : Numbers) → AreFew new → ((q : List ℕ) → number_of new q ≡ (if bytes_eq label q then Some first else number_of numbers q))
+  pub IsMap-ended : (new : LabelNumbers) → AreFew new → ((q : List ℕ) → number_of new q ≡ (if bytes_eq label q then Some first else number_of numbers q))
       → IsMap es ascending ascending new
   IsMap-ended new few gives = record {
     begins = omega arith;
@@ -116,98 +116,98 @@ module _ (es : Entries) (first ascending : ℕ) (numbers : Numbers) (map : IsMap
     numbered_before = λ i q below is.
         given-number es label first map.unique at numbers new gives i q is (λ other. map.numbered_before i q (omega (arith, other, below, one)) is);
     numbered_after = λ i q past is. given-number es label first map.unique at numbers new gives i q is (λ other. map.numbered_after i q past is);
-    there = λ i q is. given-there es label first map.unique at numbers new gives i q (λ k l. IsAt es l k) at (map.there i q) is;
+    there = λ i q is. number_after_insert-cases es label first map.unique at numbers new gives i q (λ k l. IsAt es l k) at (map.there i q) is;
     apart = λ i q is from. from;
     few = few;
     unique = map.unique;
   }
 
 -- a label is appended
-module _ (es : Entries) (label : List ℕ) (slot : Slot) (first ascending : ℕ) (numbers : Numbers) (map : IsMap es first ascending numbers) (absent : IsAbsent es label) where
+module _ (es : Entries) (label : List ℕ) (info : LabelInfo) (first ascending : ℕ) (numbers : LabelNumbers) (map : IsMap es first ascending numbers) (absent : IsAbsent es label) where
   abbrev pub more : Entries
-  more = es ++ (label, slot) ∷ []
+  more = es ++ (label, info) ∷ []
 
   count : length more ≡ length es + 1
-  count = length-append es ((label, slot) ∷ [])
+  count = length-append es ((label, info) ∷ [])
 
   unique : AreUnique more
-  unique = AreUnique-more es label slot map.unique absent
+  unique = AreUnique-more es label info map.unique absent
 
   -- the label joins the run
   pub IsMap-joined : ascending ≡ length es → AreBefore es first label → IsMap more first (ascending + 1) numbers
   IsMap-joined all before = record {
     begins = omega (arith, map.begins);
     within = omega (arith, count, all);
-    ascend = ascending_more es label slot first ascending map.ascend all before;
+    ascend = ascending_more es label info first ascending map.ascend all before;
     numbered_before = λ i q below at.
-        map.numbered_before i q below (IsAt-before es (label, slot) q i (omega (arith, below, map.begins, map.within)) at);
+        map.numbered_before i q below (IsAt-before es (label, info) q i (omega (arith, below, map.begins, map.within)) at);
     numbered_after = λ i q past at. absurd (omega (arith, past, all, count, IsAt-within more q i at));
-    there = λ i q is. IsAt-left es (label, slot) q i (map.there i q is);
+    there = λ i q is. IsAt-left es (label, info) q i (map.there i q is);
     apart = λ i q is from. absurd (omega (arith, all, map.apart i q is from, IsAt-within es q i (map.there i q is)));
     few = map.few;
     unique = unique;
   }
 
   -- the label gets a number
-  pub IsMap-numbered : (new : Numbers) (n : ℕ) → n ≡ length es → AreFew new
+  pub IsMap-numbered : (new : LabelNumbers) (n : ℕ) → n ≡ length es → AreFew new
       → ((q : List ℕ) → number_of new q ≡ (if bytes_eq label q then Some n else number_of numbers q)) → IsMap more first ascending new
   IsMap-numbered new n last few gives = record {
     begins = map.begins;
     within = omega (arith, count, map.within);
-    ascend = ascending_left es label slot first ascending map.ascend map.within;
-    numbered_before = λ i q below is. given-number more label n unique here numbers new gives i q is (λ other. map.numbered_before i q below (earlier i q is other));
-    numbered_after = λ i q past is. given-number more label n unique here numbers new gives i q is (λ other. map.numbered_after i q past (earlier i q is other));
-    there = λ i q is. given-there more label n unique here numbers new gives i q (λ k l. IsAt more l k) here (λ was. IsAt-left es (label, slot) q i (map.there i q was)) is;
+    ascend = ascending_left es label info first ascending map.ascend map.within;
+    numbered_before = λ i q below is. given-number more label n unique changed_entry numbers new gives i q is (λ other. map.numbered_before i q below (earlier i q is other));
+    numbered_after = λ i q past is. given-number more label n unique changed_entry numbers new gives i q is (λ other. map.numbered_after i q past (earlier i q is other));
+    there = λ i q is. number_after_insert-cases more label n unique changed_entry numbers new gives i q (λ k l. IsAt more l k) changed_entry (λ label_was_there. IsAt-left es (label, info) q i (map.there i q label_was_there)) is;
     apart = λ i q is from.
-        given-there more label n unique here numbers new gives i q (λ k l. first ≤ k → ascending ≤ k) (λ past. omega (arith, last, map.within)) (map.apart i q) is from;
+        number_after_insert-cases more label n unique changed_entry numbers new gives i q (λ k l. first ≤ k → ascending ≤ k) (λ past. omega (arith, last, map.within)) (map.apart i q) is from;
     few = few;
     unique = unique;
   }
     where
-      here : IsAt more label n
-      here = subst (IsAt more label) (sym last) (IsAt-last es label slot)
+      changed_entry : IsAt more label n
+      changed_entry = subst (IsAt more label) (sym last) (IsAt-last es label info)
 
       earlier : (i : ℕ) (q : List ℕ) → IsAt more q i → i ≢ n → IsAt es q i
-      earlier i q is other = IsAt-before es (label, slot) q i (omega (arith, other, last, count, IsAt-within more q i is)) is
+      earlier i q is other = IsAt-before es (label, info) q i (omega (arith, other, last, count, IsAt-within more q i is)) is
 
--- the slot of an entry is replaced
-module _ (es : Entries) (i : ℕ) (label : List ℕ) (old slot : Slot) (at : slice_get es i ≡ Some (label, old)) where
+-- the info of an entry is replaced
+module _ (es : Entries) (i : ℕ) (label : List ℕ) (old info : LabelInfo) (at : slice_get es i ≡ Some (label, old)) where
   abbrev pub now : Entries
-  now = slice_set es i (label, slot)
+  now = slice_set es i (label, info)
 
-  here : slice_get now i ≡ Some (label, slot)
-  here = slice_get-set es i (label, slot) (slice_get_within es i (label, old) at)
+  changed_entry : slice_get now i ≡ Some (label, info)
+  changed_entry = slice_get-set es i (label, info) (slice_get_within es i (label, old) at)
 
   -- each label keeps its place
-  was : (q : List ℕ) (j : ℕ) → IsAt now q j → IsAt es q j
-  was q j is = by (eqb_tells j i)
+  label_was_there : (q : List ℕ) (j : ℕ) → IsAt now q j → IsAt es q j
+  label_was_there q j is = by (eqb_tells j i)
     where
       by : ((eqb j i ≡ true) × (j ≡ i)) ⊎ ((eqb j i ≡ false) × (j ≢ i)) → IsAt es q j
       by (inl told) =
-          let one : Some (label, slot) ≡ Some (q, is.0) = sym here ∙ ap (slice_get now) (sym told.1) ∙ is.1 in
-          let same : label ≡ q = ap (λ (o : Option (List ℕ × Slot)). elim o [ None ↦ [] | Some e ↦ e.0 ]) one in
+          let one : Some (label, info) ≡ Some (q, is.0) = sym changed_entry ∙ ap (slice_get now) (sym told.1) ∙ is.1 in
+          let same : label ≡ q = ap (λ (o : Option (List ℕ × LabelInfo)). elim o [ None ↦ [] | Some e ↦ e.0 ]) one in
           (old, ap (slice_get es) told.1 ∙ at ∙ ap (λ k. Some (k, old)) same)
-      by (inr told) = (is.0, sym (slice_get-apart es i j (label, slot) told.1) ∙ is.1)
+      by (inr told) = (is.0, sym (slice_get-apart es i j (label, info) told.1) ∙ is.1)
 
-  stays : (q : List ℕ) (j : ℕ) → IsAt es q j → IsAt now q j
-  stays q j is = by (eqb_tells j i)
+  label_stays : (q : List ℕ) (j : ℕ) → IsAt es q j → IsAt now q j
+  label_stays q j is = by (eqb_tells j i)
     where
       by : ((eqb j i ≡ true) × (j ≡ i)) ⊎ ((eqb j i ≡ false) × (j ≢ i)) → IsAt now q j
       by (inl told) =
           let one : Some (label, old) ≡ Some (q, is.0) = sym at ∙ ap (slice_get es) (sym told.1) ∙ is.1 in
-          let same : label ≡ q = ap (λ (o : Option (List ℕ × Slot)). elim o [ None ↦ [] | Some e ↦ e.0 ]) one in
-          (slot, ap (slice_get now) told.1 ∙ here ∙ ap (λ k. Some (k, slot)) same)
-      by (inr told) = (is.0, slice_get-apart es i j (label, slot) told.1 ∙ is.1)
+          let same : label ≡ q = ap (λ (o : Option (List ℕ × LabelInfo)). elim o [ None ↦ [] | Some e ↦ e.0 ]) one in
+          (info, ap (slice_get now) told.1 ∙ changed_entry ∙ ap (λ k. Some (k, info)) same)
+      by (inr told) = (is.0, slice_get-apart es i j (label, info) told.1 ∙ is.1)
 
-  pub IsMap-set : (first ascending : ℕ) (numbers : Numbers) → IsMap es first ascending numbers → IsMap now first ascending numbers
+  pub IsMap-set : (first ascending : ℕ) (numbers : LabelNumbers) → IsMap es first ascending numbers → IsMap now first ascending numbers
   IsMap-set first ascending numbers map = record {
     begins = map.begins;
-    within = omega (arith, map.within, length-set es i (label, slot));
-    ascend = λ j k one other from less below a b. map.ascend j k one other from less below (was one j a) (was other k b);
-    numbered_before = λ j q below is. map.numbered_before j q below (was q j is);
-    numbered_after = λ j q past is. map.numbered_after j q past (was q j is);
-    there = λ j q is. stays q j (map.there j q is);
+    within = omega (arith, map.within, length-set es i (label, info));
+    ascend = λ j k one other from less below a b. map.ascend j k one other from less below (label_was_there one j a) (label_was_there other k b);
+    numbered_before = λ j q below is. map.numbered_before j q below (label_was_there q j is);
+    numbered_after = λ j q past is. map.numbered_after j q past (label_was_there q j is);
+    there = λ j q is. label_stays q j (map.there j q is);
     apart = map.apart;
     few = map.few;
-    unique = λ j k q a b. map.unique j k q (was q j a) (was q k b);
+    unique = λ j k q a b. map.unique j k q (label_was_there q j a) (label_was_there q k b);
   }

@@ -6,30 +6,30 @@ use Rattle.std.specs.BTreeMap.{is_at}
 use Rattle.std.specs.Cmp.Lexicographic.{pointwise, slice_cmp}
 use Rattle.std.proofs.lemmas.Map.Text.{is_eq-slice_cmp}
 use Rattle.std.proofs.lemmas.Slice.Eq.{bytes_eq-Decides}
-use Rattle.goal_labels.specs.declared.numbers.Numbers.{Numbers}
+use Rattle.goal_labels.specs.declared.numbers.LabelNumbers.{LabelNumbers}
 use Rattle.goal_labels.specs.Numbers.{hashed_at, ordered_at, number_of}
 
 -- a table without labels
-pub none_numbered : (numbers : Numbers) → numbers.hashed.entries ≡ [] → numbers.ordered.entries ≡ [] → (label : List ℕ) → number_of numbers label ≡ None
+pub none_numbered : (numbers : LabelNumbers) → numbers.hashed.entries ≡ [] → numbers.ordered.entries ≡ [] → (label : List ℕ) → number_of numbers label ≡ None
 unfolding number_of
 none_numbered numbers hashed ordered label =
     ap (λ es. option_or (lookup (pointwise nat_eq label) es) (ordered_at numbers label)) hashed
     ∙ ap (lookup (is_at (slice_cmp nat_cmp label))) ordered
 
 -- what a lookup found by the hash
-pub by_hash : (numbers : Numbers) (key label : List ℕ) → key ≡ label → (n : ℕ) → Some n ≡ hashed_at numbers key → Some n ≡ number_of numbers label
+pub hashed_number : (numbers : LabelNumbers) (key label : List ℕ) → key ≡ label → (n : ℕ) → Some n ≡ hashed_at numbers key → Some n ≡ number_of numbers label
 unfolding number_of
-by_hash numbers key label same n is = ap (λ (o : Option ℕ). option_or o (ordered_at numbers label)) (is ∙ ap (hashed_at numbers) same)
+hashed_number numbers key label same n is = ap (λ (o : Option ℕ). option_or o (ordered_at numbers label)) (is ∙ ap (hashed_at numbers) same)
 
 -- what a lookup in the ordered map found, if none was found by the hash
-pub by_order : (numbers : Numbers) (one key label : List ℕ) → one ≡ label → key ≡ label → None ≡ hashed_at numbers one
+pub ordered_number : (numbers : LabelNumbers) (one key label : List ℕ) → one ≡ label → key ≡ label → None ≡ hashed_at numbers one
     → (o : Option ℕ) → o ≡ ordered_at numbers key → o ≡ number_of numbers label
 unfolding number_of
-by_order numbers one key label first second none o is =
+ordered_number numbers one key label first second none o is =
     is ∙ ap (ordered_at numbers) second ∙ ap (λ (h : Option ℕ). option_or h (ordered_at numbers label)) (none ∙ ap (hashed_at numbers) first)
 
 -- a label gets a number
-module _ (old new : Numbers) (key label : List ℕ) (n : ℕ) (same : key ≡ label) where
+module _ (old new : LabelNumbers) (key label : List ℕ) (n : ℕ) (same : key ≡ label) where
   -- by its hash
   pub hash_given : new.ordered ≡ old.ordered → ((q : List ℕ) → hashed_at new q ≡ cond (bytes_eq key q) (Some n) (hashed_at old q))
       → (q : List ℕ) → number_of new q ≡ (if bytes_eq label q then Some n else number_of old q)

@@ -11,7 +11,7 @@ use Rattle.std.proofs.lemmas.Cmp.{nat_cmp_total, nat_list_cmp_total, tied_itself
 use Rattle.std.proofs.lemmas.Map.Text.{is_eq-slice_cmp}
 use Rattle.std.proofs.lemmas.Slice.Eq.{bytes_eq-Decides}
 use Rattle.std.proofs.lemmas.Bool.Decides.{Decides-ltb, not_from_Decides}
-use Rattle.goal_labels.specs.declared.label_map.Slot.{Slot}
+use Rattle.goal_labels.specs.declared.label_map.LabelInfo.{LabelInfo}
 use Rattle.goal_labels.specs.Entries.{Entries, IsAt, IsAbsent}
 use Rattle.goal_labels.specs.Ordered.{or_else, label_cmp, AreBefore, AreAscending}
 use Rattle.goal_labels.proofs.EntryLemmas.{IsAt-before, IsAt-within, IsAt-last}
@@ -23,21 +23,21 @@ or_else-is Less other = refl
 or_else-is Equal other = refl
 or_else-is Greater other = refl
 
-total : IsTotalOrder label_cmp
-total =
+label_cmp-total : IsTotalOrder label_cmp
+label_cmp-total =
     let lengths : IsTotalOrder (λ (x y : List ℕ). nat_cmp (length x) (length y)) = on_total (length {A = ℕ}) nat_cmp_total in
     let both : IsTotalOrder (λ (x y : List ℕ). ordering_then (nat_cmp (length x) (length y)) (slice_cmp nat_cmp x y)) =
     then_total lengths nat_list_cmp_total in
     subst IsTotalOrder (λ i x y. or_else-is (nat_cmp (length x) (length y)) (slice_cmp nat_cmp x y) i) both
 
 pub label_cmp-trans : (x y z : List ℕ) → label_cmp x y ≡ Less → label_cmp y z ≡ Less → label_cmp x z ≡ Less
-label_cmp-trans x y z = total.trans x y z
+label_cmp-trans x y z = label_cmp-total.trans x y z
 
 pub label_cmp-back : (x y : List ℕ) → label_cmp x y ≡ Greater → label_cmp y x ≡ Less
-label_cmp-back x y past = total.antisymm y x ∙ ap ordering_reverse past
+label_cmp-back x y past = label_cmp-total.antisymm y x ∙ ap ordering_reverse past
 
 pub label_cmp-same : (x : List ℕ) → label_cmp x x ≡ Equal
-label_cmp-same x = tied_itself total x
+label_cmp-same x = tied_itself label_cmp-total x
 
 -- a label does not come before itself
 pub label_cmp-apart : (x y : List ℕ) → label_cmp x y ≡ Less → x ≡ y → ⊥
@@ -65,7 +65,7 @@ before_absent es label before i at = before_apart es 0 label before i (omega ari
 
 -- an entry has one label
 pub IsAt-same : (es : Entries) (one other : List ℕ) (i : ℕ) → IsAt es one i → IsAt es other i → one ≡ other
-IsAt-same es one other i a b = ap (λ (o : Option (List ℕ × Slot)). option_map_or (λ e. e.0) o []) (sym a.1 ∙ b.1)
+IsAt-same es one other i a b = ap (λ (o : Option (List ℕ × LabelInfo)). option_map_or (λ e. e.0) o []) (sym a.1 ∙ b.1)
 
 -- a label after the last is after all from `first` on, if these ascend
 pub before_last : (es : Entries) (last label : List ℕ) (first n count : ℕ) → AreAscending es first count → count ≡ length es → length es ≡ n + 1
@@ -93,17 +93,17 @@ stands_before es one other first i j count ascending from within a b less = by (
         absurd (label_cmp-apart one other less (IsAt-same es one other j (subst (IsAt es one) here a) b))
 
 -- a label is appended
-module _ (es : Entries) (label : List ℕ) (slot : Slot) (first count : ℕ) (ascending : AreAscending es first count) where
+module _ (es : Entries) (label : List ℕ) (info : LabelInfo) (first count : ℕ) (ascending : AreAscending es first count) where
   abbrev more : Entries
-  more = es ++ (label, slot) ∷ []
+  more = es ++ (label, info) ∷ []
 
   -- the others still ascend
-  pub ascending_left : count ≤ length es → AreAscending (es ++ (label, slot) ∷ []) first count
+  pub ascending_left : count ≤ length es → AreAscending (es ++ (label, info) ∷ []) first count
   ascending_left within i j one other from less below a b =
       ascending i j one other from less below (IsAt-before es _ one i (omega (arith, less, below, within)) a) (IsAt-before es _ other j (omega (arith, below, within)) b)
 
   -- the new label comes after these, and all of them ascend
-  pub ascending_more : count ≡ length es → AreBefore es first label → AreAscending (es ++ (label, slot) ∷ []) first (count + 1)
+  pub ascending_more : count ≡ length es → AreBefore es first label → AreAscending (es ++ (label, info) ∷ []) first (count + 1)
   ascending_more all before i j one other from less below a b = by (ltb j (length es)) (Decides-ltb _ _)
     where
       by : (c : Bool) → Decides c (j < length es) → label_cmp one other ≡ Less
@@ -113,5 +113,5 @@ module _ (es : Entries) (label : List ℕ) (slot : Slot) (first count : ℕ) (as
           ascending i j one other from less (omega (arith, all, within)) earlier (IsAt-before es _ other j within b)
       by false p =
           let last : j ≡ length es = omega (arith, all, below, not_from_Decides false p refl) in
-          ap (label_cmp one) (IsAt-same more other label (length es) (subst (IsAt more other) last b) (IsAt-last es label slot))
+          ap (label_cmp one) (IsAt-same more other label (length es) (subst (IsAt more other) last b) (IsAt-last es label info))
           ∙ before i one from (IsAt-before es _ one i (omega (arith, less, last)) a)

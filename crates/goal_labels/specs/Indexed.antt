@@ -1,13 +1,13 @@
 -- How a label is found among the entries.
 use Rattle.std.specs.Prelude.{◌≡◌, ℕ, ◌<◌, ◌≤◌, List, Some, length}
-use Rattle.goal_labels.specs.declared.numbers.Numbers.{Numbers}
+use Rattle.goal_labels.specs.declared.numbers.LabelNumbers.{LabelNumbers}
 use Rattle.goal_labels.specs.Entries.{Entries, IsAt, AreUnique}
 use Rattle.goal_labels.specs.Numbers.{number_of, AreFew}
 use Rattle.goal_labels.specs.Ordered.{AreAscending}
 
 -- The invariant of a map of labels. The labels from `first` to before `ascending`, called the run, ascend. `numbers`
 -- has every label outside the run and none inside. Each label has one entry.
-pub record IsMap (entries : Entries) (first ascending : ℕ) (numbers : Numbers) : Type 0 where
+pub record IsMap (entries : Entries) (first ascending : ℕ) (numbers : LabelNumbers) : Type 0 where
   pub begins : first ≤ ascending
   pub within : ascending ≤ length entries
   pub ascend : AreAscending entries first ascending

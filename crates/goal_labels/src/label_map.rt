@@ -1,4 +1,4 @@
-//! A map from labels to slots, in the order of their first appearance.
+//! A map from labels to what is known of them, in the order of their first appearance.
 ghost use Rattle.std.specs.Prelude.{◌≡◌, ℕ, ◌^◌, ◌<◌, ◌≤◌, true, List, [], ◌∷◌, ◌++◌, Some, None, length, slice_get, bytes_eq, IfSome, IfNone, IfOk, OnOk};
 ghost use Rattle.std.specs.Map.{lookup};
 ghost use Rattle.goal_labels.specs.Entries.{Entries, put, is_at, label_of, entries_of, IsAt, IsAbsent, IsHeld, AreUnique, AreHeld};
@@ -6,7 +6,7 @@ ghost use Rattle.goal_labels.specs.Numbers.{number_of, AreFew};
 ghost use Rattle.goal_labels.specs.Ordered.{label_cmp, AreAscending, AreBefore};
 ghost use Rattle.goal_labels.specs.Indexed.{IsMap};
 
-use crate::numbers::Numbers;
+use crate::numbers::LabelNumbers;
 use goal_lexer::begin_alike;
 use std::alloc::{AllocError, Global};
 use std::cmp::Ordering;
@@ -14,30 +14,30 @@ use std::marker::Model;
 
 /// What is known of a label.
 #[derive(Clone, Copy, PartialEq, Eq)]
-pub struct Slot {
+pub struct LabelInfo {
     /// The number of its operation, or `None` while it is not defined.
     pub op: Option<u32>,
     /// The place of its first appearance in the text, which matters while it is not defined.
     pub at: u64,
 }
 
-/// A label's slot, and the place of its bytes among those of all labels.
+/// A label's info, and the place of its bytes among those of all labels.
 #[derive(Clone, Copy)]
-pub struct Entry {
+pub struct LabelEntry {
     /// What is known of the label.
-    pub slot: Slot,
+    pub info: LabelInfo,
     /// The place of its first byte.
     pub from: u32,
     /// The number of its bytes, 1 to 64.
     pub len: u32,
 }
 
-/// Labels with their slots, in the order of their first appearance. Contracts see the list of them.
+/// Labels with their infos, in the order of their first appearance. Contracts see the list of them.
 ///
 /// Most texts number their labels and define them in that order. Such labels form an ascending run: a label is appended
-/// to it, and binary search finds it. All labels outside the run have an entry in [`Numbers`].
+/// to it, and binary search finds it. All labels outside the run have an entry in [`LabelNumbers`].
 pub struct LabelMap {
-    entries: Vec<Entry>,
+    entries: Vec<LabelEntry>,
     // The bytes of all labels, one after another, so that a short label takes little memory.
     bytes: Vec<u8>,
     // The number of the first label of the run.
@@ -45,7 +45,7 @@ pub struct LabelMap {
     // The number after the last label of the run.
     ascending: usize,
     // The numbers of all other labels.
-    numbers: Numbers,
+    numbers: LabelNumbers,
     // The numbers of the last two mentions, the last one first. They only save time: any values are right.
     recent: [usize; 2],
 }
@@ -77,7 +77,7 @@ impl Model for LabelMap {
 }
 
 // The label of an entry.
-fn label_of<'a>(bytes: &'a [u8], entry: &Entry) -> &'a [u8]
+fn label_of<'a>(bytes: &'a [u8], entry: &LabelEntry) -> &'a [u8]
     requires held { IsHeld bytes.now entry.now }
     ensures { result.now ≡ label_of bytes.now entry.now }
 {
@@ -107,7 +107,7 @@ fn are_same(one: &[u8], other: &[u8]) -> bool
 
 // Returns whether entry `i` has this label. The lengths are compared first, since that is cheapest.
 #[inline(always)]
-fn is_at(entries: &[Entry], bytes: &[u8], label: &[u8], i: usize) -> bool
+fn is_at(entries: &[LabelEntry], bytes: &[u8], label: &[u8], i: usize) -> bool
     requires held { AreHeld bytes.now entries.now }
     ensures { result ≡ is_at (entries_of bytes.now entries.now) label.now i }
 {
@@ -131,7 +131,7 @@ fn last_of(label: &[u8]) -> usize
 // Guesses the number of a label that is at most 5 labels from the one at `near`: in numbered labels their last digits
 // are equally far apart. Any answer is right.
 #[inline(always)]
-fn number_near(entries: &[Entry], bytes: &[u8], label: &[u8], near: usize) -> usize
+fn number_near(entries: &[LabelEntry], bytes: &[u8], label: &[u8], near: usize) -> usize
     requires held { AreHeld bytes.now entries.now }
 {
     let Some(entry) = entries.get(near) else {
@@ -162,7 +162,7 @@ fn order(one: &[u8], other: &[u8]) -> Ordering
 
 // Returns the number of a label among those from `first` to before `ascending`.
 fn search(
-    entries: &[Entry],
+    entries: &[LabelEntry],
     bytes: &[u8],
     first: usize,
     ascending: usize,
@@ -190,7 +190,7 @@ fn search(
 // Returns whether this label comes after the last one: true only if it also comes after every ascending label up to
 // that one.
 #[inline(always)]
-fn comes_after_last(entries: &[Entry], bytes: &[u8], label: &[u8]) -> bool
+fn comes_after_last(entries: &[LabelEntry], bytes: &[u8], label: &[u8]) -> bool
     requires held { AreHeld bytes.now entries.now }
     ensures { result ≡ true → (first : ℕ) → AreAscending (entries_of bytes.now entries.now) first (length entries.now) → AreBefore (entries_of bytes.now entries.now) first label.now }
 {
@@ -205,11 +205,11 @@ fn comes_after_last(entries: &[Entry], bytes: &[u8], label: &[u8]) -> bool
 
 // Returns the number of a label.
 fn find(
-    entries: &[Entry],
+    entries: &[LabelEntry],
     bytes: &[u8],
     first: usize,
     ascending: usize,
-    numbers: &Numbers,
+    numbers: &LabelNumbers,
     label: &[u8],
 ) -> Option<usize>
     requires some { 0 < length label.now }
@@ -231,23 +231,23 @@ fn find(
 // Appends an entry with a label that has none.
 #[inline(always)]
 fn hold(
-    entries: &mut Vec<Entry>,
+    entries: &mut Vec<LabelEntry>,
     bytes: &mut Vec<u8>,
     label: &[u8],
-    slot: Slot,
+    info: LabelInfo,
 ) -> Result<(), AllocError>
     requires some { 0 < length label.now }
     requires short { length label.now ≤ 64 }
     requires held { AreHeld bytes.old.items entries.old.items }
-    ensures entries { OnOk result (entries_of bytes.new.items entries.new.items ≡ entries_of bytes.old.items entries.old.items ++ (label.now, slot) ∷ []) }
+    ensures entries { OnOk result (entries_of bytes.new.items entries.new.items ≡ entries_of bytes.old.items entries.old.items ++ (label.now, info) ∷ []) }
     ensures held { OnOk result (AreHeld bytes.new.items entries.new.items) }
 {
     let Ok(from) = u32::try_from(bytes.len()) else {
         return Err(AllocError);
     };
     bytes.extend_from_slice(label)?;
-    entries.push(Entry {
-        slot,
+    entries.push(LabelEntry {
+        info,
         from,
         len: label.len() as u32,
     })?;
@@ -258,11 +258,11 @@ fn hold(
 // all, that label gets a number, and the new label begins a run.
 #[inline(always)]
 fn join_run(
-    entries: &[Entry],
+    entries: &[LabelEntry],
     bytes: &[u8],
     first: &mut usize,
     ascending: usize,
-    numbers: &mut Numbers,
+    numbers: &mut LabelNumbers,
     label: &[u8],
     after_all: bool,
 ) -> Result<bool, AllocError>
@@ -291,13 +291,13 @@ fn join_run(
 // Appends a label that has no entry. It joins the run, or gets a number.
 #[inline(always)]
 fn append(
-    entries: &mut Vec<Entry>,
+    entries: &mut Vec<LabelEntry>,
     bytes: &mut Vec<u8>,
     first: &mut usize,
     ascending: &mut usize,
-    numbers: &mut Numbers,
+    numbers: &mut LabelNumbers,
     label: &[u8],
-    slot: Slot,
+    info: LabelInfo,
     after_all: bool,
 ) -> Result<(), AllocError>
     requires some { 0 < length label.now }
@@ -306,13 +306,13 @@ fn append(
     requires map { IsMap (entries_of bytes.old.items entries.old.items) first.old ascending.old numbers.old }
     requires absent { IsAbsent (entries_of bytes.old.items entries.old.items) label.now }
     requires before { after_all ≡ true → AreBefore (entries_of bytes.old.items entries.old.items) 0 label.now }
-    ensures entries { OnOk result (entries_of bytes.new.items entries.new.items ≡ entries_of bytes.old.items entries.old.items ++ (label.now, slot) ∷ []) }
+    ensures entries { OnOk result (entries_of bytes.new.items entries.new.items ≡ entries_of bytes.old.items entries.old.items ++ (label.now, info) ∷ []) }
     ensures held { OnOk result (AreHeld bytes.new.items entries.new.items) }
     ensures map { OnOk result (IsMap (entries_of bytes.new.items entries.new.items) first.new ascending.new numbers.new) }
 {
     let number = entries.len();
     let joins = join_run(entries, bytes, first, *ascending, numbers, label, after_all)?;
-    hold(entries, bytes, label, slot)?;
+    hold(entries, bytes, label, info)?;
     if joins {
         *ascending = number + 1;
         return Ok(());
@@ -322,11 +322,11 @@ fn append(
 
 // Removes all labels. Nothing need be known of them: an append that ran out of memory may leave any state.
 fn forget(
-    entries: &mut Vec<Entry>,
+    entries: &mut Vec<LabelEntry>,
     bytes: &mut Vec<u8>,
     first: &mut usize,
     ascending: &mut usize,
-    numbers: &mut Numbers,
+    numbers: &mut LabelNumbers,
 )
     ensures entries { entries.new.items ≡ [] }
     ensures first { first.new ≡ 0 }
@@ -351,7 +351,7 @@ impl LabelMap {
             bytes: Vec::new(alloc),
             first: 0,
             ascending: 0,
-            numbers: Numbers::new(alloc),
+            numbers: LabelNumbers::new(alloc),
             recent: [0; 2],
         }
     }
@@ -376,13 +376,13 @@ impl LabelMap {
         self.entries.len()
     }
 
-    /// Returns the slot of label number `i`, or `None` if there are not as many.
-    pub fn get(&self, i: usize) -> Option<Slot>
-        ensures some { IfSome result (λ slot. (label : List ℕ) × (slice_get self.now i ≡ Some (label, slot)) × (lookup (bytes_eq label) self.now ≡ Some slot)) }
+    /// Returns the info of label number `i`, or `None` if there are not as many.
+    pub fn get(&self, i: usize) -> Option<LabelInfo>
+        ensures some { IfSome result (λ info. (label : List ℕ) × (slice_get self.now i ≡ Some (label, info)) × (lookup (bytes_eq label) self.now ≡ Some info)) }
         ensures none { IfNone result (length self.now ≤ i) }
     {
         match self.entries.get(i) {
-            Some(entry) => Some(entry.slot),
+            Some(entry) => Some(entry.info),
             None => None,
         }
     }
@@ -435,12 +435,12 @@ impl LabelMap {
 
     // Appends a label that has no entry.
     #[inline(always)]
-    fn add(&mut self, label: &[u8], slot: Slot, after_all: bool) -> Result<(), AllocError>
+    fn add(&mut self, label: &[u8], info: LabelInfo, after_all: bool) -> Result<(), AllocError>
         requires some { 0 < length label.now }
         requires short { length label.now ≤ 64 }
         requires absent { IsAbsent self.old label.now }
         requires before { after_all ≡ true → AreBefore self.old 0 label.now }
-        ensures { OnOk result (self.new ≡ self.old ++ (label.now, slot) ∷ []) }
+        ensures { OnOk result (self.new ≡ self.old ++ (label.now, info) ∷ []) }
     {
         let added = append(
             &mut self.entries,
@@ -449,7 +449,7 @@ impl LabelMap {
             &mut self.ascending,
             &mut self.numbers,
             label,
-            slot,
+            info,
             after_all,
         );
         if added.is_err() {
@@ -464,38 +464,38 @@ impl LabelMap {
         added
     }
 
-    /// Gives a slot to a label of 1 to 64 bytes, and returns the one that it had, if any. On `Err` (out of memory) the
+    /// Gives an info to a label of 1 to 64 bytes, and returns the one that it had, if any. On `Err` (out of memory) the
     /// map may lose its labels.
-    pub fn insert(&mut self, label: &[u8], slot: Slot) -> Result<Option<Slot>, AllocError>
+    pub fn insert(&mut self, label: &[u8], info: LabelInfo) -> Result<Option<LabelInfo>, AllocError>
         requires some { 0 < length label.now }
         requires short { length label.now ≤ 64 }
         ensures old { IfOk result (λ old. old ≡ lookup (bytes_eq label.now) self.old) }
-        ensures entries { OnOk result (self.new ≡ put self.old label.now slot) }
+        ensures entries { OnOk result (self.new ≡ put self.old label.now info) }
     {
         if self.comes_after_all(label) {
-            self.add(label, slot, true)?;
+            self.add(label, info, true)?;
             return Ok(None);
         }
         match self.find(label) {
             Some(i) => {
-                let old = self.entries[i].slot;
-                self.entries[i].slot = slot;
+                let old = self.entries[i].info;
+                self.entries[i].info = info;
                 Ok(Some(old))
             }
             None => {
-                self.add(label, slot, false)?;
+                self.add(label, info, false)?;
                 Ok(None)
             }
         }
     }
 
-    // Returns the number of a label, wherever it is. A new label gets this slot.
+    // Returns the number of a label, wherever it is. A new label gets this info.
     #[inline(never)]
-    fn number_anywhere(&mut self, label: &[u8], slot: Slot) -> Result<usize, AllocError>
+    fn number_anywhere(&mut self, label: &[u8], info: LabelInfo) -> Result<usize, AllocError>
         requires some { 0 < length label.now }
         requires short { length label.now ≤ 64 }
-        ensures old { OnOk result ((there : Slot) → lookup (bytes_eq label.now) self.old ≡ Some there → self.new ≡ self.old) }
-        ensures new { OnOk result (lookup (bytes_eq label.now) self.old ≡ None → self.new ≡ put self.old label.now slot) }
+        ensures old { OnOk result ((there : LabelInfo) → lookup (bytes_eq label.now) self.old ≡ Some there → self.new ≡ self.old) }
+        ensures new { OnOk result (lookup (bytes_eq label.now) self.old ≡ None → self.new ≡ put self.old label.now info) }
         ensures number { IfOk result (IsAt self.new label.now) }
     {
         if let Some(i) = self.find(label) {
@@ -503,22 +503,22 @@ impl LabelMap {
             return Ok(i);
         }
         let number = self.entries.len();
-        self.add(label, slot, false)?;
+        self.add(label, info, false)?;
         Ok(number)
     }
 
-    /// Returns the number of a label of 1 to 64 bytes. A new label gets this slot. On `Err` (out of memory) the map may
+    /// Returns the number of a label of 1 to 64 bytes. A new label gets this info. On `Err` (out of memory) the map may
     /// lose its labels.
-    pub fn number(&mut self, label: &[u8], slot: Slot) -> Result<usize, AllocError>
+    pub fn number(&mut self, label: &[u8], info: LabelInfo) -> Result<usize, AllocError>
         requires some { 0 < length label.now }
         requires short { length label.now ≤ 64 }
-        ensures old { OnOk result ((there : Slot) → lookup (bytes_eq label.now) self.old ≡ Some there → self.new ≡ self.old) }
-        ensures new { OnOk result (lookup (bytes_eq label.now) self.old ≡ None → self.new ≡ put self.old label.now slot) }
+        ensures old { OnOk result ((there : LabelInfo) → lookup (bytes_eq label.now) self.old ≡ Some there → self.new ≡ self.old) }
+        ensures new { OnOk result (lookup (bytes_eq label.now) self.old ≡ None → self.new ≡ put self.old label.now info) }
         ensures number { IfOk result (IsAt self.new label.now) }
     {
         if let Some(i) = self.find_near(label) {
             return Ok(i);
         }
-        self.number_anywhere(label, slot)
+        self.number_anywhere(label, info)
     }
 }

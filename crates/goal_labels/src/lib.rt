@@ -11,4 +11,4 @@ mod label_map;
 mod numbers;
 mod sorted;
 
-pub use label_map::{LabelMap, Slot};
+pub use label_map::{LabelInfo, LabelMap};

@@ -14,20 +14,20 @@ const MOST_HASHED: usize = 1024;
 /// Labels with their numbers, found by their hashes. The author of a text can choose labels with equal hashes, so
 /// labels beyond [`MOST_HASHED`] are found in an ordered map.
 #[derive(Drop)]
-pub struct Numbers {
+pub struct LabelNumbers {
     /// The first labels, at most [`MOST_HASHED`].
     pub hashed: IndexMap<Label, usize>,
     /// The labels after them.
     pub ordered: BTreeMap<Sorted, usize>,
 }
 
-impl Numbers {
+impl LabelNumbers {
     /// Creates an empty table.
-    pub fn new(alloc: Global) -> Numbers
+    pub fn new(alloc: Global) -> LabelNumbers
         ensures none { (label : List ℕ) → number_of result label ≡ None }
         ensures few { AreFew result }
     {
-        Numbers {
+        LabelNumbers {
             hashed: IndexMap::new(alloc),
             ordered: BTreeMap::new(alloc),
         }

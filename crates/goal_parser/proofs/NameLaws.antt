@@ -4,7 +4,7 @@ use Rattle.std.specs.List.{AllZip}
 use Rattle.std.specs.Map.{lookup}
 use Rattle.goal_graph.specs.declared.plan.Dep.{Dep}
 use Rattle.goal_graph.specs.declared.plan.Note.{Note}
-use Rattle.goal_labels.specs.declared.label_map.Slot.{Slot}
+use Rattle.goal_labels.specs.declared.label_map.LabelInfo.{LabelInfo}
 use Rattle.goal_parser.specs.declared.labels.Labels.{Labels}
 use Rattle.goal_parser.specs.declared.head.Mention.{Mention}
 use Rattle.goal_parser.specs.declared.head.Verb.{Verb}
@@ -92,7 +92,7 @@ NamesHold-note old new ds us deps notes s v slot first second grows keeps is sam
 
 -- numbers of operations
 
-pub op_found : (es : Entries) (slot : ℕ) (k : List ℕ) (s : Slot) → slice_get es slot ≡ Some (k, s) → lookup (bytes_eq k) es ≡ Some s → op_at es slot ≡ unwrap_or s.op 0
+pub op_found : (es : Entries) (slot : ℕ) (k : List ℕ) (s : LabelInfo) → slice_get es slot ≡ Some (k, s) → lookup (bytes_eq k) es ≡ Some s → op_at es slot ≡ unwrap_or s.op 0
 unfolding op_at op_by
 op_found es slot k s at found =
     let e = label_of_entry es slot k s at in

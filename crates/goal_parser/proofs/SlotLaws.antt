@@ -9,7 +9,7 @@ use Rattle.std.proofs.lemmas.Option.{slice_get-map, get_or_from_slice_get, slice
 use Rattle.std.proofs.lemmas.List.{take_more, take_all}
 use Rattle.std.proofs.Math.ListN.{get_or-append}
 use Rattle.goal_labels.specs.Entries.{put}
-use Rattle.goal_labels.specs.declared.label_map.Slot.{Slot}
+use Rattle.goal_labels.specs.declared.label_map.LabelInfo.{LabelInfo}
 use Rattle.goal_parser.specs.declared.head.Mention.{Mention}
 use Rattle.goal_parser.specs.Items.{Definition, defined_as, is_defined, first_outside, first_unknown}
 use Rattle.goal_parser.specs.Slots.{Entries, op_in, op_by, first_by, label_at, Keeps, Grows}
@@ -20,7 +20,7 @@ option_or-none (Some x) = refl
 
 -- one more at the end
 
-first_by-append : (test : List ℕ → Bool) (es : Entries) (e : List ℕ × Slot) → first_by test (es ++ e ∷ []) ≡ option_or (first_by test es) (if test e.0 then None else Some e.1.at)
+first_by-append : (test : List ℕ → Bool) (es : Entries) (e : List ℕ × LabelInfo) → first_by test (es ++ e ∷ []) ≡ option_or (first_by test es) (if test e.0 then None else Some e.1.at)
 unfolding first_by
 first_by-append test [] e = refl
 first_by-append test (f ∷ es) e = by (test f.0) (first_by-append test es e)
@@ -52,7 +52,7 @@ defined_as-append (f ∷ ds) d q = by (bytes_eq q f.label) (defined_as-append ds
 
 -- an entry that is put in
 
-module _ (x : List ℕ) (v : Slot) where
+module _ (x : List ℕ) (v : LabelInfo) where
   put-absent : (es : Entries) → lookup (bytes_eq x) es ≡ None → put es x v ≡ es ++ (x, v) ∷ []
   put-absent [] none = refl
   put-absent (e ∷ es) none = by (bytes_eq x e.0) none (put-absent es)
@@ -63,7 +63,7 @@ module _ (x : List ℕ) (v : Slot) where
       by false h rest = ap (λ l. e ∷ l) (rest h)
 
   -- a label that passes the test counts for nothing
-  first_by-present : (test : List ℕ → Bool) (es : Entries) (s : Slot) → ((q : List ℕ) → bytes_eq x q ≡ true → q ≡ x) → lookup (bytes_eq x) es ≡ Some s → test x ≡ true
+  first_by-present : (test : List ℕ → Bool) (es : Entries) (s : LabelInfo) → ((q : List ℕ) → bytes_eq x q ≡ true → q ≡ x) → lookup (bytes_eq x) es ≡ Some s → test x ≡ true
       → first_by test (put es x v) ≡ first_by test es
   unfolding first_by
   first_by-present test [] s exact there passes = cc
@@ -77,7 +77,7 @@ module _ (x : List ℕ) (v : Slot) where
       by false q h rest = ap (λ r. if test e.0 then r else Some e.1.at) (rest h)
 
   -- where its label fails a test, some label fails it
-  first_by-some : (test : List ℕ → Bool) (es : Entries) (s : Slot) → ((q : List ℕ) → bytes_eq x q ≡ true → q ≡ x) → lookup (bytes_eq x) es ≡ Some s → test x ≡ false → is_some (first_by test es) ≡ true
+  first_by-some : (test : List ℕ → Bool) (es : Entries) (s : LabelInfo) → ((q : List ℕ) → bytes_eq x q ≡ true → q ≡ x) → lookup (bytes_eq x) es ≡ Some s → test x ≡ false → is_some (first_by test es) ≡ true
   unfolding first_by
   first_by-some test [] s exact there fails = cc
   first_by-some test (e ∷ es) s exact there fails = by (bytes_eq x e.0) refl there (λ h. first_by-some test es s exact h fails)
@@ -96,10 +96,10 @@ exact x q h = sym ((bytes_eq-Decides x q).0 h)
 
 -- labels by their slots
 
-pub label_of_entry : (es : Entries) (i : ℕ) (k : List ℕ) (v : Slot) → slice_get es i ≡ Some (k, v) → (i < length es) × (label_at es i ≡ k)
+pub label_of_entry : (es : Entries) (i : ℕ) (k : List ℕ) (v : LabelInfo) → slice_get es i ≡ Some (k, v) → (i < length es) × (label_at es i ≡ k)
 unfolding label_at
 label_of_entry es i k v h =
-    (slice_get_within es i (k, v) h, get_or_from_slice_get (keys_of es) i k [] (slice_get-map (λ (e : List ℕ × Slot). e.0) es i ∙ ap (λ (o : Option (List ℕ × Slot)). elim o [ None ↦ None | Some e ↦ Some e.0 ]) h))
+    (slice_get_within es i (k, v) h, get_or_from_slice_get (keys_of es) i k [] (slice_get-map (λ (e : List ℕ × LabelInfo). e.0) es i ∙ ap (λ (o : Option (List ℕ × LabelInfo)). elim o [ None ↦ None | Some e ↦ Some e.0 ]) h))
 
 length-keys : (es : Entries) → length (keys_of es) ≡ length es
 length-keys [] = refl
@@ -115,7 +115,7 @@ Grows-by_keys es fs more same = record {
   labels = λ i h. ap (λ ks. get_or ks i []) same ∙ get_or-append (keys_of es) more [] i (omega (arith, length-keys es));
 }
 
-keys_put : (es : Entries) (x : List ℕ) (v : Slot) → (more : List (List ℕ)) × (keys_of (put es x v) ≡ keys_of es ++ more)
+keys_put : (es : Entries) (x : List ℕ) (v : LabelInfo) → (more : List (List ℕ)) × (keys_of (put es x v) ≡ keys_of es ++ more)
 keys_put [] x v = (x ∷ [], refl)
 keys_put (e ∷ es) x v = by (bytes_eq x e.0) (keys_put es x v)
   where
@@ -124,20 +124,20 @@ keys_put (e ∷ es) x v = by (bytes_eq x e.0) (keys_put es x v)
     by true rest = ([], search (rules))
     by false rest = (rest.0, ap (λ ks. e.0 ∷ ks) rest.1)
 
-pub Grows-put : (es fs : Entries) (x : List ℕ) (v : Slot) → fs ≡ put es x v → Grows es fs
+pub Grows-put : (es fs : Entries) (x : List ℕ) (v : LabelInfo) → fs ≡ put es x v → Grows es fs
 Grows-put es fs x v same = Grows-by_keys es fs (keys_put es x v).0 (ap keys_of same ∙ (keys_put es x v).1)
 
 -- what a lookup finds then
-pub lookup-put : (es : Entries) (x : List ℕ) (v : Slot) (q : List ℕ) → lookup (bytes_eq q) (put es x v) ≡ cond (bytes_eq x q) (Some v) (lookup (bytes_eq q) es)
+pub lookup-put : (es : Entries) (x : List ℕ) (v : LabelInfo) (q : List ℕ) → lookup (bytes_eq q) (put es x v) ≡ cond (bytes_eq x q) (Some v) (lookup (bytes_eq q) es)
 lookup-put [] x v q = ap (λ b. cond b (Some v) None) (nat_list_eq_equiv.symm q x)
 lookup-put (e ∷ es) x v q = by (bytes_eq x e.0) refl (lookup-put es x v q)
   where
-    after : (b c : Bool) (o : Option Slot) → (b ≡ true → c ≡ true → ⊥) → cond c (Some e.1) (cond b (Some v) o) ≡ cond b (Some v) (cond c (Some e.1) o)
+    after : (b c : Bool) (o : Option LabelInfo) → (b ≡ true → c ≡ true → ⊥) → cond c (Some e.1) (cond b (Some v) o) ≡ cond b (Some v) (cond c (Some e.1) o)
     after true true o apart = absurd (apart refl refl)
     after true false o apart = refl
     after false c o apart = refl
 
-    twice : (b : Bool) (o : Option Slot) → cond b (Some v) o ≡ cond b (Some v) (cond b (Some e.1) o)
+    twice : (b : Bool) (o : Option LabelInfo) → cond b (Some v) o ≡ cond b (Some v) (cond b (Some e.1) o)
     twice true o = refl
     twice false o = refl
 
@@ -151,7 +151,7 @@ lookup-put (e ∷ es) x v q = by (bytes_eq x e.0) refl (lookup-put es x v q)
         ap (cond (bytes_eq q e.0) (Some e.1)) rest
         ∙ after (bytes_eq x q) (bytes_eq q e.0) (lookup (bytes_eq q) es) (λ one two. false≢true (sym h ∙ ap (λ k. bytes_eq k e.0) (sym (exact x q one)) ∙ two))
 
-pub updated : (es fs : Entries) (x : List ℕ) (v : Slot) → fs ≡ put es x v → (q : List ℕ) → lookup (bytes_eq q) fs ≡ cond (bytes_eq x q) (Some v) (lookup (bytes_eq q) es)
+pub updated : (es fs : Entries) (x : List ℕ) (v : LabelInfo) → fs ≡ put es x v → (q : List ℕ) → lookup (bytes_eq q) fs ≡ cond (bytes_eq x q) (Some v) (lookup (bytes_eq q) es)
 updated es fs x v same q = ap (lookup (bytes_eq q)) same ∙ lookup-put es x v q
 
 -- what the slots know
@@ -168,7 +168,7 @@ Keeps-empty es none = record {
 }
 
 -- a label that stood before is used again
-pub Keeps-again : (es : Entries) (ds : List Definition) (us : List Mention) (u : Mention) (s : Slot) → lookup (bytes_eq u.label) es ≡ Some s → Keeps es ds us → Keeps es ds (us ++ u ∷ [])
+pub Keeps-again : (es : Entries) (ds : List Definition) (us : List Mention) (u : Mention) (s : LabelInfo) → lookup (bytes_eq u.label) es ≡ Some s → Keeps es ds us → Keeps es ds (us ++ u ∷ [])
 Keeps-again es ds us u s there k = record { numbers = k.numbers; firsts = λ test all. by test (test u.label) refl (k.firsts test all) ∙ sym (first_outside-append test us u) }
   where
     by : (test : List ℕ → Bool) (b : Bool) → test u.label ≡ b → first_by test es ≡ first_outside test us → first_by test es ≡ option_or (first_outside test us) (if b then None else Some u.at)
@@ -238,7 +238,7 @@ Keeps-defined es fs ds us x op place is_put updated k fresh = record {
     by q false h =
         k.numbers q ∙ sym (ap (λ b. option_or (defined_as ds q) (if b then Some op else None)) (nat_list_eq_equiv.symm q x ∙ h) ∙ option_or-none (defined_as ds q))
 
-    firsts : (test : List ℕ → Bool) (o : Option Slot) → lookup (bytes_eq x) es ≡ o → test x ≡ true → first_by test (put es x (record { op = Some op; at = place })) ≡ first_by test es
+    firsts : (test : List ℕ → Bool) (o : Option LabelInfo) → lookup (bytes_eq x) es ≡ o → test x ≡ true → first_by test (put es x (record { op = Some op; at = place })) ≡ first_by test es
     firsts test None h passes =
         ap (first_by test) (put-absent x (record { op = Some op; at = place }) es h)
         ∙ first_by-append test es (x, record { op = Some op; at = place })
@@ -248,18 +248,18 @@ Keeps-defined es fs ds us x op place is_put updated k fresh = record {
         first_by-present x (record { op = Some op; at = place }) test es s (exact x) h passes
 
 -- what was known of a label that is defined now
-pub defined_before : (es : Entries) (ds : List Definition) (us : List Mention) (x : List ℕ) (o : Option Slot) → Keeps es ds us → o ≡ lookup (bytes_eq x) es → is_defined ds x ≡ is_some (op_in o)
+pub defined_before : (es : Entries) (ds : List Definition) (us : List Mention) (x : List ℕ) (o : Option LabelInfo) → Keeps es ds us → o ≡ lookup (bytes_eq x) es → is_defined ds x ≡ is_some (op_in o)
 unfolding op_by
 defined_before es ds us x o keeps was = ap is_some (sym (keeps.numbers x) ∙ ap op_in (sym was))
 
 -- the first label that isn't defined
 
-first_by-found : (test : List ℕ → Bool) (es : Entries) (i : ℕ) (e : List ℕ × Slot) → first_by test (take i es) ≡ None → slice_get es i ≡ Some e → test e.0 ≡ false → first_by test es ≡ Some e.1.at
+first_by-found : (test : List ℕ → Bool) (es : Entries) (i : ℕ) (e : List ℕ × LabelInfo) → first_by test (take i es) ≡ None → slice_get es i ≡ Some e → test e.0 ≡ false → first_by test es ≡ Some e.1.at
 unfolding first_by
 first_by-found test [] i e before at fails = cc
 first_by-found test (f ∷ es) zero e before at fails =
     let same : f ≡ e = cc in
-    ap (λ (g : List ℕ × Slot). if test g.0 then first_by test es else Some g.1.at) same ∙ ap (λ b. if b then first_by test es else Some e.1.at) fails
+    ap (λ (g : List ℕ × LabelInfo). if test g.0 then first_by test es else Some g.1.at) same ∙ ap (λ b. if b then first_by test es else Some e.1.at) fails
 first_by-found test (f ∷ es) (suc i) e before at fails = by (test f.0) before (λ h. first_by-found test es i e h at fails)
   where
     by : (b : Bool) → (if b then first_by test (take i es) else Some f.1.at) ≡ None → (first_by test (take i es) ≡ None → first_by test es ≡ Some e.1.at)
@@ -267,16 +267,16 @@ first_by-found test (f ∷ es) (suc i) e before at fails = by (test f.0) before 
     by true h rest = rest h
     by false h rest = cc
 
-first_by-more : (test : List ℕ → Bool) (es : Entries) (i : ℕ) (e : List ℕ × Slot) → first_by test (take i es) ≡ None → slice_get es i ≡ Some e → test e.0 ≡ true → first_by test (take (i + 1) es) ≡ None
+first_by-more : (test : List ℕ → Bool) (es : Entries) (i : ℕ) (e : List ℕ × LabelInfo) → first_by test (take i es) ≡ None → slice_get es i ≡ Some e → test e.0 ≡ true → first_by test (take (i + 1) es) ≡ None
 first_by-more test es i e before at passes =
     ap (first_by test) (take_more es i e (slice_get_within es i e at))
     ∙ first_by-append test (take i es) (get_or es i e)
-    ∙ ap (λ (g : List ℕ × Slot). option_or (first_by test (take i es)) (if test g.0 then None else Some g.1.at)) (get_or_from_slice_get es i e e at)
+    ∙ ap (λ (g : List ℕ × LabelInfo). option_or (first_by test (take i es)) (if test g.0 then None else Some g.1.at)) (get_or_from_slice_get es i e e at)
     ∙ ap (λ b. option_or (first_by test (take i es)) (if b then None else Some e.1.at)) passes
     ∙ ap (λ o. option_or o None) before
 
 -- the slot of an entry says whether its label is defined
-pub slot_tells : (es : Entries) (ds : List Definition) (us : List Mention) (k : List ℕ) (s : Slot) → Keeps es ds us → lookup (bytes_eq k) es ≡ Some s → is_defined ds k ≡ is_some s.op
+pub slot_tells : (es : Entries) (ds : List Definition) (us : List Mention) (k : List ℕ) (s : LabelInfo) → Keeps es ds us → lookup (bytes_eq k) es ≡ Some s → is_defined ds k ≡ is_some s.op
 unfolding op_by
 slot_tells es ds us k s keeps h = ap is_some (sym (keeps.numbers k) ∙ ap op_in h)
 
@@ -287,12 +287,12 @@ pub front_none : (es : Entries) → IsFrontDefined es 0
 unfolding first_by IsFrontDefined
 front_none es ds us k = refl
 
-pub front_more : (es : Entries) (i : ℕ) (k : List ℕ) (s : Slot) → IsFrontDefined es i → slice_get es i ≡ Some (k, s) → lookup (bytes_eq k) es ≡ Some s → is_some s.op ≡ true → IsFrontDefined es (i + 1)
+pub front_more : (es : Entries) (i : ℕ) (k : List ℕ) (s : LabelInfo) → IsFrontDefined es i → slice_get es i ≡ Some (k, s) → lookup (bytes_eq k) es ≡ Some s → is_some s.op ≡ true → IsFrontDefined es (i + 1)
 unfolding IsFrontDefined
 front_more es i k s front at found defined =
     λ ds us keeps. first_by-more (is_defined ds) es i (k, s) (front ds us keeps) at (slot_tells es ds us k s keeps found ∙ defined)
 
-pub front_found : (es : Entries) (i : ℕ) (k : List ℕ) (s : Slot) → IsFrontDefined es i → slice_get es i ≡ Some (k, s) → lookup (bytes_eq k) es ≡ Some s → is_some s.op ≡ false → (ds : List Definition) (us : List Mention) → Keeps es ds us → Some s.at ≡ first_unknown ds us
+pub front_found : (es : Entries) (i : ℕ) (k : List ℕ) (s : LabelInfo) → IsFrontDefined es i → slice_get es i ≡ Some (k, s) → lookup (bytes_eq k) es ≡ Some s → is_some s.op ≡ false → (ds : List Definition) (us : List Mention) → Keeps es ds us → Some s.at ≡ first_unknown ds us
 unfolding IsFrontDefined
 front_found es i k s front at found undefined ds us keeps =
     sym (first_by-found (is_defined ds) es i (k, s) (front ds us keeps) at (slot_tells es ds us k s keeps found ∙ undefined))

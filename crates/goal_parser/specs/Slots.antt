@@ -7,11 +7,11 @@ use Rattle.goal_graph.specs.declared.plan.Note.{Note}
 use Rattle.goal_graph.specs.declared.plan.Note.TheVariants.{Moves, Adds}
 use Rattle.goal_parser.specs.declared.names.Names.{Names}
 pub use Rattle.goal_labels.specs.Entries.{Entries}
-use Rattle.goal_labels.specs.declared.label_map.Slot.{Slot}
+use Rattle.goal_labels.specs.declared.label_map.LabelInfo.{LabelInfo}
 use Rattle.goal_parser.specs.declared.head.Mention.{Mention}
 use Rattle.goal_parser.specs.Items.{Definition, defined_as, is_defined, first_outside, NamedDep, NamedNote, note_as}
 
-abbrev pub op_in : Option Slot → Option ℕ
+abbrev pub op_in : Option LabelInfo → Option ℕ
 op_in None = None
 op_in (Some slot) = slot.op
 

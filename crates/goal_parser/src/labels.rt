@@ -7,11 +7,11 @@ ghost use Rattle.goal_parser.specs.FaultInText.{fault_in_text};
 ghost use Rattle.goal_parser.specs.Slots.{Keeps, Grows, op_in, label_at, op_at};
 
 use crate::token_faults::TokenFault;
-use goal_labels::{LabelMap, Slot};
+use goal_labels::{LabelInfo, LabelMap};
 use std::alloc::{AllocError, Global};
 
 /// Returns the number of a slot's operation, if there is a slot and its label is defined.
-fn op_in(slot: Option<Slot>) -> Option<u32>
+fn op_in(slot: Option<LabelInfo>) -> Option<u32>
     ensures { result ≡ op_in slot }
 {
     match slot {
@@ -59,7 +59,7 @@ impl Labels {
         ensures grows { OnOk result (Grows self.old.slots self.new.slots) }
         ensures fault { IfErr result (λ f. f ≢ TokenFault.NoMemory → (ds : List Definition) (us : List Mention) → Keeps self.old.slots ds us → defined_fault ds (Some (record { label = label.now; at = at })) ≡ Some (fault_in_text f)) }
     {
-        let slot = Slot { op: Some(op), at };
+        let slot = LabelInfo { op: Some(op), at };
         let before = self.slots.insert(label, slot)?;
         match op_in(before) {
             Some(_) => Err(TokenFault::Repeat { at }),
@@ -77,7 +77,7 @@ impl Labels {
         ensures within { IfOk result (λ slot. slot < length self.new.slots) }
         ensures label { IfOk result (λ slot. label_at self.new.slots slot ≡ label.now) }
     {
-        let slot = self.slots.number(label, Slot { op: None, at })?;
+        let slot = self.slots.number(label, LabelInfo { op: None, at })?;
         Ok(slot)
     }
 

@@ -3,7 +3,7 @@ use Rattle.goal_labels.specs.Entries.{Entries, entries_of}
 use Rattle.goal_labels.specs.Indexed.{IsMap}
 use Rattle.goal_labels.specs.Ordered.{AreBefore}
 use Rattle.goal_labels.proofs.HeldLemmas.{entries_of-read, length-entries_of}
-use Rattle.goal_labels.proofs.IndexLemmas.{IsMap-joined, IsMap-numbered, unnumbered}
+use Rattle.goal_labels.proofs.IndexLemmas.{IsMap-joined, IsMap-numbered, absent_has_no_number}
 use Rattle.goal_labels.proofs.label_map.append.Goals as goal
 
 pub join_run-requires-clause-before : goal.join_run-requires-clause-before
@@ -17,7 +17,7 @@ returns-then-joins-clause-map c =
     let held = c.args.entries.now.items in
     let es = entries_of bytes held in
     let label = c.args.label.now in
-    let slot = c.args.slot in
+    let info = c.args.info in
     let first = c.join_run.new.first in
     let ascending = c.args.ascending.now in
     let numbers = c.join_run.new.numbers in
@@ -29,9 +29,9 @@ returns-then-joins-clause-map c =
     let is : ascending ≡ number = omega (arith, ascending_all, c.len-number.ensures, c.args.entries.now.ok.0, count) in
     let map = subst (λ (ds : Entries). IsMap ds first ascending numbers) same joined.map in
     let before = subst (λ (ds : Entries). AreBefore ds first label) same (joined.before c.if-joins.true) in
-    let more = IsMap-joined es label slot first ascending numbers map c.requires.absent ascending_all before in
+    let more = IsMap-joined es label info first ascending numbers map c.requires.absent ascending_all before in
     subst (λ (ds : Entries). IsMap ds first (number + 1) numbers) (sym c.in_ok-hold.ensures.entries)
-    (subst (λ (k : ℕ). IsMap (es ++ (label, slot) ∷ []) first (k + 1) numbers) is more)
+    (subst (λ (k : ℕ). IsMap (es ++ (label, info) ∷ []) first (k + 1) numbers) is more)
 
 pub insert-requires-clause-absent : goal.insert-requires-clause-absent
 insert-requires-clause-absent c =
@@ -42,7 +42,7 @@ insert-requires-clause-absent c =
     let ascending = c.args.ascending.now in
     let numbers = c.join_run.new.numbers in
     let map = subst (λ (ds : Entries). IsMap ds first ascending numbers) same c.in_ok-joins.ensures.map in
-    unnumbered (entries_of bytes held) first ascending numbers c.args.label.now map c.requires.absent
+    absent_has_no_number (entries_of bytes held) first ascending numbers c.args.label.now map c.requires.absent
 
 -- two facts about an Ok imply a third
 on_ok_both : {A E P Q R : Type 0} (r : Result A E) → (P → Q → R) → OnOk r P → OnOk r Q → OnOk r R
@@ -55,7 +55,7 @@ returns-clause-map c =
     let held = c.args.entries.now.items in
     let es = entries_of bytes held in
     let label = c.args.label.now in
-    let slot = c.args.slot in
+    let info = c.args.info in
     let first = c.join_run.new.first in
     let ascending = c.args.ascending.now in
     let numbers = c.join_run.new.numbers in
@@ -67,5 +67,5 @@ returns-clause-map c =
     on_ok_both c.insert.result
     (λ gives few.
     subst (λ (ds : Entries). IsMap ds first ascending new) (sym c.in_ok-hold.ensures.entries)
-    (IsMap-numbered es label slot first ascending numbers map c.requires.absent new number last (few map.few) gives))
+    (IsMap-numbered es label info first ascending numbers map c.requires.absent new number last (few map.few) gives))
     c.insert.ensures.numbered c.insert.ensures.few

@@ -1,6 +1,6 @@
 use Rattle.std.proofs.Common.{◌≡◌, ◌∙◌, ◌-◌, ◌<◌, arith, sym, subst, Some, None, length, slice_get}
 use Rattle.std.proofs.lemmas.Option.{none-some, slice_get-get_or, slice_get_within}
-use Rattle.goal_labels.specs.declared.label_map.Entry.{Entry}
+use Rattle.goal_labels.specs.declared.label_map.LabelEntry.{LabelEntry}
 use Rattle.goal_labels.specs.Entries.{entries_of, IsAt}
 use Rattle.goal_labels.proofs.EntryLemmas.{IsAt-within}
 use Rattle.goal_labels.proofs.HeldLemmas.{IsAt-entry, length-entries_of}
@@ -13,7 +13,7 @@ returns-in_default c = λ told first ascending i one from at.
     let held = c.args.entries.now in
     let last = length held - 1 in
     let es = entries_of bytes held in
-    let any : Entry = record { slot = record { op = None; at = 0 }; from = 0; len = 0 } in
+    let any : LabelEntry = record { info = record { op = None; at = 0 }; from = 0; len = 0 } in
     let within : last < length held = omega (arith, IsAt-within es one i at, length-entries_of bytes held) in
     absurd (none-some _ (c.in_default.ensures.value ∙ slice_get-get_or held last any within))
 

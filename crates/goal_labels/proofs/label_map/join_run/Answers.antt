@@ -1,7 +1,7 @@
 use Rattle.std.proofs.Common.{◌≡◌, ℕ, ◌+◌, ◌<◌, List, arith, subst, length}
 use Rattle.std.proofs.lemmas.Option.{slice_get-get_or}
-use Rattle.goal_labels.specs.declared.label_map.Entry.{Entry}
-use Rattle.goal_labels.specs.declared.numbers.Numbers.{Numbers}
+use Rattle.goal_labels.specs.declared.label_map.LabelEntry.{LabelEntry}
+use Rattle.goal_labels.specs.declared.numbers.LabelNumbers.{LabelNumbers}
 use Rattle.goal_labels.specs.Entries.{entries_of}
 use Rattle.goal_labels.specs.Indexed.{IsMap}
 use Rattle.goal_labels.specs.Ordered.{AreAscending}
@@ -24,7 +24,7 @@ returns-then-after_all-clause-before c = λ told i one from at.
     ]
 
 -- the run has one label, which is among the entries
-first_within : (bytes : List ℕ) (held : List Entry) (first ascending : ℕ) (numbers : Numbers) → IsMap (entries_of bytes held) first ascending numbers
+first_within : (bytes : List ℕ) (held : List LabelEntry) (first ascending : ℕ) (numbers : LabelNumbers) → IsMap (entries_of bytes held) first ascending numbers
     → first + 1 ≡ ascending → first < length held
 first_within bytes held first ascending numbers map one = omega (arith, one, map.within, length-entries_of bytes held)
 

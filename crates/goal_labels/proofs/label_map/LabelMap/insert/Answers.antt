@@ -19,7 +19,7 @@ pub returns-then-comes_after_all-clause-entries : goal.returns-then-comes_after_
 returns-then-comes_after_all-clause-entries c =
     let label = c.args.label.now in
     c.in_ok-add.ensures
-    ∙ put-absent c.args.self.now label c.args.slot (before_absent c.args.self.now label (c.comes_after_all.ensures c.if-comes_after_all.true))
+    ∙ put-absent c.args.self.now label c.args.info (before_absent c.args.self.now label (c.comes_after_all.ensures c.if-comes_after_all.true))
 
 pub index-requires : goal.index-requires
 index-requires c =
@@ -42,9 +42,9 @@ invariant_of-self c =
     let i = c.in-Some.i in
     let e = c.index_mut.result.now in
     let at : IsAt es label i = subst (λ (ds : Entries). IsAt ds label i) (sym c.self.view_is) c.in-Some.ensures.found in (
-      AreHeld-set bytes held label i e c.args.slot at c.index_mut.ensures.value c.self.invariant.0,
-      subst (λ (ds : Entries). IsMap ds c.self.inside.first c.self.inside.ascending c.self.inside.numbers) (sym (entries_of-set bytes held label i e c.args.slot at c.index_mut.ensures.value))
-          (IsMap-set es i label at.0 c.args.slot at.1 c.self.inside.first c.self.inside.ascending c.self.inside.numbers c.self.invariant.1),
+      AreHeld-set bytes held label i e c.args.info at c.index_mut.ensures.value c.self.invariant.0,
+      subst (λ (ds : Entries). IsMap ds c.self.inside.first c.self.inside.ascending c.self.inside.numbers) (sym (entries_of-set bytes held label i e c.args.info at c.index_mut.ensures.value))
+          (IsMap-set es i label at.0 c.args.info at.1 c.self.inside.first c.self.inside.ascending c.self.inside.numbers c.self.invariant.1),
     )
 
 pub returns-in-Some-clause-old : goal.returns-in-Some-clause-old
@@ -67,13 +67,13 @@ returns-in-Some-clause-entries c =
     let i = c.in-Some.i in
     let found = c.in-Some.ensures.found in
     let at : IsAt (entries_of bytes held) label i = subst (λ (es : Entries). IsAt es label i) (sym c.self.view_is) found in
-    entries_of-set bytes held label i c.index_mut.result.now c.args.slot at c.index_mut.ensures.value
-    ∙ ap (λ (es : Entries). slice_set es i (label, c.args.slot)) c.self.view_is
-    ∙ put-there c.args.self.now label i found.0 c.args.slot c.in-Some.ensures.unique found.1
+    entries_of-set bytes held label i c.index_mut.result.now c.args.info at c.index_mut.ensures.value
+    ∙ ap (λ (es : Entries). slice_set es i (label, c.args.info)) c.self.view_is
+    ∙ put-there c.args.self.now label i found.0 c.args.info c.in-Some.ensures.unique found.1
 
 pub returns-in_ok-add-in-None-clause-old : goal.returns-in_ok-add-in-None-clause-old
 returns-in_ok-add-in-None-clause-old c = sym (lookup-absent c.args.self.now c.args.label.now c.in-None.ensures.absent)
 
 pub returns-in_ok-add-in-None-clause-entries : goal.returns-in_ok-add-in-None-clause-entries
 returns-in_ok-add-in-None-clause-entries c =
-    c.in_ok-add-in-None.ensures ∙ put-absent c.args.self.now c.args.label.now c.args.slot c.in-None.ensures.absent
+    c.in_ok-add-in-None.ensures ∙ put-absent c.args.self.now c.args.label.now c.args.info c.in-None.ensures.absent

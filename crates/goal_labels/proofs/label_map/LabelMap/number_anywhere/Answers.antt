@@ -14,12 +14,12 @@ returns-clause-old c = λ there is.
     absurd cc
 
 pub returns-clause-new : goal.returns-clause-new
-returns-clause-new c = λ none. c.in_ok-add.ensures ∙ put-absent c.args.self.now c.args.label.now c.args.slot c.in_default.ensures.absent
+returns-clause-new c = λ none. c.in_ok-add.ensures ∙ put-absent c.args.self.now c.args.label.now c.args.info c.in_default.ensures.absent
 
 pub returns-clause-number : goal.returns-clause-number
 returns-clause-number c =
     let map = c.self in
     let held = map.inside.entries in
     let count = length-entries_of map.inside.bytes.items held.items in
-    IsAt-added c.args.self.now c.add.new.self c.args.label.now c.args.slot c.len-number.result c.in_ok-add.ensures
+    IsAt-added c.args.self.now c.add.new.self c.args.label.now c.args.info c.len-number.result c.in_ok-add.ensures
     (omega (arith, c.len-number.ensures, held.ok.0, count, ap length map.view_is))

@@ -1,6 +1,6 @@
 use Rattle.std.proofs.Common.{◌≡◌, ◌++◌, ◌∷◌, [], None, Some, Option, sym, subst, refl, bytes_eq}
 use Rattle.std.specs.Map.{lookup}
-use Rattle.goal_labels.specs.declared.label_map.Slot.{Slot}
+use Rattle.goal_labels.specs.declared.label_map.LabelInfo.{LabelInfo}
 use Rattle.goal_parser.specs.declared.head.Mention.{Mention}
 use Rattle.goal_parser.specs.Slots.{Entries, Keeps, Grows}
 use Rattle.goal_parser.proofs.SlotLaws.{Keeps-again, Keeps-used, Grows-put, Grows-same, updated, label_of_entry}
@@ -11,7 +11,7 @@ returns-clause-kept c = λ ds us keeps.
     let es = c.args.self.now.slots in
     let fs = c.number.new.self in
     let this : Mention = record { label = c.args.label.now; at = c.args.at } in
-    let by : (o : Option Slot) → lookup (bytes_eq c.args.label.now) es ≡ o → Keeps fs ds (us ++ this ∷ []) = λ o is. elim o as (λ x. lookup (bytes_eq c.args.label.now) es ≡ x → Keeps fs ds (us ++ this ∷ [])) [
+    let by : (o : Option LabelInfo) → lookup (bytes_eq c.args.label.now) es ≡ o → Keeps fs ds (us ++ this ∷ []) = λ o is. elim o as (λ x. lookup (bytes_eq c.args.label.now) es ≡ x → Keeps fs ds (us ++ this ∷ [])) [
       | Some slot ↦ λ there. subst (λ (gs : Entries). Keeps gs ds (us ++ this ∷ [])) (sym (c.in_ok-slot.ensures.old slot there)) (Keeps-again es ds us this slot there keeps)
       | None ↦ λ none. Keeps-used es fs ds us this none (c.in_ok-slot.ensures.new none) (updated es fs c.args.label.now (record { op = None; at = c.args.at }) (c.in_ok-slot.ensures.new none)) keeps
     ] is in
@@ -21,7 +21,7 @@ pub returns-clause-grows : goal.returns-clause-grows
 returns-clause-grows c =
     let es = c.args.self.now.slots in
     let fs = c.number.new.self in
-    let by : (o : Option Slot) → lookup (bytes_eq c.args.label.now) es ≡ o → Grows es fs = λ o is. elim o as (λ x. lookup (bytes_eq c.args.label.now) es ≡ x → Grows es fs) [
+    let by : (o : Option LabelInfo) → lookup (bytes_eq c.args.label.now) es ≡ o → Grows es fs = λ o is. elim o as (λ x. lookup (bytes_eq c.args.label.now) es ≡ x → Grows es fs) [
       | Some slot ↦ λ there. subst (Grows es) (sym (c.in_ok-slot.ensures.old slot there)) (Grows-same es)
       | None ↦ λ none. Grows-put es fs c.args.label.now (record { op = None; at = c.args.at }) (c.in_ok-slot.ensures.new none)
     ] is in
