@@ -17,7 +17,7 @@ use Rattle.goal_blocks.proofs.RingAndTree.{flipped_below, digits_high, digits_fe
 use Rattle.goal_blocks.proofs.Runs.{run, merge_before, merge_after, run_is}
 use Rattle.goal_blocks.proofs.Rounds.{pow_le, gained, rounds_right, rounds_are_certified}
 use Rattle.goal_blocks.proofs.RoundsHeavy.{many_rounds, rounds_too_heavy}
-use Rattle.goal_blocks.proofs.Wishes.{value_self}
+use Rattle.goal_blocks.proofs.Wishes.{is_value_reflexive}
 
 -- the rank with the other binary digit
 flipped_even : (h k x : ℕ) → x < 2 ^ k → flipped (2 * h * 2 ^ k + x) k ≡ (2 * h + 1) * 2 ^ k + x
@@ -161,7 +161,7 @@ module _ (m bytes : ℕ) (few : 2 ^ m ≤ 65536) where
   end_is : (r : ℕ) → r < ranks → wanted Allreduce ranks r 0 (got n r) ≡ true
   unfolding wanted
   end_is r inside =
-      subst (λ (v : Value). wanted Allreduce ranks r 0 v ≡ true) (sym (all_got r inside)) (rw (lt-ltb r ranks inside) (value_self (of_each ranks 0)))
+      subst (λ (v : Value). wanted Allreduce ranks r 0 v ≡ true) (sym (all_got r inside)) (rw (lt-ltb r ranks inside) (is_value_reflexive (of_each ranks 0)))
 
   elsewhere : (r k : ℕ) (v : Value) → wanted Allreduce ranks r (suc k) v ≡ true
   unfolding wanted

@@ -28,7 +28,7 @@ use Rattle.goal_blocks.specs.Entries.{Entry, op_of, plan_by, made_by}
 use Rattle.goal_blocks.specs.Levels.{AreLevels}
 use Rattle.goal_blocks.specs.Messages.{AreMessages, AreChannelsPaired}
 use Rattle.goal_blocks.proofs.Orders.{Mem}
-use Rattle.goal_blocks.proofs.Effects.{mem_contains, contains_mem, written_touched, set_itself, write_map}
+use Rattle.goal_blocks.proofs.Effects.{mem_contains, contains_mem, written_touched, set_slot_here, write_map}
 use Rattle.goal_blocks.proofs.EntryFacts.{slots_of_span, length_plans, kind_there, needs_there, slots_there, adds_there, kind_only}
 use Rattle.goal_blocks.proofs.Matched.{op_has_kind}
 use Rattle.goal_blocks.proofs.MessagesPaired.{messages_paired, message_of_send, one_channel}
@@ -363,7 +363,7 @@ module _ (ranks : ℕ) (count : ℕ → ℕ) (e : ℕ → ℕ → Entry) where
 
               at_slot : Mem k (a.to ∷ []) → set_slot x.rank a.to (merge (s x.rank a.to) (s x.rank a.from)) s x.rank k ≡ left_by x k
               at_slot (inl same) =
-                  subst (λ (l : ℕ). set_slot x.rank a.to (merge (s x.rank a.to) (s x.rank a.from)) s x.rank l ≡ left_by x l) same (set_itself x.rank a.to (merge (s x.rank a.to) (s x.rank a.from)) s ∙ both ∙ sum)
+                  subst (λ (l : ℕ). set_slot x.rank a.to (merge (s x.rank a.to) (s x.rank a.from)) s x.rank l ≡ left_by x l) same (set_slot_here x.rank a.to (merge (s x.rank a.to) (s x.rank a.from)) s ∙ both ∙ sum)
               at_slot (inr none) = absurd none
 
       moves : (m x : OpId) → AreOfOneChannel made_plans m x → (s : Store) (k : ℕ) → Mem k (written made_plans x) → write x.rank (slots made_plans x) (map (found m) (slots made_plans m)) s x.rank k ≡ left_by x k

@@ -51,18 +51,18 @@ set_keeps rank slot v s r k apart = go ((r == rank) && (k == slot)) refl
         absurd (apart (eqb-true r rank parts.0) (sym (eqb-true k slot parts.1)))
     go false e = refl
 
-set_same : (rank slot : ℕ) (v w : Value) (s t : Store) (r k : ℕ) → v ≡ w → s r k ≡ t r k → set_slot rank slot v s r k ≡ set_slot rank slot w t r k
+set_slot_alike : (rank slot : ℕ) (v w : Value) (s t : Store) (r k : ℕ) → v ≡ w → s r k ≡ t r k → set_slot rank slot v s r k ≡ set_slot rank slot w t r k
 unfolding set_slot
-set_same rank slot v w s t r k e f = go ((r == rank) && (k == slot))
+set_slot_alike rank slot v w s t r k e f = go ((r == rank) && (k == slot))
   where
     go : (b : Bool) → (if b then v else s r k) ≡ (if b then w else t r k)
     go true = e
     go false = f
 
 -- a slot that is set holds the value
-pub set_itself : (rank slot : ℕ) (v : Value) (s : Store) → set_slot rank slot v s rank slot ≡ v
+pub set_slot_here : (rank slot : ℕ) (v : Value) (s : Store) → set_slot rank slot v s rank slot ≡ v
 unfolding set_slot
-set_itself rank slot v s = rw (eq-eqb rank rank refl, eq-eqb slot slot refl) refl
+set_slot_here rank slot v s = rw (eq-eqb rank rank refl, eq-eqb slot slot refl) refl
 
 pub write_keeps : (rank : ℕ) (ks : List ℕ) (vs : List Value) (s : Store) (r k : ℕ) → (r ≡ rank → Mem k ks → ⊥) → write rank ks vs s r k ≡ s r k
 unfolding write
@@ -76,7 +76,7 @@ unfolding write
 write_same rank [] vs s t r k e = e
 write_same rank (j ∷ ks) [] s t r k e = e
 write_same rank (j ∷ ks) (v ∷ vs) s t r k e =
-    write_same rank ks vs (set_slot rank j v s) (set_slot rank j v t) r k (set_same rank j v v s t r k refl e)
+    write_same rank ks vs (set_slot rank j v s) (set_slot rank j v t) r k (set_slot_alike rank j v v s t r k refl e)
 
 -- slots that are written by one rule hold what it gives
 pub write_map : (rank : ℕ) (ks : List ℕ) (f : ℕ → Value) (s : Store) (k : ℕ) → Mem k ks → write rank ks (map f ks) s rank k ≡ f k
@@ -86,7 +86,7 @@ write_map rank (j ∷ ks) f s k m =
     ⊎_elim (λ n. write_map rank ks f (set_slot rank j (f j) s) k n) (λ none. write_keeps rank ks (map f ks) (set_slot rank j (f j) s) rank k (λ e n. none n) ∙ first (⊎_elim (λ e. e) (λ n. absurd (none n)) m)) (cases_mem k ks)
   where
     first : j ≡ k → set_slot rank j (f j) s rank k ≡ f k
-    first e = subst (λ (l : ℕ). set_slot rank j (f j) s rank l ≡ f l) e (set_itself rank j (f j) s)
+    first e = subst (λ (l : ℕ). set_slot rank j (f j) s rank l ≡ f l) e (set_slot_here rank j (f j) s)
 
 abbrev targets : List Adding → List ℕ
 targets more = map (λ (a : Adding). a.to) more
@@ -108,7 +108,7 @@ add_same : (rank : ℕ) (more : List Adding) (s t : Store) (r k : ℕ) → ((j :
 unfolding add_all
 add_same rank [] s t r k each e = e
 add_same rank (a ∷ more) s t r k each e =
-    add_same rank more (set_slot rank a.to (merge (s rank a.to) (s rank a.from)) s) (set_slot rank a.to (merge (t rank a.to) (t rank a.from)) t) r k (λ j m. set_same rank a.to _ _ s t rank j sums (each j (inr (inr m)))) (set_same rank a.to _ _ s t r k sums e)
+    add_same rank more (set_slot rank a.to (merge (s rank a.to) (s rank a.from)) s) (set_slot rank a.to (merge (t rank a.to) (t rank a.from)) t) r k (λ j m. set_slot_alike rank a.to _ _ s t rank j sums (each j (inr (inr m)))) (set_slot_alike rank a.to _ _ s t r k sums e)
   where
     sums : merge (s rank a.to) (s rank a.from) ≡ merge (t rank a.to) (t rank a.from)
     sums = let one = each a.to (inr (inl refl)) in let other = each a.from (inl refl) in λ i. merge (one i) (other i)

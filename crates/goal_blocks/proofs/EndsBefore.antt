@@ -31,9 +31,9 @@ module _ (plans : List Plan) (x : OpId) where
   abbrev pub Leads : OpId → Need → Type 0
   Leads y d = ((d.when ≡ AfterEnd) × (needed y d ≡ x)) ⊎ EndsBefore plans x (needed y d)
 
-  pub led : (y : OpId) (d : Need) → Contains (needs plans y) d → Leads y d → EndsBefore plans x y
-  led y d c (inl (e, f)) = record { by = y; reached = here; need = d; is_need = c; at_end = e; names = f }
-  led y d c (inr b) = record {
+  pub leads_to_end_before : (y : OpId) (d : Need) → Contains (needs plans y) d → Leads y d → EndsBefore plans x y
+  leads_to_end_before y d c (inl (e, f)) = record { by = y; reached = here; need = d; is_need = c; at_end = e; names = f }
+  leads_to_end_before y d c (inr b) = record {
     by = b.by;
     reached = through d c b.reached;
     need = b.need;
@@ -54,7 +54,7 @@ module _ (plans : List Plan) (x : OpId) where
   unfolding is_below
   cases_before zero y deep = absurd (both_ways false refl deep)
   cases_before (suc n) y deep =
-      ⊎_elim (λ found. inl (led y found.0 found.1 found.2)) (λ none. inr (λ b. let l = first_need y b in none l.0 l.1 l.2)) (search_in (Leads y) (needs plans y) (λ d c. each d (cases_before n (needed y d) (lower d c))))
+      ⊎_elim (λ found. inl (leads_to_end_before y found.0 found.1 found.2)) (λ none. inr (λ b. let l = first_need y b in none l.0 l.1 l.2)) (search_in (Leads y) (needs plans y) (λ d c. each d (cases_before n (needed y d) (lower d c))))
     where
       lower : (d : Need) → Contains (needs plans y) d → is_below plans n (needed y d) ≡ true
       lower d c =

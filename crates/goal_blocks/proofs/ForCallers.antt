@@ -9,14 +9,14 @@ pub use Rattle.goal_blocks.proofs.EntryFacts.{kind_there, kind_only, needs_there
 pub use Rattle.goal_blocks.proofs.MessagesPaired.{messages_paired}
 pub use Rattle.goal_blocks.proofs.Right.{certified_right}
 pub use Rattle.goal_blocks.proofs.NoFault.{small_from, wildcard_from, double_from, unpaired_from, lengths_from, race_from, light_from, faultless}
-pub use Rattle.goal_blocks.proofs.Least.{below, none_holds}
-pub use Rattle.goal_blocks.proofs.EndsBefore.{Leads, cases_before, first_need, led, search_in}
+pub use Rattle.goal_blocks.proofs.Least.{strong_induction, none_holds}
+pub use Rattle.goal_blocks.proofs.EndsBefore.{Leads, cases_before, first_need, leads_to_end_before, search_in}
 pub use Rattle.goal_blocks.proofs.Channels.{fits_channel, channel_fits, channels_apart}
 pub use Rattle.goal_blocks.proofs.Walk.{IsTail, whole, newer, one_tail, complete_tail, one_walk}
 pub use Rattle.goal_blocks.proofs.Faults.{heavy_not}
 pub use Rattle.goal_blocks.proofs.SomeWalk.{IsFirst, takes_first, nothing_left, some_walk}
 pub use Rattle.goal_blocks.proofs.MadeCertified.{made_certified, made_right, all_made_right}
-pub use Rattle.goal_blocks.proofs.Sorted.{length_merge, sorted_merge, merge_none, lower_still, not_lower_still, alike, all_from}
+pub use Rattle.goal_blocks.proofs.Sorted.{length_merge, sorted_merge, merge_none, lower_still, not_lower_still, not_lower_is_equal, all_from}
 pub use Rattle.goal_blocks.proofs.SlotSums.{stored_most, stored_set}
 pub use Rattle.goal_blocks.proofs.Exchange.{first_initial, first_wanted, none_exchanged, stored_exchanged, exchange_twice}
 pub use Rattle.goal_blocks.proofs.StoreFacts.{same_place}

@@ -7,7 +7,7 @@ use Rattle.goal_blocks.specs.Collectives.{single, of_each}
 use Rattle.goal_blocks.specs.Positions.{ahead}
 use Rattle.goal_blocks.proofs.Ring.{ahead_is}
 use Rattle.goal_blocks.proofs.Runs.{run, insert_before, merge_after, run_is}
-use Rattle.goal_blocks.proofs.Sorted.{not_after, lower_still, alike, length_insert}
+use Rattle.goal_blocks.proofs.Sorted.{not_after, lower_still, not_lower_is_equal, length_insert}
 
 -- in which order two contributions are put into a value does not matter
 
@@ -43,7 +43,7 @@ insert_swap c d v = go (is_lower c d) (is_lower d c) refl refl
     go : (a b : Bool) → is_lower c d ≡ a → is_lower d c ≡ b → insert_one c (insert_one d v) ≡ insert_one d (insert_one c v)
     go true b e f = swap_lower c d e v
     go false true e f = sym (swap_lower d c f v)
-    go false false e f = let same = alike c d e f in λ i. insert_one (same i) (insert_one (sym same i) v)
+    go false false e f = let same = not_lower_is_equal c d e f in λ i. insert_one (same i) (insert_one (sym same i) v)
 
 pub merge_insert : (c : Contribution) (v w : Value) → merge (insert_one c v) w ≡ insert_one c (merge v w)
 unfolding insert_one merge

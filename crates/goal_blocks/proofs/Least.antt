@@ -4,8 +4,8 @@ use Rattle.goal_graph.specs.Order.{IsLess}
 use Rattle.goal_blocks.specs.Faults.{IsLeast}
 
 -- of a number, where it is of all lower ones
-pub below : (Q : ℕ → Type 0) → ((n : ℕ) → ((m : ℕ) → m < n → Q m) → Q n) → (n : ℕ) → Q n
-below Q step n = step n (λ m l. up_to n m l)
+pub strong_induction : (Q : ℕ → Type 0) → ((n : ℕ) → ((m : ℕ) → m < n → Q m) → Q n) → (n : ℕ) → Q n
+strong_induction Q step n = step n (λ m l. up_to n m l)
   where
     up_to : (n m : ℕ) → m < n → Q m
     up_to zero m l = absurd (omega (arith, l))
@@ -30,7 +30,7 @@ lesser (suc n) Q step (m ∷ k) e = at_head (λ R s. lesser n R s) m k (omega (a
 
     at_head : ((R : List ℕ → Type 0) → ((us : List ℕ) → length us ≡ n → ((vs : List ℕ) → length vs ≡ n → IsLess vs us → R vs) → R us) → (us : List ℕ) → length us ≡ n → R us) → (a : ℕ) (us : List ℕ) → length us ≡ n → Q (a ∷ us)
     at_head tails =
-        below (λ a. (us : List ℕ) → length us ≡ n → Q (a ∷ us)) (λ a outer. tails (λ us. Q (a ∷ us)) (λ us f inner. step (a ∷ us) (omega (arith, f)) (λ j g l. descend a us outer inner j g l)))
+        strong_induction (λ a. (us : List ℕ) → length us ≡ n → Q (a ∷ us)) (λ a outer. tails (λ us. Q (a ∷ us)) (λ us f inner. step (a ∷ us) (omega (arith, f)) (λ j g l. descend a us outer inner j g l)))
 
 -- where nothing is the least, P holds of nothing
 pub none_holds : {A : Type 0} (n : ℕ) (key : A → List ℕ) → ((x : A) → length (key x) ≡ n) → (P : A → Type 0) → ((x : A) → IsLeast key P x → ⊥) → (x : A) → P x → ⊥

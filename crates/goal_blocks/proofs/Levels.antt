@@ -19,7 +19,7 @@ use Rattle.goal_blocks.specs.Channels.{AreOfOneChannel, HasNoWildcard, HasNoDoub
 use Rattle.goal_blocks.specs.Walk.{AllEnd}
 use Rattle.goal_blocks.specs.Levels.{AreLevels}
 use Rattle.goal_blocks.proofs.Channels.{channel_fits, channels_apart}
-use Rattle.goal_blocks.proofs.Least.{below}
+use Rattle.goal_blocks.proofs.Least.{strong_induction}
 use Rattle.goal_blocks.proofs.Matched.{op_has_kind}
 
 module _ (plans : List Plan) (level : OpId → ℕ) (eager : OpId → Bool) (h : List Act) (known : HasNoWildcard plans) (single : HasNoDoubleChannel plans) (paired : HasNoUnpaired plans) (levels : AreLevels plans level) (done : IsCompleteInterleaving plans eager h) where
@@ -27,24 +27,24 @@ module _ (plans : List Plan) (level : OpId → ℕ) (eager : OpId → Bool) (h :
   abbrev AllBelow : ℕ → Type 0
   AllBelow n = (y : OpId) → IsOp plans y → level y < n → has_ended plans eager y h ≡ true
 
-  met : (w : When) (y : OpId) → has_ended plans eager y h ≡ true → is_met plans eager h w y ≡ true
-  met AfterEnd y e = e
-  met AfterStart y e = ended_started plans eager h y done.each e
+  ended_is_met : (w : When) (y : OpId) → has_ended plans eager y h ≡ true → is_met plans eager h w y ≡ true
+  ended_is_met AfterEnd y e = e
+  ended_is_met AfterStart y e = ended_started plans eager h y done.each e
 
-  ready : (x : OpId) → IsOp plans x → AllBelow (level x) → is_ready plans eager h x ≡ true
-  ready x is_op all =
-      ⊎_elim (λ r. r) (λ r. let found = unready_need plans eager h x r in let low = levels.lower x found.0 is_op found.1 in absurd (both_ways _ found.2 (met found.0.when (needed x found.0) (all (needed x found.0) low.0 low.1)))) (cases_Bool (is_ready plans eager h x))
+  is_ready_above : (x : OpId) → IsOp plans x → AllBelow (level x) → is_ready plans eager h x ≡ true
+  is_ready_above x is_op all =
+      ⊎_elim (λ r. r) (λ r. let found = unready_need plans eager h x r in let low = levels.lower x found.0 is_op found.1 in absurd (both_ways _ found.2 (ended_is_met found.0.when (needed x found.0) (all (needed x found.0) low.0 low.1)))) (cases_Bool (is_ready plans eager h x))
 
-  begun : (m : OpId) → IsSend plans m → is_ready plans eager h m ≡ true → has_started plans m h ≡ true
-  begun m k r =
+  ready_send_starts : (m : OpId) → IsSend plans m → is_ready plans eager h m ≡ true → has_started plans m h ≡ true
+  ready_send_starts m k r =
       started_send plans h m k ∙ ⊎_elim (λ e. e) (λ e. absurd (both_ways _ (done.none_left (record { class = Begin; op = m })) (allowed_from plans eager h Begin m e (subst (λ (k : Option Kind). may plans eager h Begin m k ≡ true) (sym k.kind) r)))) (cases_Bool (happened Begin m h))
 
-  posted : (x : OpId) → IsReceive plans x → is_ready plans eager h x ≡ true → has_started plans x h ≡ true
-  posted x k r =
+  ready_receive_starts : (x : OpId) → IsReceive plans x → is_ready plans eager h x ≡ true → has_started plans x h ≡ true
+  ready_receive_starts x k r =
       started_receive plans h x k ∙ ⊎_elim (λ e. e) (λ e. absurd (both_ways _ (done.none_left (record { class = Post; op = x })) (allowed_from plans eager h Post x e (subst (λ (k : Option Kind). may plans eager h Post x k ≡ true) (sym k.kind) r)))) (cases_Bool (happened Post x h))
 
-  apart : IsApart plans
-  apart = channels_apart plans known single
+  channels_are_apart : IsApart plans
+  channels_are_apart = channels_apart plans known single
 
   module _ (m x : OpId) (one : AreOfOneChannel plans m x) where
     fit : fits plans x m ≡ true
@@ -53,16 +53,16 @@ module _ (plans : List Plan) (level : OpId → ℕ) (eager : OpId → Bool) (h :
     -- neither is taken by another
     free_receive : IsTaken plans h x m → ⊥
     free_receive t =
-        t.other (apart.one_send x t.taker m (partner_of_receive plans h x t.taker one.is_receive t.pair).fit fit)
+        t.other (channels_are_apart.one_send x t.taker m (partner_of_receive plans h x t.taker one.is_receive t.pair).fit fit)
 
     free_send : IsTaken plans h m x → ⊥
     free_send t =
-        ⊎_elim (λ met. t.other (apart.one_receive m t.taker x met.fit fit)) (λ met. not_send_receive plans m one.is_send (fits_receive plans m t.taker met.fit)) (partners_met plans h m t.taker t.pair)
+        ⊎_elim (λ ended_is_met. t.other (channels_are_apart.one_receive m t.taker x ended_is_met.fit fit)) (λ ended_is_met. not_send_receive plans m one.is_send (fits_receive plans m t.taker ended_is_met.fit)) (partners_met plans h m t.taker t.pair)
 
     both_end : is_ready plans eager h m ≡ true → is_ready plans eager h x ≡ true → (has_ended plans eager m h ≡ true) × (has_ended plans eager x h ≡ true)
     both_end r s = (
-      ⊎_elim (λ e. e) (λ e. absurd (⊎_elim (λ f. both_ways _ f (posted x one.is_receive s)) free_receive (fitting_taken plans eager h done m x r e (inr fit)))) (cases_Bool (has_ended plans eager m h)),
-      ⊎_elim (λ e. e) (λ e. absurd (⊎_elim (λ f. both_ways _ f (begun m one.is_send r)) free_send (fitting_taken plans eager h done x m s e (inl fit)))) (cases_Bool (has_ended plans eager x h)),
+      ⊎_elim (λ e. e) (λ e. absurd (⊎_elim (λ f. both_ways _ f (ready_receive_starts x one.is_receive s)) free_receive (fitting_taken plans eager h done m x r e (inr fit)))) (cases_Bool (has_ended plans eager m h)),
+      ⊎_elim (λ e. e) (λ e. absurd (⊎_elim (λ f. both_ways _ f (ready_send_starts m one.is_send r)) free_send (fitting_taken plans eager h done x m s e (inl fit)))) (cases_Bool (has_ended plans eager x h)),
     )
 
   -- each operation of a level ends, where all those of lower levels do
@@ -74,14 +74,14 @@ module _ (plans : List Plan) (level : OpId → ℕ) (eager : OpId → Bool) (h :
 
       go : (k : Kind) → kind_at plans x ≡ Some k → has_ended plans eager x h ≡ true
       go (Calc nanos) k =
-          ready_calc_ended plans eager h done x (record { nanos = nanos; kind = k }) (ready x is_op (low x e))
+          ready_calc_ended plans eager h done x (record { nanos = nanos; kind = k }) (is_ready_above x is_op (low x e))
       go (Send bytes to tag) k =
           let other = paired.sends x (record { bytes = bytes; to = to; tag = tag; kind = k }) in
-          (both_end x other.0 other.1 (ready x is_op (low x e)) (ready other.0 (op_of_kind plans other.0 _ other.1.is_receive.kind) (low other.0 (sym (levels.same x other.0 other.1) ∙ e)))).0
+          (both_end x other.0 other.1 (is_ready_above x is_op (low x e)) (is_ready_above other.0 (op_of_kind plans other.0 _ other.1.is_receive.kind) (low other.0 (sym (levels.same x other.0 other.1) ∙ e)))).0
       go (Recv room from tag) k =
           let other = paired.receives x (record { room = room; from = from; tag = tag; kind = k }) in
-          (both_end other.0 x other.1 (ready other.0 (op_of_kind plans other.0 _ other.1.is_send.kind) (low other.0 (levels.same other.0 x other.1 ∙ e))) (ready x is_op (low x e))).1
+          (both_end other.0 x other.1 (is_ready_above other.0 (op_of_kind plans other.0 _ other.1.is_send.kind) (low other.0 (levels.same other.0 x other.1 ∙ e))) (is_ready_above x is_op (low x e))).1
 
   pub levels_end : AllEnd plans eager h
   levels_end x is_op =
-      below (λ n. (y : OpId) → IsOp plans y → level y ≡ n → has_ended plans eager y h ≡ true) (λ n before. ends_at n (λ z z_op l. before (level z) l z z_op refl)) (level x) x is_op refl
+      strong_induction (λ n. (y : OpId) → IsOp plans y → level y ≡ n → has_ended plans eager y h ≡ true) (λ n before. ends_at n (λ z z_op l. before (level z) l z z_op refl)) (level x) x is_op refl

@@ -29,7 +29,7 @@ use Rattle.goal_blocks.specs.Faults.{IsLeast, rank_key, op_key, IsLarge, too_man
 use Rattle.goal_blocks.proofs.Channels.{fits_channel, channel_fits}
 use Rattle.goal_blocks.proofs.Effects.{mem_contains, contains_mem, written_touched}
 use Rattle.goal_blocks.proofs.EndsBefore.{search_in, cases_before}
-use Rattle.goal_blocks.proofs.Least.{below, none_holds}
+use Rattle.goal_blocks.proofs.Least.{strong_induction, none_holds}
 use Rattle.goal_blocks.proofs.SomeWalk.{some_walk}
 use Rattle.goal_blocks.proofs.Walk.{one_walk}
 
@@ -125,7 +125,7 @@ module _ (plans : List Plan) where
 
   module _ (first : Store) where
     adds_light : (h : List Act) (held : Held) (x : OpId) (k : Option Kind) → ((total : ℕ) → AddsTooMuch plans h held x k total → ⊥) → AddsAreLight plans h held x k
-    adds_light h held x (Some (Calc nanos)) none = below (λ n. weight_within plans h held x n ≤ 2 ^ 24) (λ n before. ⊎_elim (λ over. absurd (none (weight_within plans h held x n) (n, refl, over, before))) (λ few. few) (cases_lt (2 ^ 24) (weight_within plans h held x n)))
+    adds_light h held x (Some (Calc nanos)) none = strong_induction (λ n. weight_within plans h held x n ≤ 2 ^ 24) (λ n before. ⊎_elim (λ over. absurd (none (weight_within plans h held x n) (n, refl, over, before))) (λ few. few) (cases_lt (2 ^ 24) (weight_within plans h held x n)))
     adds_light h held x (Some (Send bytes to tag)) none = tt
     adds_light h held x (Some (Recv room from tag)) none = tt
     adds_light h held x None none = tt
@@ -207,4 +207,4 @@ faultless plans first wanted accepted none =
     certified plans first wanted (λ fault has. no_place (fault_place fault) fault refl has) accepted
   where
     no_place : (n : ℕ) (fault : CertFault) → fault_place fault ≡ n → HasFault plans first wanted fault → ⊥
-    no_place = below (λ n. (fault : CertFault) → fault_place fault ≡ n → HasFault plans first wanted fault → ⊥) (λ n before fault e has. none fault (record { has = has; none_before = λ other l h. before (fault_place other) (subst (λ (m : ℕ). fault_place other < m) e l) other refl h }))
+    no_place = strong_induction (λ n. (fault : CertFault) → fault_place fault ≡ n → HasFault plans first wanted fault → ⊥) (λ n before fault e has. none fault (record { has = has; none_before = λ other l h. before (fault_place other) (subst (λ (m : ℕ). fault_place other < m) e l) other refl h }))

@@ -25,7 +25,7 @@ use Rattle.goal_blocks.proofs.SomeWalk.{some_walk}
 use Rattle.goal_blocks.proofs.Right.{certified_right}
 use Rattle.goal_blocks.proofs.SumPermuted.{sum_permuted}
 use Rattle.goal_blocks.proofs.SlotSums.{sum_same}
-use Rattle.goal_blocks.proofs.PlacedPlans.{turned, length_placed, plan_placed_at, placed_is, there_and_back, placed_back}
+use Rattle.goal_blocks.proofs.PlacedPlans.{inverse_permutation, length_placed, plan_placed_at, placed_is, there_and_back, placed_back}
 use Rattle.goal_blocks.proofs.PlacedRight.{kinds, send_placed, receive_placed, placed_channel, channel_placed, joined_placed, before, complete_before, ends_placed, placed_right}
 
 -- sums over plans, by rank
@@ -50,7 +50,7 @@ module _ (f : Plan → ℕ) where
       sum_by_rank (placed to back plans)
       ∙ (ap (λ (n : ℕ). sum_below n (λ r. f (plan_at (placed to back plans) r))) (length_placed to back plans perm)
       ∙ (sum_same (length plans) (λ r. f (plan_at (placed to back plans) r)) (λ r. f (plan_at plans (back r))) each
-      ∙ (sum_permuted (length plans) to back perm.back_to perm.to_back (turned (length plans) to back perm).within perm.within (λ r. f (plan_at plans r)) ∙ sym (sum_by_rank plans))))
+      ∙ (sum_permuted (length plans) to back perm.back_to perm.to_back (inverse_permutation (length plans) to back perm).within perm.within (λ r. f (plan_at plans r)) ∙ sym (sum_by_rank plans))))
     where
       each : (r : ℕ) → r < length plans → f (plan_at (placed to back plans) r) ≡ f (plan_at plans (back r))
       each r low =
@@ -66,7 +66,7 @@ module _ (to back : ℕ → ℕ) (plans : List Plan) (perm : IsPermutation (leng
   is = placed_is to back plans perm
 
   abbrev perm_back : IsPermutation (length plans) back to
-  perm_back = turned (length plans) to back perm
+  perm_back = inverse_permutation (length plans) to back perm
 
   abbrev is_back : IsPlaced back other plans
   is_back = placed_back (length plans) to back perm plans other is

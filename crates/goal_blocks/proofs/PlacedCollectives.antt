@@ -12,12 +12,12 @@ use Rattle.goal_blocks.specs.Renamed.{under, renamed}
 use Rattle.goal_blocks.specs.Laws.{IsUndoneBy, IsRenamed}
 use Rattle.goal_blocks.specs.Placed.{IsPermutation, IsPlaced, placed, relabelled, moved_along, CanBePlaced, placed_slot, placed_for}
 use Rattle.goal_blocks.proofs.BarrierCertified.{has_new, has_still, has_none}
-use Rattle.goal_blocks.proofs.Wishes.{one_same, one_self, value_equal, value_self, all_yes, one_no}
+use Rattle.goal_blocks.proofs.Wishes.{is_one_means_equal, is_one_reflexive, value_equal, is_value_reflexive, each_item_passes, one_item_fails}
 use Rattle.goal_blocks.proofs.Picked.{picked, insert_picked, picked_none, picked_all}
 use Rattle.goal_blocks.proofs.RenamedNotes.{renamed_is, renamed_back}
 use Rattle.goal_blocks.proofs.RenamedRight.{right_into}
 use Rattle.goal_blocks.proofs.PlacedAlike.{same_number}
-use Rattle.goal_blocks.proofs.PlacedPlans.{turned, placed_is}
+use Rattle.goal_blocks.proofs.PlacedPlans.{inverse_permutation, placed_is}
 use Rattle.goal_blocks.proofs.PlacedRight.{placed_right}
 
 -- where items belong to ranks, the item of the permuted rank
@@ -41,13 +41,13 @@ has_placed label (d ∷ v) c has = go (λ h. has_placed label v c h) (is_one c d
   where
     go : (has_one v c ≡ true → has_one (relabelled label v) (label c) ≡ true) → (b : Bool) → is_one c d ≡ b → has_one (insert_one (label d) (relabelled label v)) (label c) ≡ true
     go rest true e =
-        has_new (label d) (label c) (relabelled label v) (ap (λ (x : Contribution). is_one (label c) (label x)) (sym (one_same c d e)) ∙ one_self (label c))
+        has_new (label d) (label c) (relabelled label v) (ap (λ (x : Contribution). is_one (label c) (label x)) (sym (is_one_means_equal c d e)) ∙ is_one_reflexive (label c))
     go rest false e =
         has_still (label d) (label c) (relabelled label v) (rest (has_rest v c d e has))
 
 module _ (n : ℕ) (to back : ℕ → ℕ) (perm : IsPermutation n to back) where
   abbrev perm_back : IsPermutation n back to
-  perm_back = turned n to back perm
+  perm_back = inverse_permutation n to back perm
 
   -- a number is a rank where the renamed one is
   rank_test : (r : ℕ) → nat_lt (to r) n ≡ nat_lt r n
@@ -176,16 +176,16 @@ module _ (n : ℕ) (to back : ℕ → ℕ) (perm : IsPermutation n to back) wher
       rank_back q = sym (rank_test (back q)) ∙ ap (λ (p : ℕ). nat_lt p n) (perm.to_back q)
   starts_at Scan can r k = absurd can
 
-  starts : (what : Collective) → CanBePlaced what n → (r k : ℕ) → initial (moved_along to what) n (to r) k ≡ relabelled (label_for to what) (initial what n r (placed_slot back what n k))
+  placed_starts : (what : Collective) → CanBePlaced what n → (r k : ℕ) → initial (moved_along to what) n (to r) k ≡ relabelled (label_for to what) (initial what n r (placed_slot back what n k))
   unfolding initial
-  starts what can r k =
+  placed_starts what can r k =
       (λ i. if rank_test r i then initial_at (moved_along to what) n (to r) k else []) ∙ if_placed (label_for to what) (initial_at what n r (placed_slot back what n k)) (initial_at (moved_along to what) n (to r) k) (sym (starts_at what can r k)) (nat_lt r n)
 
   -- what is wanted of a value, and of it relabelled
   module _ (label : Contribution → Contribution) where
     is_placed : (v w x : Value) → relabelled label w ≡ x → is_value v w ≡ true → is_value (relabelled label v) x ≡ true
     is_placed v w x e is =
-        ap (λ (u : Value). is_value (relabelled label u) x) (value_equal v w is) ∙ (ap (λ (u : Value). is_value u x) e ∙ value_self x)
+        ap (λ (u : Value). is_value (relabelled label u) x) (value_equal v w is) ∙ (ap (λ (u : Value). is_value u x) e ∙ is_value_reflexive x)
 
     -- where it is asked for
     when_asked : (b : Bool) (asked told : Bool) → (asked ≡ true → told ≡ true) → (if b then asked else true) ≡ true → (if b then told else true) ≡ true
@@ -194,12 +194,12 @@ module _ (n : ℕ) (to back : ℕ → ℕ) (perm : IsPermutation n to back) wher
 
     all_placed : (v : Value) → ((q : ℕ) → label (record { rank = q; item = 0 }) ≡ record { rank = to q; item = 0 }) → list_all (has_one v) (of_each n 0) ≡ true → list_all (has_one (relabelled label v)) (of_each n 0) ≡ true
     unfolding of_each
-    all_placed v labels all = all_yes (has_one (relabelled label v)) 0 n each
+    all_placed v labels all = each_item_passes (has_one (relabelled label v)) 0 n each
       where
         each : (q : ℕ) → q < 0 + n → has_one (relabelled label v) (record { rank = q; item = 0 }) ≡ true
         each q low =
             let there : back q < n = perm_back.within q (omega (arith, low)) in
-            let had : has_one v (record { rank = back q; item = 0 }) ≡ true = ⊎_elim (λ e. e) (λ e. absurd (both_ways _ (one_no (has_one v) 0 n (back q) (omega arith) (omega (arith, there)) e) all)) (cases_Bool (has_one v (record { rank = back q; item = 0 }))) in
+            let had : has_one v (record { rank = back q; item = 0 }) ≡ true = ⊎_elim (λ e. e) (λ e. absurd (both_ways _ (one_item_fails (has_one v) 0 n (back q) (omega arith) (omega (arith, there)) e) all)) (cases_Bool (has_one v (record { rank = back q; item = 0 }))) in
             ap (has_one (relabelled label v)) (sym (labels (back q) ∙ λ i. record { rank = perm.to_back q i; item = 0 })) ∙ has_placed label v (record { rank = back q; item = 0 }) had
 
   rank_back : (q : ℕ) → nat_lt (back q) n ≡ nat_lt q n
@@ -277,9 +277,9 @@ module _ (n : ℕ) (to back : ℕ → ℕ) (perm : IsPermutation n to back) wher
       asked_so (back k == r) (k == to r) (is_value v (of_each n r)) (is_value (relabelled (label_for to ReduceScatter) v) (of_each n (to r))) (sym (back_test k r)) (is_placed (label_for to ReduceScatter) v (of_each n r) (of_each n (to r)) (each_placed (label_for to ReduceScatter) r (to r) (λ q. refl))) is
   asks_at Scan can r k v is = absurd can
 
-  asks : (what : Collective) → CanBePlaced what n → (r k : ℕ) (v : Value) → wanted what n r (placed_slot back what n k) v ≡ true → wanted (moved_along to what) n (to r) k (relabelled (label_for to what) v) ≡ true
+  placed_wishes : (what : Collective) → CanBePlaced what n → (r k : ℕ) (v : Value) → wanted what n r (placed_slot back what n k) v ≡ true → wanted (moved_along to what) n (to r) k (relabelled (label_for to what) v) ≡ true
   unfolding wanted
-  asks what can r k v is =
+  placed_wishes what can r k v is =
       asked_so (nat_lt r n) (nat_lt (to r) n) (wanted_at what n r (placed_slot back what n k) v) (wanted_at (moved_along to what) n (to r) k (relabelled (label_for to what) v)) (sym (rank_test r)) (asks_at what can r k v) is
 
 module _ (what : Collective) (to back : ℕ → ℕ) (plans : List Plan) (perm : IsPermutation (length plans) to back) where
@@ -296,16 +296,16 @@ module _ (what : Collective) (to back : ℕ → ℕ) (plans : List Plan) (perm :
   mid_is : IsRenamed name plans mid
   mid_is = renamed_is name plans
 
-  undone : IsUndoneBy name old
-  undone = record {
+  exchange_is_undone : IsUndoneBy name old
+  exchange_is_undone = record {
     back = λ rank slot. slot_back (length plans) to back perm what slot;
-    forth = λ rank slot. slot_back (length plans) back to (turned (length plans) to back perm) what slot;
+    forth = λ rank slot. slot_back (length plans) back to (inverse_permutation (length plans) to back perm) what slot;
   }
 
   -- right with the slots renamed
   mid_right : IsRightFor what plans → IsRightEverywhere mid (under old (initial what (length plans))) (under old (wanted what (length plans)))
   mid_right right =
-      right_into old name mid plans (record { back = undone.forth; forth = undone.back }) (renamed_back name old plans mid undone mid_is) (initial what (length plans)) (wanted what (length plans)) right
+      right_into old name mid plans (record { back = exchange_is_undone.forth; forth = exchange_is_undone.back }) (renamed_back name old plans mid exchange_is_undone mid_is) (initial what (length plans)) (wanted what (length plans)) right
 
   perm_mid : IsPermutation (length mid) to back
   perm_mid = subst (λ (n : ℕ). IsPermutation n to back) (sym mid_is.ranks) perm
@@ -315,4 +315,4 @@ module _ (what : Collective) (to back : ℕ → ℕ) (plans : List Plan) (perm :
 
   pub placed_for_right : CanBePlaced what (length plans) → IsRightFor what plans → IsRightFor (moved_along to what) (placed_for what to back plans)
   placed_for_right can right =
-      subst (λ (n : ℕ). IsRightEverywhere (placed to back mid) (initial (moved_along to what) n) (wanted (moved_along to what) n)) (sym (placed_mid.ranks ∙ mid_is.ranks)) (placed_right to back mid (placed to back mid) (label_for to what) (under old (initial what (length plans))) (initial (moved_along to what) (length plans)) (under old (wanted what (length plans))) (wanted (moved_along to what) (length plans)) perm_mid placed_mid (λ r k. starts (length plans) to back perm what can r k) (λ r k v low is. asks (length plans) to back perm what can r k v is) (mid_right right))
+      subst (λ (n : ℕ). IsRightEverywhere (placed to back mid) (initial (moved_along to what) n) (wanted (moved_along to what) n)) (sym (placed_mid.ranks ∙ mid_is.ranks)) (placed_right to back mid (placed to back mid) (label_for to what) (under old (initial what (length plans))) (initial (moved_along to what) (length plans)) (under old (wanted what (length plans))) (wanted (moved_along to what) (length plans)) perm_mid placed_mid (λ r k. placed_starts (length plans) to back perm what can r k) (λ r k v low is. placed_wishes (length plans) to back perm what can r k v is) (mid_right right))

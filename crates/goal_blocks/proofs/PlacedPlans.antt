@@ -16,8 +16,8 @@ use Rattle.goal_blocks.specs.Slots.{notes_at, moved_by, added_by, slots, adds}
 use Rattle.goal_blocks.specs.Placed.{IsPermutation, IsPlaced, placed_op, placed_act, placed_kind, placed_of, placed_plan, plan_at, placed}
 
 -- the other permutation
-pub turned : (ranks : ℕ) (to back : ℕ → ℕ) → IsPermutation ranks to back → IsPermutation ranks back to
-turned ranks to back perm = record {
+pub inverse_permutation : (ranks : ℕ) (to back : ℕ → ℕ) → IsPermutation ranks to back → IsPermutation ranks back to
+inverse_permutation ranks to back perm = record {
   back_to = perm.to_back;
   to_back = perm.back_to;
   within = within;

@@ -19,7 +19,7 @@ use Rattle.goal_blocks.specs.Certification.{HoldsWanted}
 use Rattle.goal_blocks.specs.Placed.{IsPermutation, IsPlaced, placed_op, placed_act, placed_kind, placed_of, relabelled, AsksNoMore}
 use Rattle.goal_blocks.proofs.PlacedAlike.{kind_placed, mate_placed, ended_placed, all_into}
 use Rattle.goal_blocks.proofs.PlacedValues.{held_placed}
-use Rattle.goal_blocks.proofs.PlacedPlans.{turned, there_and_back, acts_back, placed_back}
+use Rattle.goal_blocks.proofs.PlacedPlans.{inverse_permutation, there_and_back, acts_back, placed_back}
 
 module _ (ranks : ℕ) (to back : ℕ → ℕ) (perm : IsPermutation ranks to back) (plans other : List Plan) (is : IsPlaced to plans other) where
   abbrev pub kinds : (x : OpId) → kind_at other (placed_op to x) ≡ option_map (placed_kind to) (kind_at plans x)
@@ -77,7 +77,7 @@ module _ (ranks : ℕ) (to back : ℕ → ℕ) (perm : IsPermutation ranks to ba
   alike x = eager (placed_op to x)
 
   abbrev perm_back : IsPermutation ranks back to
-  perm_back = turned ranks to back perm
+  perm_back = inverse_permutation ranks to back perm
 
   abbrev is_back : IsPlaced back other plans
   is_back = placed_back ranks to back perm plans other is

@@ -37,7 +37,7 @@ use Rattle.goal_blocks.proofs.Doubling.{doubling, doubling_zero, doubling_early,
 use Rattle.goal_blocks.proofs.MovedSlots.{sum_only}
 use Rattle.goal_blocks.proofs.Sizes.{entries_small}
 use Rattle.goal_blocks.proofs.Blueprint.{moved, touches, writes, Precedes, now, after, IsThere, Origin, Final, IsBlueprint, IsBounded, blueprint_certified}
-use Rattle.goal_blocks.proofs.Wishes.{value_self}
+use Rattle.goal_blocks.proofs.Wishes.{is_value_reflexive}
 
 -- an even number, or an odd one
 cases_double : (i : ℕ) → ((j : ℕ) × (i ≡ j + j)) ⊎ ((j : ℕ) × (i ≡ j + j + 1))
@@ -427,7 +427,7 @@ module _ (ranks root bytes : ℕ) (rooted : root < ranks) (few : ranks ≤ 65536
   wanted_root : (r : ℕ) → r < ranks → r ≡ root → wanted (Reduce root) ranks r 0 (of_each ranks 0) ≡ true
   unfolding wanted
   wanted_root r l e =
-      rw (lt-ltb r ranks l, lt-ltb root ranks rooted, eq-eqb r root e) (value_self (of_each ranks 0))
+      rw (lt-ltb r ranks l, lt-ltb root ranks rooted, eq-eqb r root e) (is_value_reflexive (of_each ranks 0))
 
   wanted_other : (r : ℕ) → (r ≡ root → ⊥) → (v : Value) → wanted (Reduce root) ranks r 0 v ≡ true
   unfolding wanted

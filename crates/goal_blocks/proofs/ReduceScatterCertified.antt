@@ -29,7 +29,7 @@ use Rattle.goal_blocks.proofs.Totals.{entries_few, sum_range_few}
 use Rattle.goal_blocks.proofs.AllgatherCertified.{moved_slot}
 use Rattle.goal_blocks.proofs.Rounds.{cases_triple}
 use Rattle.goal_blocks.proofs.Blueprint.{moved, touches, writes, Precedes, now, IsThere, Origin, Final, IsBlueprint, IsBounded, blueprint_certified}
-use Rattle.goal_blocks.proofs.Wishes.{value_self}
+use Rattle.goal_blocks.proofs.Wishes.{is_value_reflexive}
 use Rattle.goal_blocks.proofs.Picked.{picked, picked_few, picked_same, insert_picked, picked_none, picked_all}
 
 module _ (ranks bytes : ℕ) (some : 0 < ranks) (few : ranks ≤ 128) where
@@ -396,7 +396,7 @@ module _ (ranks bytes : ℕ) (some : 0 < ranks) (few : ranks ≤ 128) where
 
   at_end : (r : ℕ) → r < ranks → wanted ReduceScatter ranks r r (of_each ranks r) ≡ true
   unfolding wanted
-  at_end r p = rw (lt-ltb r ranks p, eq-eqb r r refl) (value_self (of_each ranks r))
+  at_end r p = rw (lt-ltb r ranks p, eq-eqb r r refl) (is_value_reflexive (of_each ranks r))
 
   elsewhere : (r k : ℕ) → (k ≡ r → ⊥) → (v : Value) → wanted ReduceScatter ranks r k v ≡ true
   unfolding wanted

@@ -28,7 +28,7 @@ use Rattle.goal_blocks.proofs.MadePaired.{LineHop, line_send, line_recv, line_me
 use Rattle.goal_blocks.proofs.Sizes.{sum_below_few, sum_low_few, entries_small}
 use Rattle.goal_blocks.proofs.Totals.{sum_range_few}
 use Rattle.goal_blocks.proofs.Blueprint.{moved, touches, writes, Precedes, now, IsThere, Origin, Final, IsBlueprint, IsBounded, blueprint_certified}
-use Rattle.goal_blocks.proofs.Wishes.{length_of_each, value_self}
+use Rattle.goal_blocks.proofs.Wishes.{length_of_each, is_value_reflexive}
 
 -- a contribution that is lower than none of a value comes last
 insert_last : (c : Contribution) (v : Value) → All (λ (d : Contribution). is_lower c d ≡ false) v → insert_one c v ≡ v ++ c ∷ []
@@ -143,7 +143,7 @@ module _ (ranks bytes : ℕ) (some : 0 < ranks) (few : ranks ≤ 2048) where
 
   at_end : (r : ℕ) → r < ranks → wanted Scan ranks r 0 (of_each (r + 1) 0) ≡ true
   unfolding wanted
-  at_end r inside = rw (lt-ltb r ranks inside) (value_self (of_each (r + 1) 0))
+  at_end r inside = rw (lt-ltb r ranks inside) (is_value_reflexive (of_each (r + 1) 0))
 
   elsewhere : (r k : ℕ) (v : Value) → wanted Scan ranks r (suc k) v ≡ true
   unfolding wanted

@@ -3,7 +3,7 @@ use Rattle.std.proofs.Common.{ℕ, zero, suc, ◌+◌, ◌<◌, ◌≤◌, ◌==
 use Rattle.std.proofs.lemmas.Bool.{cases_eq, eqb-true}
 use Rattle.goal_blocks.specs.Values.{Value, Store, set_slot}
 use Rattle.goal_blocks.specs.Weight.{sum_below, stored}
-use Rattle.goal_blocks.proofs.Effects.{set_itself}
+use Rattle.goal_blocks.proofs.Effects.{set_slot_here}
 
 pub sum_same : (n : ℕ) (f g : ℕ → ℕ) → ((k : ℕ) → k < n → f k ≡ g k) → sum_below n f ≡ sum_below n g
 unfolding sum_below
@@ -38,9 +38,9 @@ sum_most zero a f l = absurd (omega (arith, l))
 sum_most (suc n) a f l =
     ⊎_elim (λ e. let one : f a ≡ f n = ap f e in omega (arith, one)) (λ ne. let before = sum_most n a f (omega (arith, l, ne)) in omega (arith, before)) (cases_eq a n)
 
-pub set_apart : (rank slot : ℕ) (v : Value) (s : Store) (r k : ℕ) → (r ≡ rank → k ≡ slot → ⊥) → set_slot rank slot v s r k ≡ s r k
+pub set_slot_elsewhere : (rank slot : ℕ) (v : Value) (s : Store) (r k : ℕ) → (r ≡ rank → k ≡ slot → ⊥) → set_slot rank slot v s r k ≡ s r k
 unfolding set_slot
-set_apart rank slot v s r k apart = go (r == rank) (k == slot) refl refl
+set_slot_elsewhere rank slot v s r k apart = go (r == rank) (k == slot) refl refl
   where
     go : (a b : Bool) → (r == rank) ≡ a → (k == slot) ≡ b → (if a && b then v else s r k) ≡ s r k
     go true true e f = absurd (apart (eqb-true r rank e) (eqb-true k slot f))
@@ -73,10 +73,10 @@ unfolding stored
 stored_set ranks rank slot v s low small =
     let t : Store = set_slot rank slot v s in
     let inner : in_rank t rank + length (s rank slot) ≡ in_rank s rank + length (t rank slot) =
-    sum_changed (2 ^ 32) slot (λ k. length (s rank k)) (λ k. length (t rank k)) small (λ k ne. ap length (set_apart rank slot v s rank k (λ e f. ne f))) in
+    sum_changed (2 ^ 32) slot (λ k. length (s rank k)) (λ k. length (t rank k)) small (λ k ne. ap length (set_slot_elsewhere rank slot v s rank k (λ e f. ne f))) in
     let outer : sum_below ranks (in_rank t) + in_rank s rank ≡ sum_below ranks (in_rank s) + in_rank t rank =
-    sum_changed ranks rank (in_rank s) (in_rank t) low (λ r ne. sum_same (2 ^ 32) (λ k. length (t r k)) (λ k. length (s r k)) (λ k b. ap length (set_apart rank slot v s r k (λ e f. ne e)))) in
-    let here : length (t rank slot) ≡ length v = ap length (set_itself rank slot v s) in
+    sum_changed ranks rank (in_rank s) (in_rank t) low (λ r ne. sum_same (2 ^ 32) (λ k. length (t r k)) (λ k. length (s r k)) (λ k b. ap length (set_slot_elsewhere rank slot v s r k (λ e f. ne e)))) in
+    let here : length (t rank slot) ≡ length v = ap length (set_slot_here rank slot v s) in
     omega (arith, inner, outer, here)
 
 -- a slot holds no more than all together

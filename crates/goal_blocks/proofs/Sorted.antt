@@ -35,8 +35,8 @@ lower_still c d x h g = trans_low d.rank d.item c.rank c.item x.rank x.item h g
 pub not_lower_still : (c d x : Contribution) → is_lower d c ≡ false → is_lower x d ≡ false → is_lower x c ≡ false
 not_lower_still c d x h g = trans_not c.rank c.item d.rank d.item x.rank x.item h g
 
-pub alike : (c d : Contribution) → is_lower c d ≡ false → is_lower d c ≡ false → c ≡ d
-alike c d h g =
+pub not_lower_is_equal : (c d : Contribution) → is_lower c d ≡ false → is_lower d c ≡ false → c ≡ d
+not_lower_is_equal c d h g =
     let ranks = same_first c.rank c.item d.rank d.item h g in
     let items = same_second c.rank c.item d.rank d.item h g in
     λ i. record { rank = ranks i; item = items i }
@@ -54,7 +54,7 @@ insert_first c (d ∷ v) h = go (is_lower c d) refl (insert_first c v h.1)
     go : (b : Bool) → is_lower c d ≡ b → insert_one c v ≡ c ∷ v → (if b then c ∷ d ∷ v else d ∷ insert_one c v) ≡ c ∷ d ∷ v
     go true e rest = refl
     go false e rest =
-        let same = alike c d e h.0 in
+        let same = not_lower_is_equal c d e h.0 in
         (λ i. d ∷ rest i) ∙ (λ i. sym same i ∷ same i ∷ v)
 
 first_of_insert : (c x : Contribution) (v : Value) → is_lower x c ≡ false → ComesFirst c v → ComesFirst c (insert_one x v)
@@ -76,9 +76,9 @@ pub merge_left : (c : Contribution) (v w : Value) → ComesFirst c v → ComesFi
 unfolding merge
 merge_left c v w h g = insert_first c (merge v w) (first_of_merge c v w h g)
 
-past : (c d : Contribution) (v : Value) → is_lower d c ≡ true → insert_one c (d ∷ v) ≡ d ∷ insert_one c v
+insert_after_lower : (c d : Contribution) (v : Value) → is_lower d c ≡ true → insert_one c (d ∷ v) ≡ d ∷ insert_one c v
 unfolding insert_one
-past c d v h = go (is_lower c d) (not_after d c h)
+insert_after_lower c d v h = go (is_lower c d) (not_after d c h)
   where
     go : (b : Bool) → b ≡ false → (if b then c ∷ d ∷ v else d ∷ insert_one c v) ≡ d ∷ insert_one c v
     go true e = absurd (true≢false e)
@@ -88,7 +88,7 @@ past c d v h = go (is_lower c d) (not_after d c h)
 pub merge_right : (d : Contribution) (v w : Value) → AllByRecursion (λ c. is_lower d c ≡ true) v → merge v (d ∷ w) ≡ d ∷ merge v w
 unfolding merge
 merge_right d [] w h = refl
-merge_right d (c ∷ v) w h = ap (insert_one c) (merge_right d v w h.1) ∙ past c d (merge v w) h.0
+merge_right d (c ∷ v) w h = ap (insert_one c) (merge_right d v w h.1) ∙ insert_after_lower c d (merge v w) h.0
 
 pub merge_none : (v : Value) → IsSorted v → merge v [] ≡ v
 unfolding merge

@@ -118,9 +118,9 @@ size_if false r k = refl
 abbrev OneEach : Collective → ℕ → (ℕ → ℕ) → Type 0
 OneEach what ranks place = (r k : ℕ) → length (initial_at what ranks r k) ≡ (if k == place r then 1 else 0)
 
-one_each : (what : Collective) (ranks : ℕ) (place : ℕ → ℕ) → ((r : ℕ) → r < ranks → place r < 2 ^ 32) → OneEach what ranks place → stored ranks (initial what ranks) ≡ ranks
+one_contribution_each : (what : Collective) (ranks : ℕ) (place : ℕ → ℕ) → ((r : ℕ) → r < ranks → place r < 2 ^ 32) → OneEach what ranks place → stored ranks (initial what ranks) ≡ ranks
 unfolding stored
-one_each what ranks place low one =
+one_contribution_each what ranks place low one =
     sum_same ranks (λ r. sum_below (2 ^ 32) (λ k. length (initial what ranks r k))) (λ r. 1) (λ r l. sum_same (2 ^ 32) (λ k. length (initial what ranks r k)) (λ k. if k == place r then 1 else 0) (λ k b. ap length (initial_in what ranks r k l) ∙ one r k) ∙ sum_at (2 ^ 32) (place r) 1 (low r l))
     ∙ all
   where
@@ -152,22 +152,22 @@ root_or_none r root item test item_of x sum = go (r == root)
     go false = let all = sum_constant (2 ^ 32) 0 in omega (arith, all)
 
 pub stored_barrier : (ranks : ℕ) → stored ranks (initial Barrier ranks) ≡ ranks
-stored_barrier ranks = one_each Barrier ranks (λ r. 0) (λ r l. omega arith) (λ r k. size_if (k == 0) r 0)
+stored_barrier ranks = one_contribution_each Barrier ranks (λ r. 0) (λ r l. omega arith) (λ r k. size_if (k == 0) r 0)
 
 pub stored_allreduce : (ranks : ℕ) → stored ranks (initial Allreduce ranks) ≡ ranks
-stored_allreduce ranks = one_each Allreduce ranks (λ r. 0) (λ r l. omega arith) (λ r k. size_if (k == 0) r 0)
+stored_allreduce ranks = one_contribution_each Allreduce ranks (λ r. 0) (λ r l. omega arith) (λ r k. size_if (k == 0) r 0)
 
 pub stored_reduce : (ranks root : ℕ) → stored ranks (initial (Reduce root) ranks) ≡ ranks
-stored_reduce ranks root = one_each (Reduce root) ranks (λ r. 0) (λ r l. omega arith) (λ r k. size_if (k == 0) r 0)
+stored_reduce ranks root = one_contribution_each (Reduce root) ranks (λ r. 0) (λ r l. omega arith) (λ r k. size_if (k == 0) r 0)
 
 pub stored_scan : (ranks : ℕ) → stored ranks (initial Scan ranks) ≡ ranks
-stored_scan ranks = one_each Scan ranks (λ r. 0) (λ r l. omega arith) (λ r k. size_if (k == 0) r 0)
+stored_scan ranks = one_contribution_each Scan ranks (λ r. 0) (λ r l. omega arith) (λ r k. size_if (k == 0) r 0)
 
 pub stored_allgather : (ranks : ℕ) → ranks ≤ 65536 → stored ranks (initial Allgather ranks) ≡ ranks
-stored_allgather ranks few = one_each Allgather ranks (λ r. r) (λ r l. omega (arith, l, few)) (λ r k. size_if (k == r) r 0)
+stored_allgather ranks few = one_contribution_each Allgather ranks (λ r. r) (λ r l. omega (arith, l, few)) (λ r k. size_if (k == r) r 0)
 
 pub stored_gather : (ranks root : ℕ) → ranks ≤ 65536 → stored ranks (initial (Gather root) ranks) ≡ ranks
-stored_gather ranks root few = one_each (Gather root) ranks (λ r. r) (λ r l. omega (arith, l, few)) (λ r k. size_if (k == r) r 0)
+stored_gather ranks root few = one_contribution_each (Gather root) ranks (λ r. r) (λ r l. omega (arith, l, few)) (λ r k. size_if (k == r) r 0)
 
 pub stored_alltoall : (ranks : ℕ) → ranks ≤ 65536 → stored ranks (initial Alltoall ranks) ≡ ranks * ranks
 stored_alltoall ranks few = rank_each Alltoall ranks few (λ r k. size_if (nat_lt k ranks) r k)

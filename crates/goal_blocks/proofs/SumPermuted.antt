@@ -40,8 +40,8 @@ sum_single n a f low =
     omega (arith, changed, none, here)
 
 module _ (n : ℕ) (name old : ℕ → ℕ) (back : (k : ℕ) → old (name k) ≡ k) (forth : (k : ℕ) → name (old k) ≡ k) (low : (k : ℕ) → k < n → old k < n) (low_name : (k : ℕ) → k < n → name k < n) where
-  turned : (j k : ℕ) → (j == old k) ≡ (k == name j)
-  turned j k = go (j == old k) (k == name j) refl refl
+  renamed_test : (j k : ℕ) → (j == old k) ≡ (k == name j)
+  renamed_test j k = go (j == old k) (k == name j) refl refl
     where
       go : (a b : Bool) → (j == old k) ≡ a → (k == name j) ≡ b → a ≡ b
       go true true e f = refl
@@ -60,7 +60,7 @@ module _ (n : ℕ) (name old : ℕ → ℕ) (back : (k : ℕ) → old (name k) �
       ∙ sum_same n (λ j. sum_below n (λ k. if j == old k then f j else 0)) f (λ j l. named j ∙ sum_single n (name j) (λ k. f j) (low_name j l))
     where
       named : (j : ℕ) → sum_below n (λ k. if j == old k then f j else 0) ≡ sum_below n (λ k. if k == name j then f j else 0)
-      named j = λ i. sum_below n (λ k. if turned j k i then f j else 0)
+      named j = λ i. sum_below n (λ k. if renamed_test j k i then f j else 0)
 
 -- the contributions of all slots
 module _ (name old : ℕ → ℕ → ℕ) (undone : IsUndoneBy name old) (low : (rank slot : ℕ) → slot < 2 ^ 32 → name rank slot < 2 ^ 32) (low_old : (rank slot : ℕ) → slot < 2 ^ 32 → old rank slot < 2 ^ 32) where

@@ -12,15 +12,15 @@ use Rattle.goal_blocks.specs.Stored.{ComesFirst, IsSorted}
 abbrev pub item_of : ℕ → ℕ → Contribution
 item_of q item = record { rank = q; item = item }
 
-pub one_same : (c d : Contribution) → is_one c d ≡ true → c ≡ d
-one_same c d h =
+pub is_one_means_equal : (c d : Contribution) → is_one c d ≡ true → c ≡ d
+is_one_means_equal c d h =
     let parts = and_parts (c.rank == d.rank) (c.item == d.item) h in
     let ranks = eqb-true c.rank d.rank parts.0 in
     let items = eqb-true c.item d.item parts.1 in
     λ i. record { rank = ranks i; item = items i }
 
-pub one_self : (c : Contribution) → is_one c c ≡ true
-one_self c = go (c.rank == c.rank) (c.item == c.item) (eq-eqb c.rank c.rank refl) (eq-eqb c.item c.item refl)
+pub is_one_reflexive : (c : Contribution) → is_one c c ≡ true
+is_one_reflexive c = go (c.rank == c.rank) (c.item == c.item) (eq-eqb c.rank c.rank refl) (eq-eqb c.item c.item refl)
   where
     go : (s t : Bool) → s ≡ true → t ≡ true → (s && t) ≡ true
     go true t e f = f
@@ -33,24 +33,24 @@ value_equal [] (d ∷ w) h = absurd (true≢false (sym h))
 value_equal (c ∷ v) [] h = absurd (true≢false (sym h))
 value_equal (c ∷ v) (d ∷ w) h =
     let parts = and_parts (is_one c d) (is_value v w) h in
-    let first = one_same c d parts.0 in
+    let first = is_one_means_equal c d parts.0 in
     let rest = value_equal v w parts.1 in
     λ i. first i ∷ rest i
 
-pub value_self : (v : Value) → is_value v v ≡ true
+pub is_value_reflexive : (v : Value) → is_value v v ≡ true
 unfolding is_value
-value_self [] = refl
-value_self (c ∷ v) = go (is_one c c) (is_value v v) (one_self c) (value_self v)
+is_value_reflexive [] = refl
+is_value_reflexive (c ∷ v) = go (is_one c c) (is_value v v) (is_one_reflexive c) (is_value_reflexive v)
   where
     go : (s t : Bool) → s ≡ true → t ≡ true → (s && t) ≡ true
     go true t e f = f
     go false t e f = e
 
-pub same_value : (v w : Value) → v ≡ w → true ≡ is_value v w
-same_value v w e = subst (λ (x : Value). true ≡ is_value v x) e (sym (value_self v))
+pub equal_is_value : (v w : Value) → v ≡ w → true ≡ is_value v w
+equal_is_value v w e = subst (λ (x : Value). true ≡ is_value v x) e (sym (is_value_reflexive v))
 
-pub other_value : (v w : Value) → (v ≡ w → ⊥) → false ≡ is_value v w
-other_value v w ne = sym (false_from_ne_true (is_value v w) (λ t. ne (value_equal v w t)))
+pub different_is_not_value : (v w : Value) → (v ≡ w → ⊥) → false ≡ is_value v w
+different_is_not_value v w ne = sym (false_from_ne_true (is_value v w) (λ t. ne (value_equal v w t)))
 
 pub length_of_each : (n item : ℕ) → length (of_each n item) ≡ n
 unfolding of_each
@@ -69,17 +69,17 @@ pub not_of_each : (v : Value) (n item k : ℕ) (d : Contribution) → k < n → 
 not_of_each v n item k d l ne e = ne (ap (λ (x : Value). get_or x k d) e ∙ get_of_each n item k d l)
 
 -- tests of all of a list of contributions
-pub all_yes : (test : Contribution → Bool) (from n : ℕ) → ((q : ℕ) → q < from + n → test (item_of q 0) ≡ true) → list_all test (map (λ (q : ℕ). item_of q 0) (range_with_len from n)) ≡ true
-all_yes test from zero each = refl
-all_yes test from (suc n) each = go (test (item_of from 0)) (list_all test (map (λ (q : ℕ). item_of q 0) (range_with_len (from + 1) n))) (each from (omega arith)) (all_yes test (from + 1) n (λ q l. each q (omega (arith, l))))
+pub each_item_passes : (test : Contribution → Bool) (from n : ℕ) → ((q : ℕ) → q < from + n → test (item_of q 0) ≡ true) → list_all test (map (λ (q : ℕ). item_of q 0) (range_with_len from n)) ≡ true
+each_item_passes test from zero each = refl
+each_item_passes test from (suc n) each = go (test (item_of from 0)) (list_all test (map (λ (q : ℕ). item_of q 0) (range_with_len (from + 1) n))) (each from (omega arith)) (each_item_passes test (from + 1) n (λ q l. each q (omega (arith, l))))
   where
     go : (s t : Bool) → s ≡ true → t ≡ true → (s && t) ≡ true
     go true t e f = f
     go false t e f = e
 
-pub one_no : (test : Contribution → Bool) (from n q : ℕ) → from ≤ q → q < from + n → test (item_of q 0) ≡ false → list_all test (map (λ (q : ℕ). item_of q 0) (range_with_len from n)) ≡ false
-one_no test from zero q low high lacks = absurd (omega (arith, low, high))
-one_no test from (suc n) q low high lacks = ⊎_elim (λ e. here (subst (λ (k : ℕ). test (item_of k 0) ≡ false) e lacks)) (λ ne. later (one_no test (from + 1) n q (omega (arith, low, ne)) (omega (arith, high)) lacks)) (cases_eq q from)
+pub one_item_fails : (test : Contribution → Bool) (from n q : ℕ) → from ≤ q → q < from + n → test (item_of q 0) ≡ false → list_all test (map (λ (q : ℕ). item_of q 0) (range_with_len from n)) ≡ false
+one_item_fails test from zero q low high lacks = absurd (omega (arith, low, high))
+one_item_fails test from (suc n) q low high lacks = ⊎_elim (λ e. here (subst (λ (k : ℕ). test (item_of k 0) ≡ false) e lacks)) (λ ne. later (one_item_fails test (from + 1) n q (omega (arith, low, ne)) (omega (arith, high)) lacks)) (cases_eq q from)
   where
     here : test (item_of from 0) ≡ false → list_all test (map (λ (q : ℕ). item_of q 0) (range_with_len from (suc n))) ≡ false
     here e = ap (λ (b : Bool). b && list_all test (map (λ (q : ℕ). item_of q 0) (range_with_len (from + 1) n))) e
@@ -93,16 +93,16 @@ one_no test from (suc n) q low high lacks = ⊎_elim (λ e. here (subst (λ (k :
 
 pub has_each : (v : Value) (n : ℕ) → ((q : ℕ) → q < n → has_one v (item_of q 0) ≡ true) → true ≡ list_all (has_one v) (of_each n 0)
 unfolding of_each
-has_each v n each = sym (all_yes (has_one v) 0 n (λ q l. each q (omega (arith, l))))
+has_each v n each = sym (each_item_passes (has_one v) 0 n (λ q l. each q (omega (arith, l))))
 
 pub lacks_one : (v : Value) (n q : ℕ) → q < n → has_one v (item_of q 0) ≡ false → false ≡ list_all (has_one v) (of_each n 0)
 unfolding of_each
-lacks_one v n q l lacks = sym (one_no (has_one v) 0 n q (omega arith) (omega (arith, l)) lacks)
+lacks_one v n q l lacks = sym (one_item_fails (has_one v) 0 n q (omega arith) (omega (arith, l)) lacks)
 
 pub has_at : (v : Value) (k : ℕ) (c d : Contribution) → k < length v → get_or v k d ≡ c → has_one v c ≡ true
 unfolding has_one
 has_at [] k c d l e = absurd (omega (arith, l))
-has_at (x ∷ v) zero c d l e = go (is_one c x) (subst (λ (y : Contribution). is_one c y ≡ true) (sym e) (one_self c))
+has_at (x ∷ v) zero c d l e = go (is_one c x) (subst (λ (y : Contribution). is_one c y ≡ true) (sym e) (is_one_reflexive c))
   where
     go : (b : Bool) → b ≡ true → (if b then true else has_one v c) ≡ true
     go true f = refl
@@ -119,7 +119,7 @@ has_not [] c d none = refl
 has_not (x ∷ v) c d none = go (is_one c x) refl (has_not v c d (λ k l e. none (suc k) (omega (arith, l)) e))
   where
     go : (b : Bool) → is_one c x ≡ b → has_one v c ≡ false → (if b then true else has_one v c) ≡ false
-    go true f rest = absurd (none zero (omega arith) (sym (one_same c x f)))
+    go true f rest = absurd (none zero (omega arith) (sym (is_one_means_equal c x f)))
     go false f rest = rest
 
 first_get : (c : Contribution) (v : Value) (k : ℕ) (d : Contribution) → ComesFirst c v → k < length v → is_lower (get_or v k d) c ≡ false

@@ -19,7 +19,7 @@ use Rattle.goal_graph.specs.Search.{op_id}
 use Rattle.goal_certify.specs.Before.{AreRows}
 use Rattle.goal_certify.specs.Table.{AreEmpty}
 use Rattle.goal_certify.proofs.Depth.{deep_enough}
-use Rattle.goal_blocks.proofs.ForCallers.{Leads, first_need, led}
+use Rattle.goal_blocks.proofs.ForCallers.{Leads, first_need, leads_to_end_before}
 
 pub below_of_op : (plans : List Plan) (x : OpId) → IsOp plans x → x.op < length (ops_at plans x.rank)
 unfolding op_at ops_at
@@ -49,7 +49,7 @@ module _ (plans : List Plan) (y : OpId) (old new : List ℕ) (done : ℕ → Typ
   pub taken_rows : (d : Need) → Contains (needs plans y) d → y.op < length (ops_at plans y.rank) → d.op < length (ops_at plans y.rank) → ((r k : ℕ) → k < 2048 → has new r k ≡ true → (has old r k ≡ true) ⊎ ((r ≡ y.op) × ((has old d.op k ≡ true) ⊎ ((d.when ≡ AfterEnd) × (k ≡ d.op))))) → AreRows plans y.rank new done
   taken_rows d c own below no_more = record {
     low = λ op k few h. ⊎_elim (rows.low op k few) (λ more. (subst (λ (n : ℕ). n < length (ops_at plans y.rank)) (sym more.0) own, ⊎_elim (λ there. (rows.low d.op k few there).1) (λ end. subst (λ (n : ℕ). n < length (ops_at plans y.rank)) (sym end.1) below) more.1)) (no_more op k few h);
-    sound = λ op k few h. ⊎_elim (rows.sound op k few) (λ more. subst (λ (n : ℕ). EndsBefore plans (op_id y.rank k) (op_id y.rank n)) (sym more.0) (led plans (op_id y.rank k) y d c (⊎_elim (λ there. inr (rows.sound d.op k few there)) (λ end. inl (end.0, ap (op_id y.rank) (sym end.1))) more.1))) (no_more op k few h);
+    sound = λ op k few h. ⊎_elim (rows.sound op k few) (λ more. subst (λ (n : ℕ). EndsBefore plans (op_id y.rank k) (op_id y.rank n)) (sym more.0) (leads_to_end_before plans (op_id y.rank k) y d c (⊎_elim (λ there. inr (rows.sound d.op k few there)) (λ end. inl (end.0, ap (op_id y.rank) (sym end.1))) more.1))) (no_more op k few h);
     complete = λ op k few is_done b. keeps op k few (rows.complete op k few is_done b);
   }
 

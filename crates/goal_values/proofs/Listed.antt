@@ -5,7 +5,7 @@ use Rattle.std.proofs.lemmas.List.Sums.{sum_by-cons}
 use Rattle.goal_blocks.specs.declared.contribution.Contribution.{Contribution}
 use Rattle.goal_blocks.specs.Values.{Value, is_lower}
 use Rattle.goal_blocks.specs.Stored.{ComesFirst, IsSorted}
-use Rattle.goal_blocks.proofs.ForCallers.{lower_still, not_lower_still, alike, all_from}
+use Rattle.goal_blocks.proofs.ForCallers.{lower_still, not_lower_still, not_lower_is_equal, all_from}
 use Rattle.std.proofs.lemmas.Bool.Decides.{nat_tests}
 use Rattle.std.specs.Ordering.{nat_cmp, ordering_then, is_lt}
 use Rattle.goal_values.specs.Parts.{HasSame}
@@ -47,7 +47,7 @@ same_sorted (c ∷ v) (d ∷ w) sv sw same =
     go true b e f rest = absurd (first_stands c d v w sw.0 same e)
     go false true e f rest = absurd (first_stands d c w v sv.0 (swapped (c ∷ v) (d ∷ w) same) f)
     go false false e f rest =
-        let is : c ≡ d = alike c d e f in
+        let is : c ≡ d = not_lower_is_equal c d e f in
         let tails : v ≡ w = rest (λ g. omega (arith, same g, sum_by-cons g c v, sum_by-cons g d w, ap g is)) in
         ap₂ (λ (x : Contribution) (u : Value). x ∷ u) is tails
 

@@ -1,6 +1,6 @@
 use Rattle.std.proofs.Common.{rules, ap, sym, ◌∙◌, ◌≡◌, ◌<◌, length, arith, subst}
 use Rattle.goal_blocks.specs.Stored.{Kept, values}
-use Rattle.goal_blocks.proofs.StoreFacts.{kept, absent_there, before_there, few_there, sound_after, put_values, put_still, set_after, held_there}
+use Rattle.goal_blocks.proofs.StoreFacts.{kept_of_cells, absent_there, before_there, few_there, sound_after, put_values, put_still, set_after, held_there}
 use Rattle.goal_blocks.proofs.store.Store.put.Goals as goal
 
 pub overflow_sub-self : goal.overflow_sub-self
@@ -18,7 +18,7 @@ returns-in_err-old-clause-absent c =
 pub invariant_of-self-2 : goal.invariant_of-self-2
 invariant_of-self-2 c =
     let was = ap length (before_there c.self.inside.what c.self.inside.ranks c.self.inside.written c.args.self.now c.self.view_is c.args.rank c.args.slot c.in_ok-old.old c.first_at-first.result c.in_ok-old.ensures.old c.first_at-first.ensures) in
-    let size : c.size_before.result ≡ length (values (kept c.self.inside.what c.self.inside.ranks c.self.inside.written) c.args.rank c.args.slot) = c.size_before.ensures ∙ was ∙ ap (λ (t : Kept). length (values t c.args.rank c.args.slot)) (sym c.self.view_is) in
+    let size : c.size_before.result ≡ length (values (kept_of_cells c.self.inside.what c.self.inside.ranks c.self.inside.written) c.args.rank c.args.slot) = c.size_before.ensures ∙ was ∙ ap (λ (t : Kept). length (values t c.args.rank c.args.slot)) (sym c.self.view_is) in
     sound_after c.self.inside.what c.self.inside.ranks c.self.inside.written c.insert.new.self c.args.rank c.args.slot c.args.value c.in_ok-old.ensures.updates.0 c.self.inside.held _ (subst (λ (t : Kept). c.args.rank < t.ranks) (sym c.self.view_is) c.requires.rank) (omega (arith, c.ranges.slot)) c.requires.sorted c.self.invariant (omega (arith, size, c.len-size.ensures))
 
 pub returns-clause-set : goal.returns-clause-set

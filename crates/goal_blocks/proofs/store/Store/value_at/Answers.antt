@@ -1,5 +1,5 @@
 use Rattle.std.proofs.Common.{◌∙◌}
-use Rattle.goal_blocks.proofs.StoreFacts.{value_there, first_there, one_read, sorted_there, sorted_from}
+use Rattle.goal_blocks.proofs.StoreFacts.{value_there, first_there, read_contribution, sorted_there, sorted_from}
 use Rattle.goal_blocks.proofs.store.Store.value_at.Goals as goal
 
 pub returns-in-Some-clause-value : goal.returns-in-Some-clause-value
@@ -12,4 +12,4 @@ returns-in-Some-clause-sorted c =
 
 pub returns-in-None-clause-value : goal.returns-in-None-clause-value
 returns-in-None-clause-value c =
-    one_read c.args.first.now _ c.as_slice-in-None.ensures ∙ first_there c.self.inside.what c.self.inside.ranks c.self.inside.written c.args.self.now c.self.view_is c.args.rank c.args.slot c.args.first.now c.in-None.ensures.value c.requires
+    read_contribution c.args.first.now _ c.as_slice-in-None.ensures ∙ first_there c.self.inside.what c.self.inside.ranks c.self.inside.written c.args.self.now c.self.view_is c.args.rank c.args.slot c.args.first.now c.in-None.ensures.value c.requires
