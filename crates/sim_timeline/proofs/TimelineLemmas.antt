@@ -18,8 +18,8 @@ use Rattle.sim_params.specs.Costs.{CostModel, is_eager}
 use Rattle.sim_params.specs.Times.{greatest, end, start}
 use Rattle.sim_params.specs.Stuck.{lacks_end}
 use Rattle.sim_events.specs.Engine.{start_known, end_known}
-use Rattle.sim_timeline.specs.Timeline.{is_unread, end_or_zero, operation_line, summary_line, first_line, line_by, line_of}
-use Rattle.sim_timeline.specs.Pages.{IsSummary, is_unread_send}
+use Rattle.sim_timeline.specs.Timeline.{is_unmatched, end_or_zero, operation_line, summary_line, first_line, line_by, line_of}
+use Rattle.sim_timeline.specs.Pages.{IsSummary, is_unmatched_send}
 use Rattle.goal_graph.proofs.ForCallers.{at_kind}
 
 -- the greatest of a list and one more
@@ -49,30 +49,30 @@ no_front [] ys none = refl
 no_front (x ∷ xs) ys none = absurd (cc)
 
 module _ (plans : List Plan) (costs : CostModel) (h : List Timed) where
-  unread_found : (x : OpId) (o : Op) → op_at plans x ≡ Some o
-      → is_unread_send (Some o.kind) (start_known plans costs h x) (partner (pairs plans (plain h)) x) ≡ is_unread plans costs h x
-  unread_found x o found =
-      ap (λ (k : Option Kind). is_unread_send k (start_known plans costs h x) (partner (pairs plans (plain h)) x)) (sym (at_kind plans x o found))
+  unmatched_found : (x : OpId) (o : Op) → op_at plans x ≡ Some o
+      → is_unmatched_send (Some o.kind) (start_known plans costs h x) (partner (pairs plans (plain h)) x) ≡ is_unmatched plans costs h x
+  unmatched_found x o found =
+      ap (λ (k : Option Kind). is_unmatched_send k (start_known plans costs h x) (partner (pairs plans (plain h)) x)) (sym (at_kind plans x o found))
       ∙ rw (started (has_started plans x (plain h)) (start plans costs h x)) refl
 
   -- the summary of operations and one more
-  pub summary_more : (xs : List OpId) (x : OpId) (o : Op) (stuck unread finish : ℕ) → IsSummary plans costs h xs stuck unread finish
+  pub summary_more : (xs : List OpId) (x : OpId) (o : Op) (stuck unmatched finish : ℕ) → IsSummary plans costs h xs stuck unmatched finish
       → op_at plans x ≡ Some o
       → IsSummary plans costs h (xs ++ x ∷ [])
       (stuck + cond (is_some (end_known plans costs h x)) 0 1)
-      (unread + cond (is_unread_send (Some o.kind) (start_known plans costs h x) (partner (pairs plans (plain h)) x)) 1 0)
+      (unmatched + cond (is_unmatched_send (Some o.kind) (start_known plans costs h x) (partner (pairs plans (plain h)) x)) 1 0)
       (max finish (unwrap_or (end_known plans costs h x) 0))
-  summary_more xs x o stuck unread finish s found = record {
+  summary_more xs x o stuck unmatched finish s found = record {
     stuck_is = rw (s.stuck_is, no_end (has_ended plans (is_eager plans costs) x (plain h)) (end plans costs h x)) (sym (count_by-append_one (lacks_end plans costs h) xs x));
-    unread_is = rw (s.unread_is, unread_found x o found) (sym (count_by-append_one (is_unread plans costs h) xs x));
+    unmatched_is = rw (s.unmatched_is, unmatched_found x o found) (sym (count_by-append_one (is_unmatched plans costs h) xs x));
     finish_is = rw (s.finish_is, end_there (has_ended plans (is_eager plans costs) x (plain h)) (end plans costs h x)) (sym (greatest-append (end_or_zero plans costs h) xs x));
   }
 
   -- the first line, by the summary of all operations
-  pub first_line_is : (stuck unread finish : ℕ) → IsSummary plans costs h (operations plans) stuck unread finish
-      → summary_line (length plans) (length (operations plans)) stuck unread finish ≡ first_line plans costs h
+  pub first_line_is : (stuck unmatched finish : ℕ) → IsSummary plans costs h (operations plans) stuck unmatched finish
+      → summary_line (length plans) (length (operations plans)) stuck unmatched finish ≡ first_line plans costs h
   unfolding first_line
-  first_line_is stuck unread finish s = rw (s.stuck_is, s.unread_is, s.finish_is) refl
+  first_line_is stuck unmatched finish s = rw (s.stuck_is, s.unmatched_is, s.finish_is) refl
 
   -- the line of an operation that exists
   pub line_is : (x : OpId) (o : Op) → op_at plans x ≡ Some o

@@ -38,11 +38,11 @@ operation_line x kind start end partner =
     codes "op " ++ id_text x ++ kind_text kind
     ++ time_text start ++ codes " end " ++ time_text end ++ partner_text kind partner ++ line_feed
 
--- the first line: the numbers of ranks, operations, operations without an end and unread messages, and the last end
+-- the first line: the numbers of ranks, operations, operations without an end and unmatched messages, and the last end
 abbrev pub summary_line : ℕ → ℕ → ℕ → ℕ → ℕ → List ℕ
-summary_line ranks ops stuck unread finish =
+summary_line ranks ops stuck unmatched finish =
     codes "ranks " ++ decimal ranks ++ codes " ops " ++ decimal ops ++ codes " stuck " ++ decimal stuck
-    ++ codes " unread " ++ decimal unread ++ codes " finish " ++ decimal finish ++ line_feed
+    ++ codes " unread " ++ decimal unmatched ++ codes " finish " ++ decimal finish ++ line_feed
 
 abbrev pub is_send : Option Kind → Bool
 is_send (Some (Send bytes to tag)) = true
@@ -52,8 +52,8 @@ is_send None = false
 
 module _ (plans : List Plan) (costs : CostModel) (h : List Timed) where
   -- x is a send that has begun and is not paired
-  abbrev pub is_unread : OpId → Bool
-  is_unread x =
+  abbrev pub is_unmatched : OpId → Bool
+  is_unmatched x =
       is_send (kind_at plans x) && has_started plans x (plain h) && not (is_paired (pairs plans (plain h)) x)
 
   -- the end of x; 0 if it has none
@@ -63,7 +63,7 @@ module _ (plans : List Plan) (costs : CostModel) (h : List Timed) where
   unfoldable pub first_line : List ℕ
   first_line =
       summary_line (length plans) (length (operations plans)) (count_by (lacks_end plans costs h) (operations plans))
-      (count_by is_unread (operations plans)) (greatest end_or_zero (operations plans))
+      (count_by is_unmatched (operations plans)) (greatest end_or_zero (operations plans))
 
   abbrev pub line_by : OpId → Option Kind → List ℕ
   line_by x None = []

@@ -5,7 +5,7 @@ ghost use Rattle.goal_graph.specs.Schedule.{operations};
 ghost use Rattle.goal_graph.specs.Fault.{IsOp};
 ghost use Rattle.sim_params.specs.Stuck.{lacks_end};
 ghost use Rattle.sim_timeline.specs.Timeline.{line_of, summary_line, kind_text, partner_text, match_text, first_line};
-ghost use Rattle.sim_timeline.specs.Pages.{IsSummary, before_rank, is_unread_send};
+ghost use Rattle.sim_timeline.specs.Pages.{IsSummary, before_rank, is_unmatched_send};
 
 use goal_base::{TextOut, put_pair, put_time, put_word};
 use goal_graph::{Kind, Op, OpId, Sched};
@@ -64,12 +64,12 @@ pub fn put_first_line<C: Costs, H: History>(
     put_summary(out, sched, &sum_up(sched, engine))
 }
 
-// The numbers of the first line that are of some operations: how many have no end, how many are unread messages, and
+// The numbers of the first line that are of some operations: how many have no end, how many are unmatched messages, and
 // the last end in nanoseconds.
 #[derive(Clone, Copy)]
 struct Summary {
     stuck: u64,
-    unread: u64,
+    unmatched: u64,
     finish: u64,
 }
 
@@ -77,15 +77,15 @@ impl Summary {
     // The same with one more operation.
     fn with(self, op: &Op, times: Record) -> Summary
         requires stuck_fits { self.stuck < 2 ^ 64 - 1 }
-        requires unread_fits { self.unread < 2 ^ 64 - 1 }
+        requires unmatched_fits { self.unmatched < 2 ^ 64 - 1 }
         ensures stuck { result.stuck ≡ self.stuck + (if is_some times.end then 0 else 1) }
-        ensures unread { result.unread ≡ self.unread
-            + (if is_unread_send (Some op.now.kind) times.start times.partner then 1 else 0) }
+        ensures unmatched { result.unmatched ≡ self.unmatched
+            + (if is_unmatched_send (Some op.now.kind) times.start times.partner then 1 else 0) }
         ensures finish { result.finish ≡ max self.finish (unwrap_or times.end 0) }
     {
         Summary {
             stuck: self.stuck + u64::from(times.end.is_none()),
-            unread: self.unread + u64::from(is_unread(op, times)),
+            unmatched: self.unmatched + u64::from(is_unmatched(op, times)),
             finish: self.finish.max(times.end.unwrap_or(0)),
         }
     }
@@ -102,13 +102,13 @@ fn sum_rank<C: Costs, H: History>(
     requires few { length (operations sched.now) ≤ MAX_OPS }
     requires rank { rank < length sched.now }
     requires so_far { IsSummary sched.now (C.model engine.now.costs) engine.now.history
-        (take (before_rank sched.now rank) (operations sched.now)) summary.stuck summary.unread summary.finish }
+        (take (before_rank sched.now rank) (operations sched.now)) summary.stuck summary.unmatched summary.finish }
     requires few_stuck { summary.stuck ≤ before_rank sched.now rank }
-    requires few_unread { summary.unread ≤ before_rank sched.now rank }
+    requires few_unmatched { summary.unmatched ≤ before_rank sched.now rank }
     ensures summary { IsSummary sched.now (C.model engine.now.costs) engine.now.history
-        (take (before_rank sched.now (rank + 1)) (operations sched.now)) result.stuck result.unread result.finish }
+        (take (before_rank sched.now (rank + 1)) (operations sched.now)) result.stuck result.unmatched result.finish }
     ensures few_stuck { result.stuck ≤ before_rank sched.now (rank + 1) }
-    ensures few_unread { result.unread ≤ before_rank sched.now (rank + 1) }
+    ensures few_unmatched { result.unmatched ≤ before_rank sched.now (rank + 1) }
 {
     let mut summary = summary;
     for op in 0..sched.op_count(rank) {
@@ -123,11 +123,11 @@ fn sum_rank<C: Costs, H: History>(
 fn sum_up<C: Costs, H: History>(sched: &Sched, engine: &Engine<'_, C, H>) -> Summary
     requires same { engine.now.plans ≡ sched.now }
     ensures { IsSummary sched.now (C.model engine.now.costs) engine.now.history (operations sched.now)
-        result.stuck result.unread result.finish }
+        result.stuck result.unmatched result.finish }
 {
     let mut summary = Summary {
         stuck: 0,
-        unread: 0,
+        unmatched: 0,
         finish: 0,
     };
     let _count = sched.count();
@@ -138,8 +138,8 @@ fn sum_up<C: Costs, H: History>(sched: &Sched, engine: &Engine<'_, C, H>) -> Sum
 }
 
 // Whether a send has begun and is not paired. The kind is read last, and only if the times leave it open.
-fn is_unread(op: &Op, times: Record) -> bool
-    ensures { result ≡ is_unread_send (Some op.now.kind) times.start times.partner }
+fn is_unmatched(op: &Op, times: Record) -> bool
+    ensures { result ≡ is_unmatched_send (Some op.now.kind) times.start times.partner }
 {
     times.start.is_some() && times.partner.is_none() && matches!(op.kind, Kind::Send { .. })
 }
@@ -147,7 +147,7 @@ fn is_unread(op: &Op, times: Record) -> bool
 // Appends the first line with the numbers of a summary.
 fn put_summary(out: &mut TextOut, sched: &Sched, summary: &Summary) -> Result<(), NoMemory>
     ensures { OnOk result (out.new ≡ out.old ++ summary_line (length sched.now) (length (operations sched.now))
-        summary.now.stuck summary.now.unread summary.now.finish) }
+        summary.now.stuck summary.now.unmatched summary.now.finish) }
 {
     out.word("ranks ")?;
     out.number(sched.plans().len() as u128)?;
@@ -156,7 +156,7 @@ fn put_summary(out: &mut TextOut, sched: &Sched, summary: &Summary) -> Result<()
     out.word(" stuck ")?;
     out.number(u128::from(summary.stuck))?;
     out.word(" unread ")?;
-    out.number(u128::from(summary.unread))?;
+    out.number(u128::from(summary.unmatched))?;
     out.word(" finish ")?;
     out.number(u128::from(summary.finish))?;
     out.word("\n")

@@ -5,7 +5,7 @@ use Rattle.goal_graph.specs.Schedule.{Plan, ops_at, operations}
 use Rattle.sim_params.specs.Times.{mate}
 use Rattle.goal_graph.proofs.ForCallers.{is_op_below}
 use Rattle.sim_events.specs.Engine.{start_known, end_known}
-use Rattle.sim_timeline.specs.Pages.{IsSummary, before_rank, is_unread_send}
+use Rattle.sim_timeline.specs.Pages.{IsSummary, before_rank, is_unmatched_send}
 use Rattle.sim_timeline.proofs.Ranks.{before_more, at_place, place_within}
 use Rattle.sim_timeline.proofs.TimelineLemmas.{summary_more}
 use Rattle.sim_timeline.proofs.lines.sum_rank.Goals as goal
@@ -28,8 +28,8 @@ with-summary-requires-clause-stuck_fits g c =
     let inside : c.loop-op.op < length (ops_at c.args.sched.now c.args.rank) = omega (arith, c.loop-op-test.true, c.op_count-op-end.ensures.count) in
     omega (arith, c.loop-op.invariant.1, place_within c.args.sched.now c.args.rank c.loop-op.op inside, c.requires.few)
 
-pub with-summary-requires-clause-unread_fits : goal.with-summary-requires-clause-unread_fits
-with-summary-requires-clause-unread_fits g c =
+pub with-summary-requires-clause-unmatched_fits : goal.with-summary-requires-clause-unmatched_fits
+with-summary-requires-clause-unmatched_fits g c =
     let inside : c.loop-op.op < length (ops_at c.args.sched.now c.args.rank) = omega (arith, c.loop-op-test.true, c.op_count-op-end.ensures.count) in
     omega (arith, c.loop-op.invariant.2, place_within c.args.sched.now c.args.rank c.loop-op.op inside, c.requires.few)
 
@@ -48,24 +48,24 @@ loop-op-preserved g c =
     let start = subst (λ (ps : List Plan). times.start ≡ start_known ps costs h id) c.requires.same c.record.ensures.start in
     let end = subst (λ (ps : List Plan). times.end ≡ end_known ps costs h id) c.requires.same c.record.ensures.end in
     let partner = subst (λ (ps : List Plan). times.partner ≡ mate ps costs h id) c.requires.same c.record.ensures.partner in
-    let made : IsSummary plans costs h (take (count + 1) (operations plans)) c.with-summary.result.stuck c.with-summary.result.unread c.with-summary.result.finish =
-    rw (more, c.with-summary.ensures.stuck, c.with-summary.ensures.unread, c.with-summary.ensures.finish, start, end, partner)
+    let made : IsSummary plans costs h (take (count + 1) (operations plans)) c.with-summary.result.stuck c.with-summary.result.unmatched c.with-summary.result.finish =
+    rw (more, c.with-summary.ensures.stuck, c.with-summary.ensures.unmatched, c.with-summary.ensures.finish, start, end, partner)
     (summary_more plans costs h (take count (operations plans)) id c.op.result.now _ _ _ c.loop-op.invariant.0 c.op.ensures.op) in (
-      subst (λ (n : ℕ). IsSummary plans costs h (take n (operations plans)) c.with-summary.result.stuck c.with-summary.result.unread c.with-summary.result.finish) next made,
+      subst (λ (n : ℕ). IsSummary plans costs h (take n (operations plans)) c.with-summary.result.stuck c.with-summary.result.unmatched c.with-summary.result.finish) next made,
       omega (arith, c.with-summary.ensures.stuck, one_or_none (is_some times.end) c.loop-op.summary.stuck count c.loop-op.invariant.1),
-      omega (arith, c.with-summary.ensures.unread, at_most_one (is_unread_send (Some c.op.result.now.kind) times.start times.partner) c.loop-op.summary.unread count c.loop-op.invariant.2),
+      omega (arith, c.with-summary.ensures.unmatched, at_most_one (is_unmatched_send (Some c.op.result.now.kind) times.start times.partner) c.loop-op.summary.unmatched count c.loop-op.invariant.2),
     )
 
 pub returns-clause-summary : goal.returns-clause-summary
 returns-clause-summary g c =
     let plans = c.args.sched.now in
     let all : before_rank plans c.args.rank + c.loop-op.op ≡ before_rank plans (c.args.rank + 1) = omega (arith, before_more plans c.args.rank, c.op_count-op-end.ensures.count, c.loop-op-test.false, c.loop-op.auto.op-end) in
-    subst (λ (n : ℕ). IsSummary plans (g.C.Costs.model c.args.engine.now.costs) c.args.engine.now.history (take n (operations plans)) c.loop-op.summary.stuck c.loop-op.summary.unread c.loop-op.summary.finish) all c.loop-op.invariant.0
+    subst (λ (n : ℕ). IsSummary plans (g.C.Costs.model c.args.engine.now.costs) c.args.engine.now.history (take n (operations plans)) c.loop-op.summary.stuck c.loop-op.summary.unmatched c.loop-op.summary.finish) all c.loop-op.invariant.0
 
 pub returns-clause-few_stuck : goal.returns-clause-few_stuck
 returns-clause-few_stuck g c =
     omega (arith, c.loop-op.invariant.1, before_more c.args.sched.now c.args.rank, c.op_count-op-end.ensures.count, c.loop-op-test.false, c.loop-op.auto.op-end)
 
-pub returns-clause-few_unread : goal.returns-clause-few_unread
-returns-clause-few_unread g c =
+pub returns-clause-few_unmatched : goal.returns-clause-few_unmatched
+returns-clause-few_unmatched g c =
     omega (arith, c.loop-op.invariant.2, before_more c.args.sched.now c.args.rank, c.op_count-op-end.ensures.count, c.loop-op-test.false, c.loop-op.auto.op-end)
