@@ -6,36 +6,36 @@ use Rattle.sim_params.specs.Costs.{CostModel}
 use Rattle.sim_params.specs.Run.{IsRun, IsFinished}
 use Rattle.sim_params.proofs.ForCallers.{run_length}
 use Rattle.sim_events.specs.Comparisons.{count_of, last_look}
-use Rattle.sim_state.specs.Engine.{View}
+use Rattle.sim_state.specs.Engine.{RunSoFar}
 use Rattle.sim_events.specs.Pending.{IsStepped}
 
-module _ {C : Type 0} (model : C → CostModel) (old new : View C) where
+module _ {C : Type 0} (model : C → CostModel) (old new : RunSoFar C) where
   -- a step changes the history alone
   pub stepped_plans : (r : Option Timed) → IsStepped model old new r → new.plans ≡ old.plans
-  stepped_plans None s = ap (λ (v : View C). v.plans) s.1
-  stepped_plans (Some a) s = ap (λ (v : View C). v.plans) s.1
+  stepped_plans None s = ap (λ (v : RunSoFar C). v.plans) s.1
+  stepped_plans (Some a) s = ap (λ (v : RunSoFar C). v.plans) s.1
 
   pub stepped_costs : (r : Option Timed) → IsStepped model old new r → new.costs ≡ old.costs
-  stepped_costs None s = ap (λ (v : View C). v.costs) s.1
-  stepped_costs (Some a) s = ap (λ (v : View C). v.costs) s.1
+  stepped_costs None s = ap (λ (v : RunSoFar C). v.costs) s.1
+  stepped_costs (Some a) s = ap (λ (v : RunSoFar C). v.costs) s.1
 
   pub stepped_length : (r : Option Timed) → IsStepped model old new r → length new.history ≡ count_of r + length old.history
-  stepped_length None s = omega (arith, ap (λ (v : View C). length v.history) s.1)
-  stepped_length (Some a) s = omega (arith, ap (λ (v : View C). length v.history) s.1)
+  stepped_length None s = omega (arith, ap (λ (v : RunSoFar C). length v.history) s.1)
+  stepped_length (Some a) s = omega (arith, ap (λ (v : RunSoFar C). length v.history) s.1)
 
   -- with each step fewer are left
   pub fewer_left : (r : Option Timed) → is_some r ≡ true → IsStepped model old new r → IsRun new.plans (model new.costs) new.history → 3 * length (operations new.plans) - length new.history < 3 * length (operations old.plans) - length old.history
   fewer_left None t s run = absurd (cc)
   fewer_left (Some a) t s run =
       let most = run_length new.plans (model new.costs) new.history run in
-      let plans = ap (λ (v : View C). length (operations v.plans)) s.1 in
-      let history = ap (λ (v : View C). length v.history) s.1 in
+      let plans = ap (λ (v : RunSoFar C). length (operations v.plans)) s.1 in
+      let history = ap (λ (v : RunSoFar C). length v.history) s.1 in
       omega (arith, most, plans, history)
 
   -- where a step finds nothing, nothing is possible
   pub stepped_last : (r : Option Timed) → is_some r ≡ false → IsStepped model old new r → IsFinished new.plans (model new.costs) new.history
   stepped_last (Some a) t s = absurd (cc)
-  stepped_last None t s = subst (λ (v : View C). IsFinished v.plans (model v.costs) v.history) (sym s.1) s.0
+  stepped_last None t s = subst (λ (v : RunSoFar C). IsFinished v.plans (model v.costs) v.history) (sym s.1) s.0
 
 -- an answer that is none is no action
 pub none_counted : (r : Option Timed) → is_some r ≡ false → count_of r ≡ 0

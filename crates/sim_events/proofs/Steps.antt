@@ -9,7 +9,7 @@ use Rattle.sim_stations.specs.Stations.{Stationed, pair_of, IsLater}
 use Rattle.sim_state.specs.Free.{side}
 use Rattle.sim_params.specs.Times.{cpu}
 use Rattle.sim_heaps.specs.Map.{IsEmptyMap}
-use Rattle.sim_state.specs.Engine.{View}
+use Rattle.sim_state.specs.Engine.{RunSoFar}
 use Rattle.sim_events.specs.Queue.{IsQueue, IsQueueBut, IsSettledBy, IsDueAfter}
 use Rattle.sim_state.proofs.ForCallers.{possible_exists}
 use Rattle.sim_events.proofs.Held.{later}
@@ -21,52 +21,52 @@ use Rattle.sim_events.proofs.Changes.{changed_settled}
 use Rattle.sim_events.proofs.Settled.{after_settled}
 
 module _ {C : Type 0} (model : C → CostModel) where
-  abbrev pub QueueAt : View C → Stationed → Type 0
+  abbrev pub QueueAt : RunSoFar C → Stationed → Type 0
   QueueAt v queued = IsQueue v.plans (model v.costs) v.history queued
 
-  abbrev pub RunAt : View C → Type 0
+  abbrev pub RunAt : RunSoFar C → Type 0
   RunAt v = IsRun v.plans (model v.costs) v.history
 
-  abbrev pub NextAt : View C → Timed → Type 0
+  abbrev pub NextAt : RunSoFar C → Timed → Type 0
   NextAt v a = IsNext v.plans (model v.costs) v.history a
 
   -- after an action those are due that it concerns
-  pub due_after : (old new : View C) (a : Timed) (queued settled : Stationed) (slot : ℕ) → new ≡ record { plans = old.plans; costs = old.costs; history = a ∷ old.history } → RunAt old → NextAt old a → QueueAt old queued → slice_get (operations old.plans) slot ≡ Some a.op → IsSettledBy (cpu new.plans (model new.costs) new.history a.op) (side new.plans (model new.costs) new.history a.op) slot a queued settled → IsQueueBut new.plans (model new.costs) new.history (IsDueAfter new.plans (model new.costs) new.history a) settled
+  pub due_after : (old new : RunSoFar C) (a : Timed) (queued settled : Stationed) (slot : ℕ) → new ≡ record { plans = old.plans; costs = old.costs; history = a ∷ old.history } → RunAt old → NextAt old a → QueueAt old queued → slice_get (operations old.plans) slot ≡ Some a.op → IsSettledBy (cpu new.plans (model new.costs) new.history a.op) (side new.plans (model new.costs) new.history a.op) slot a queued settled → IsQueueBut new.plans (model new.costs) new.history (IsDueAfter new.plans (model new.costs) new.history a) settled
   due_after old new a queued settled slot e run next q here by =
-      let then : View C = record { plans = old.plans; costs = old.costs; history = a ∷ old.history } in
-      let by_then : IsSettledBy (cpu old.plans (model old.costs) (a ∷ old.history) a.op) (side old.plans (model old.costs) (a ∷ old.history) a.op) slot a queued settled = subst (λ (v : View C). IsSettledBy (cpu v.plans (model v.costs) v.history a.op) (side v.plans (model v.costs) v.history a.op) slot a queued settled) e by in
-      subst (λ (v : View C). IsQueueBut v.plans (model v.costs) v.history (IsDueAfter v.plans (model v.costs) v.history a) settled) (sym e) (after_settled old.plans (model old.costs) old.history a run next.possible queued settled slot q here by_then)
+      let then : RunSoFar C = record { plans = old.plans; costs = old.costs; history = a ∷ old.history } in
+      let by_then : IsSettledBy (cpu old.plans (model old.costs) (a ∷ old.history) a.op) (side old.plans (model old.costs) (a ∷ old.history) a.op) slot a queued settled = subst (λ (v : RunSoFar C). IsSettledBy (cpu v.plans (model v.costs) v.history a.op) (side v.plans (model v.costs) v.history a.op) slot a queued settled) e by in
+      subst (λ (v : RunSoFar C). IsQueueBut v.plans (model v.costs) v.history (IsDueAfter v.plans (model v.costs) v.history a) settled) (sym e) (after_settled old.plans (model old.costs) old.history a run next.possible queued settled slot q here by_then)
 
   -- what it holds is free later
-  pub later_after : (old new : View C) (a : Timed) (queued : Stationed) (slot : ℕ) → new ≡ record { plans = old.plans; costs = old.costs; history = a ∷ old.history } → NextAt old a → QueueAt old queued → slice_get (operations old.plans) slot ≡ Some a.op → IsLater queued.free (pair_of queued slot) (cpu new.plans (model new.costs) new.history a.op) (side new.plans (model new.costs) new.history a.op)
+  pub later_after : (old new : RunSoFar C) (a : Timed) (queued : Stationed) (slot : ℕ) → new ≡ record { plans = old.plans; costs = old.costs; history = a ∷ old.history } → NextAt old a → QueueAt old queued → slice_get (operations old.plans) slot ≡ Some a.op → IsLater queued.free (pair_of queued slot) (cpu new.plans (model new.costs) new.history a.op) (side new.plans (model new.costs) new.history a.op)
   later_after old new a queued slot e next q here =
       let o = listed_kind old.plans (model old.costs) slot a.op here in
-      subst (λ (v : View C). IsLater queued.free (pair_of queued slot) (cpu v.plans (model v.costs) v.history a.op) (side v.plans (model v.costs) v.history a.op)) (sym e) (later old.plans (model old.costs) old.history a next.possible queued q.of_it slot here o.0 o.1 _ _ refl refl)
+      subst (λ (v : RunSoFar C). IsLater queued.free (pair_of queued slot) (cpu v.plans (model v.costs) v.history a.op) (side v.plans (model v.costs) v.history a.op)) (sym e) (later old.plans (model old.costs) old.history a next.possible queued q.of_it slot here o.0 o.1 _ _ refl refl)
 
   -- how often stations have changed their places stays
-  pub changed_after : (old new : View C) (a : Timed) (queued settled : Stationed) (slot : ℕ) → new ≡ record { plans = old.plans; costs = old.costs; history = a ∷ old.history } → QueueAt old queued → slice_get (operations old.plans) slot ≡ Some a.op → IsSettledBy (cpu new.plans (model new.costs) new.history a.op) (side new.plans (model new.costs) new.history a.op) slot a queued settled → (all : ℕ) → HaveChanged old.plans old.history queued all → HaveChanged new.plans new.history settled all
+  pub changed_after : (old new : RunSoFar C) (a : Timed) (queued settled : Stationed) (slot : ℕ) → new ≡ record { plans = old.plans; costs = old.costs; history = a ∷ old.history } → QueueAt old queued → slice_get (operations old.plans) slot ≡ Some a.op → IsSettledBy (cpu new.plans (model new.costs) new.history a.op) (side new.plans (model new.costs) new.history a.op) slot a queued settled → (all : ℕ) → HaveChanged old.plans old.history queued all → HaveChanged new.plans new.history settled all
   changed_after old new a queued settled slot e q here by all changed =
-      subst (λ (v : View C). HaveChanged v.plans v.history settled all) (sym e) (changed_settled old.plans (model old.costs) old.history a queued q.of_it slot here _ _ settled by all changed)
+      subst (λ (v : RunSoFar C). HaveChanged v.plans v.history settled all) (sym e) (changed_settled old.plans (model old.costs) old.history a queued q.of_it slot here _ _ settled by all changed)
 
   -- with one more action a look is counted at the needs whose moment it may give
-  pub looked_more : (old new : View C) (a : Timed) → new ≡ record { plans = old.plans; costs = old.costs; history = a ∷ old.history } → reads_of_run new.plans new.history ≡ given_by old.plans a + reads_of_run old.plans old.history
+  pub looked_more : (old new : RunSoFar C) (a : Timed) → new ≡ record { plans = old.plans; costs = old.costs; history = a ∷ old.history } → reads_of_run new.plans new.history ≡ given_by old.plans a + reads_of_run old.plans old.history
   looked_more old new a e =
-      subst (λ (v : View C). reads_of_run v.plans v.history ≡ given_by old.plans a + reads_of_run old.plans old.history) (sym e) (sum_by-cons (given_by old.plans) a old.history)
+      subst (λ (v : RunSoFar C). reads_of_run v.plans v.history ≡ given_by old.plans a + reads_of_run old.plans old.history) (sym e) (sum_by-cons (given_by old.plans) a old.history)
 
   -- an action changes no plans
-  pub plans_after : (old new : View C) (a : Timed) → new ≡ record { plans = old.plans; costs = old.costs; history = a ∷ old.history } → old.plans ≡ new.plans
-  plans_after old new a e = sym (ap (λ (v : View C). v.plans) e)
+  pub plans_after : (old new : RunSoFar C) (a : Timed) → new ≡ record { plans = old.plans; costs = old.costs; history = a ∷ old.history } → old.plans ≡ new.plans
+  plans_after old new a e = sym (ap (λ (v : RunSoFar C). v.plans) e)
 
   -- what happens next is an action of an operation
-  pub next_op : (state : View C) (a : Timed) → NextAt state a → IsOp state.plans a.op
+  pub next_op : (state : RunSoFar C) (a : Timed) → NextAt state a → IsOp state.plans a.op
   next_op state a next = possible_exists state.plans (model state.costs) state.history a next.possible
 
-  pub op_after : (old new : View C) (a : Timed) → new ≡ record { plans = old.plans; costs = old.costs; history = a ∷ old.history } → NextAt old a → IsOp new.plans a.op
+  pub op_after : (old new : RunSoFar C) (a : Timed) → new ≡ record { plans = old.plans; costs = old.costs; history = a ∷ old.history } → NextAt old a → IsOp new.plans a.op
   op_after old new a e next =
-      subst (λ (ps : List Plan). IsOp ps a.op) (sym (ap (λ (v : View C). v.plans) e)) (next_op old a next)
+      subst (λ (ps : List Plan). IsOp ps a.op) (sym (ap (λ (v : RunSoFar C). v.plans) e)) (next_op old a next)
 
   -- nothing is possible exactly where no operation has a key
-  pub done_at : (v w : View C) (queued : Stationed) (T : Type 0) → v ≡ w → RunAt w → QueueAt v queued → (T ↔ IsEmptyMap queued.keys) → T ↔ IsFinished w.plans (model w.costs) w.history
+  pub done_at : (v w : RunSoFar C) (queued : Stationed) (T : Type 0) → v ≡ w → RunAt w → QueueAt v queued → (T ↔ IsEmptyMap queued.keys) → T ↔ IsFinished w.plans (model w.costs) w.history
   done_at v w queued T e run q empty =
-      let queue : QueueAt w queued = subst (λ (u : View C). QueueAt u queued) e q in
+      let queue : QueueAt w queued = subst (λ (u : RunSoFar C). QueueAt u queued) e q in
       (λ t. finished w.plans (model w.costs) w.history run queued queue (empty.0 t), λ f. empty.1 (empty_from w.plans (model w.costs) w.history queued queue f))

@@ -5,7 +5,7 @@ use Rattle.goal_graph.specs.Schedule.{Plan}
 use Rattle.sim_params.specs.Costs.{CostModel}
 use Rattle.sim_params.specs.Run.{IsNext, IsFinished}
 use Rattle.sim_stations.specs.Stations.{Stationed}
-use Rattle.sim_state.specs.Engine.{View}
+use Rattle.sim_state.specs.Engine.{RunSoFar}
 use Rattle.sim_events.specs.Queue.{IsQueue}
 use Rattle.sim_events.specs.Changes.{HaveChanged}
 
@@ -16,11 +16,11 @@ IsPending plans costs h None = IsFinished plans costs h
 
 module _ {C : Type 0} (model : C → CostModel) where
   -- the queue of a state
-  abbrev pub IsPendingOf : View C → Stationed → Type 0
+  abbrev pub IsPendingOf : RunSoFar C → Stationed → Type 0
   IsPendingOf v queue = IsPending v.plans (model v.costs) v.history (Some queue)
 
   -- the next action has happened, or nothing is possible
-  abbrev pub IsStepped : View C → View C → Option Timed → Type 0
+  abbrev pub IsStepped : RunSoFar C → RunSoFar C → Option Timed → Type 0
   IsStepped old new None = IsFinished old.plans (model old.costs) old.history × (new ≡ old)
   IsStepped old new (Some a) =
       IsNext old.plans (model old.costs) old.history a

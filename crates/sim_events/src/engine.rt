@@ -19,7 +19,7 @@ use crate::pending::{at_the_start, run_on, step_once};
 use goal_graph::{OpId, Sched, Timed};
 use sim_order::Steps;
 use sim_params::Costs;
-use sim_state::{EngineFault, History, Kept, Record, State};
+use sim_state::{EngineFault, History, Kept, Record, RunState};
 use std::alloc::Global;
 use std::marker::{Brand, Model};
 use std::sync::ledger::{Blank, Ledger};
@@ -28,7 +28,7 @@ use std::sync::ledger::{Blank, Ledger};
 /// type says whether it stores the history: `Kept` does, `Unkept` does not and takes no memory for it.
 pub struct Engine<'a, C: Costs, H: History = Kept> {
     // the history, and the state of each operation
-    state: State<'a, C, H>,
+    state: RunState<'a, C, H>,
     // the queue of the actions that may come next; a finished run releases it
     pending: Option<Queue>,
 }
@@ -44,10 +44,10 @@ impl<C: Costs + Drop, H: History> Drop for Engine<'_, C, H> {
 }
 
 impl<'a, C: Costs, H: History> Model for Engine<'a, C, H> {
-    ghost use Rattle.sim_state.specs.Engine.{View};
+    ghost use Rattle.sim_state.specs.Engine.{RunSoFar};
     ghost use Rattle.sim_events.specs.Pending.{IsPending};
 
-    ghost Value = { View C };
+    ghost Value = { RunSoFar C };
 
     ghost view = { λ e. e.state };
 
@@ -91,7 +91,7 @@ impl<'a, C: Costs + Drop, H: History> Engine<'a, C, H> {
         ensures fault { IfErr result (IsEngineFault (budget sched.now (C.model costs))) }
         ensures counted { (k : ℕ) → length (operations sched.now) ≤ 2 ^ k → steps.new ≤ steps.old + cost_of_start k sched.now }
     {
-        let state = State::new(alloc, sched, costs)?;
+        let state = RunState::new(alloc, sched, costs)?;
         let pending = at_the_start(alloc, &state, steps)?;
         Ok(Engine {
             state,

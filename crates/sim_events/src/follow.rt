@@ -16,7 +16,7 @@ ghost use Rattle.sim_events.specs.Queue.{IsOfSchedule, IsQueue, IsQueueBut, HasP
 use goal_graph::{Class, Need, OpId, Timed};
 use sim_order::Steps;
 use sim_params::Costs;
-use sim_state::{History, State, compact, gives};
+use sim_state::{History, RunState, compact, gives};
 use sim_stations::StationQueue;
 use std::sync::ledger::{Blank, Ledger};
 
@@ -25,7 +25,7 @@ pub type Queue = StationQueue;
 
 /// Puts the key of each operation, if it has a possible action. No operation has a key before.
 pub fn fill<C: Costs, H: History, L: Ledger>(
-    state: &State<C, H>,
+    state: &RunState<C, H>,
     queue: &mut Queue,
     steps: &mut Steps<L>,
 )
@@ -42,7 +42,7 @@ pub fn fill<C: Costs, H: History, L: Ledger>(
 
 /// Returns the action that happens next, with its slot, or `None` if nothing is possible.
 pub fn next<C: Costs, H: History, L: Ledger, R: Ledger>(
-    state: &State<C, H>,
+    state: &RunState<C, H>,
     queue: &mut Queue,
     steps: &mut Steps<L>,
     moves: &mut Steps<R>,
@@ -72,7 +72,7 @@ pub fn next<C: Costs, H: History, L: Ledger, R: Ledger>(
 /// Removes the key of an action that has happened. If it holds a cpu, the keys of all operations that wait for what it
 /// holds are raised.
 pub fn settle<C: Costs, H: History, L: Ledger>(
-    state: &State<C, H>,
+    state: &RunState<C, H>,
     queue: &mut Queue,
     slot: u32,
     action: Timed,
@@ -97,7 +97,7 @@ pub fn settle<C: Costs, H: History, L: Ledger>(
 /// Puts the keys of the operations whose next action may have become possible by an action: its operation, the partner,
 /// and the operations that need the moment that it gives.
 pub fn follow<C: Costs, H: History, L: Ledger>(
-    state: &State<C, H>,
+    state: &RunState<C, H>,
     queue: &mut Queue,
     action: Timed,
     waiting: &[Need],
@@ -118,7 +118,7 @@ pub fn follow<C: Costs, H: History, L: Ledger>(
 
 // Puts the key of the operation of an action, unless this was its last.
 fn follow_own<C: Costs, H: History, L: Ledger>(
-    state: &State<C, H>,
+    state: &RunState<C, H>,
     queue: &mut Queue,
     action: Timed,
     steps: &mut Steps<L>,
@@ -137,7 +137,7 @@ fn follow_own<C: Costs, H: History, L: Ledger>(
 
 // Puts the key of the partner of an action's operation, if it has one. After a Serve the partner has no more actions.
 fn follow_partner<C: Costs, H: History, L: Ledger>(
-    state: &State<C, H>,
+    state: &RunState<C, H>,
     queue: &mut Queue,
     action: Timed,
     steps: &mut Steps<L>,
@@ -161,7 +161,10 @@ fn follow_partner<C: Costs, H: History, L: Ledger>(
 /// They are read here, because the schedule's rows mostly come from memory, at the same time as what is known of the
 /// operation itself.
 #[inline(always)]
-pub fn waiting_after<'a, C: Costs, H: History>(state: &State<'a, C, H>, action: Timed) -> &'a [Need]
+pub fn waiting_after<'a, C: Costs, H: History>(
+    state: &RunState<'a, C, H>,
+    action: Timed,
+) -> &'a [Need]
     requires { IsOp state.now.plans action.op }
     ensures whom { action.class ≢ Arrive → result.now ≡ waiting_on state.now.plans action.op }
     ensures exist { action.class ≢ Arrive → All (λ need. IsOp state.now.plans (needed action.op need)) result.now }
@@ -174,7 +177,7 @@ pub fn waiting_after<'a, C: Costs, H: History>(state: &State<'a, C, H>, action: 
 
 // Puts the keys of the operations that need the moment that an action gives. An Arrive gives none.
 fn follow_waiting<C: Costs, H: History, L: Ledger>(
-    state: &State<C, H>,
+    state: &RunState<C, H>,
     queue: &mut Queue,
     action: Timed,
     waiting: &[Need],
@@ -205,7 +208,7 @@ fn follow_waiting<C: Costs, H: History, L: Ledger>(
 
 // Puts the key of an operation that has none, if it has a possible action.
 fn refresh<C: Costs, H: History, L: Ledger>(
-    state: &State<C, H>,
+    state: &RunState<C, H>,
     queue: &mut Queue,
     id: OpId,
     steps: &mut Steps<L>,

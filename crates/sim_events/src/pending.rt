@@ -17,7 +17,7 @@ use goal_graph::{Sched, Timed};
 use goal_limits::NoMemory;
 use sim_order::Steps;
 use sim_params::Costs;
-use sim_state::{History, State};
+use sim_state::{History, RunState};
 use std::alloc::Global;
 use std::sync::ledger::{Blank, Ledger};
 
@@ -40,7 +40,7 @@ fn queue_of(alloc: Global, sched: &Sched) -> Result<Queue, NoMemory>
 /// most 10k + 16 comparisons per operation.
 pub fn at_the_start<C: Costs, H: History, L: Ledger>(
     alloc: Global,
-    state: &State<C, H>,
+    state: &RunState<C, H>,
     steps: &mut Steps<L>,
 ) -> Result<Queue, NoMemory>
     requires empty { state.now.history ≡ [] }
@@ -55,7 +55,7 @@ pub fn at_the_start<C: Costs, H: History, L: Ledger>(
 
 // Performs the next action and returns it. `counted` bounds the comparisons by the action and the changes of place.
 fn step<C: Costs, H: History, L: Ledger, R: Ledger, M: Ledger, N: Ledger>(
-    state: &mut State<C, H>,
+    state: &mut RunState<C, H>,
     queue: &mut Queue,
     steps: &mut Steps<L>,
     moves: &mut Steps<R>,
@@ -85,7 +85,7 @@ fn step<C: Costs, H: History, L: Ledger, R: Ledger, M: Ledger, N: Ledger>(
 // per change of place of a station, including those for the keys that are in the queue already. The matcher examines at most
 // eight entries per action, and each need that an action may satisfy is counted once.
 fn run<C: Costs, H: History, L: Ledger, R: Ledger, M: Ledger, N: Ledger>(
-    state: &mut State<C, H>,
+    state: &mut RunState<C, H>,
     queue: &mut Queue,
     steps: &mut Steps<L>,
     moves: &mut Steps<R>,
@@ -108,7 +108,7 @@ fn run<C: Costs, H: History, L: Ledger, R: Ledger, M: Ledger, N: Ledger>(
 /// Performs the possible action with the least key, and returns it. Where no action is possible it returns None and changes
 /// nothing.
 pub fn step_once<C: Costs, H: History, L: Ledger, R: Ledger, M: Ledger, N: Ledger>(
-    state: &mut State<C, H>,
+    state: &mut RunState<C, H>,
     queue: &mut Queue,
     blank: Blank,
     for_moves: Blank,
@@ -141,7 +141,7 @@ pub fn step_once<C: Costs, H: History, L: Ledger, R: Ledger, M: Ledger, N: Ledge
 /// Performs actions until none is possible. The history at the end bounds the comparisons and the entries that the matcher
 /// examines, and gives the exact number of needs that were examined.
 pub fn run_on<C: Costs, H: History, L: Ledger, R: Ledger, M: Ledger, N: Ledger>(
-    state: &mut State<C, H>,
+    state: &mut RunState<C, H>,
     queue: &mut Queue,
     for_moves: Blank,
     steps: &mut Steps<L>,

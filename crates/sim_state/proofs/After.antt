@@ -82,8 +82,8 @@ module _ (plans : List Plan) (costs : CostModel) (h : List Timed) (a : Timed) wh
       happened_new c a.op (plain_act a) (plain h) (is_act_from c a.op (plain_act a) e refl)
 
   -- it had not happened before
-  pub fresh : (c : Class) → Possible plans costs h a → a.class ≡ c → happened c a.op (plain h) ≡ false
-  fresh c p e =
+  pub not_happened_yet : (c : Class) → Possible plans costs h a → a.class ≡ c → happened c a.op (plain h) ≡ false
+  not_happened_yet c p e =
       subst (λ (d : Class). happened d a.op (plain h) ≡ false) e (allowed_fresh plans (is_eager plans costs) (plain h) a.class a.op p.allowed)
 
   -- the start
@@ -113,8 +113,8 @@ module _ (plans : List Plan) (costs : CostModel) (h : List Timed) (a : Timed) wh
   unfolding allowed time
   arriving_is l x k e = ap (arriving_of l x) e
 
-  never : (b : Bool) (n : ℕ) → (if b && false then Some n else None) ≡ None
-  never b n = cond-false _ _ _ (and_right b false refl)
+  if_both_false : (b : Bool) (n : ℕ) → (if b && false then Some n else None) ≡ None
+  if_both_false b n = cond-false _ _ _ (and_right b false refl)
 
   abbrev travel : OpId → ℕ
   travel x = if is_eager plans costs x then flight plans costs x else flight_one plans costs x
@@ -127,16 +127,16 @@ module _ (plans : List Plan) (costs : CostModel) (h : List Timed) (a : Timed) wh
           let send : IsSend plans x = record { bytes = bytes; to = to; tag = tag; kind = k } in
           let same : arriving_of (a ∷ h) x (Some (Send bytes to tag)) ≡ arriving_of h x (Some (Send bytes to tag)) = known_alike (not (happened Arrive x (plain h)) && happened Begin x (plain h)) (not (happened Arrive x (plain (a ∷ h))) && happened Begin x (plain (a ∷ h))) (start plans costs h x + travel x) (start plans costs (a ∷ h) x + travel x) (ap₂ (λ (b c : Bool). not b && c) (happened_same Arrive x e) (happened_same Begin x f)) (λ t. ap (λ (n : ℕ). n + travel x) (start_kept plans costs a h x (started_send plans (plain h) x send ∙ (and_parts (not (happened Arrive x (plain h))) (happened Begin x (plain h)) t).1))) in
           arriving_is (a ∷ h) x _ k ∙ same ∙ sym (arriving_is h x _ k)
-      go (Some (Calc nanos)) k = arriving_is (a ∷ h) x _ k ∙ never _ _ ∙ sym (never _ _) ∙ sym (arriving_is h x _ k)
-      go (Some (Recv room from tag)) k = arriving_is (a ∷ h) x _ k ∙ never _ _ ∙ sym (never _ _) ∙ sym (arriving_is h x _ k)
-      go None k = arriving_is (a ∷ h) x _ k ∙ never _ _ ∙ sym (never _ _) ∙ sym (arriving_is h x _ k)
+      go (Some (Calc nanos)) k = arriving_is (a ∷ h) x _ k ∙ if_both_false _ _ ∙ sym (if_both_false _ _) ∙ sym (arriving_is h x _ k)
+      go (Some (Recv room from tag)) k = arriving_is (a ∷ h) x _ k ∙ if_both_false _ _ ∙ sym (if_both_false _ _) ∙ sym (arriving_is h x _ k)
+      go None k = arriving_is (a ∷ h) x _ k ∙ if_both_false _ _ ∙ sym (if_both_false _ _) ∙ sym (arriving_is h x _ k)
 
   -- only sends arrive
   pub arriving_calc : (l : List Timed) (x : OpId) → IsCalc plans x → time_known plans costs l Arrive x ≡ None
-  arriving_calc l x k = arriving_is l x _ k.kind ∙ never _ _
+  arriving_calc l x k = arriving_is l x _ k.kind ∙ if_both_false _ _
 
   pub arriving_receive : (l : List Timed) (x : OpId) → IsReceive plans x → time_known plans costs l Arrive x ≡ None
-  arriving_receive l x k = arriving_is l x _ k.kind ∙ never _ _
+  arriving_receive l x k = arriving_is l x _ k.kind ∙ if_both_false _ _
 
   -- and what is paired arrives no more
   arriving_paired : (l : List Timed) (x y : OpId) → mate plans costs l x ≡ Some y → time_known plans costs l Arrive x ≡ None
@@ -159,7 +159,7 @@ module _ (plans : List Plan) (costs : CostModel) (h : List Timed) (a : Timed) wh
   -- a send that begins is under way
   pub arriving_begun : IsRun plans costs h → Possible plans costs h a → a.class ≡ Begin → IsSend plans a.op → time_known plans costs (a ∷ h) Arrive a.op ≡ Some (a.time + (if is_eager plans costs a.op then flight plans costs a.op else flight_one plans costs a.op))
   arriving_begun run p e s =
-      let not_begun = fresh Begin p e in
+      let not_begun = not_happened_yet Begin p e in
       let not_arrived : happened Arrive a.op (plain h) ≡ false = false_from_ne_true _ (λ t. both_ways _ not_begun (arrived_begun plans (is_eager plans costs) (plain h) a.op (run_interleaving plans costs h run) t)) in
       let other : is_act Arrive a.op (plain_act a) ≡ false = other_class Arrive a.op (ap (λ (c : Class). place c == 0) e) in
       let under_way : (not (happened Arrive a.op (plain (a ∷ h))) && happened Begin a.op (plain (a ∷ h))) ≡ true = ap₂ (λ (b c : Bool). not b && c) (happened_same Arrive a.op other ∙ not_arrived) (happened_this Begin e) in
@@ -178,7 +178,7 @@ module _ (plans : List Plan) (costs : CostModel) (h : List Timed) (a : Timed) wh
 
   pub there_new : Possible plans costs h a → a.class ≡ Data → delivered_known plans costs (a ∷ h) a.op ≡ Some (a.time + flight plans costs a.op)
   there_new p e =
-      cond-true _ _ _ (happened_this Data e) ∙ ap (λ (n : ℕ). Some (n + flight plans costs a.op)) (since_new (happened Data a.op) a h (fresh Data p e) (happened_this Data e))
+      cond-true _ _ _ (happened_this Data e) ∙ ap (λ (n : ℕ). Some (n + flight plans costs a.op)) (since_new (happened Data a.op) a h (not_happened_yet Data p e) (happened_this Data e))
 
   -- since when it is paired
   since_same : (x : OpId) → mate plans costs (a ∷ h) x ≡ mate plans costs h x → paired_since plans costs (a ∷ h) x ≡ paired_since plans costs h x

@@ -26,7 +26,7 @@ use Rattle.sim_state.proofs.Fits.{cpu_fits, tx_fits, flight_of_eager, flight_of_
 use Rattle.sim_state.proofs.FreeTimes.{free_calc, free_send}
 use Rattle.sim_state.proofs.HoldTimes.{cpu_of_calc, tx_of_calc, cpu_of_eager, tx_of_eager, cpu_of_request, tx_of_request, sends_at_begin}
 use Rattle.sim_state.proofs.Places.{possible_exists}
-use Rattle.sim_state.proofs.Tasks.{calc_of, send_of, receive_of, eager_of, large_of, calc_takes, is_message}
+use Rattle.sim_state.proofs.Tasks.{calc_of, send_of, receive_of, eager_of, rendezvous_of, calc_takes, is_message}
 
 module _ (plans : List Plan) (costs : CostModel) (h : List Timed) (a : Timed) (run : IsRun plans costs h) (within : budget plans costs < 2 ^ 63) (p : Possible plans costs h a) (begins : a.class ≡ Begin) (w : Work) (does : w ≡ work_of plans costs a.op) where
   -- written, these times make known what is known after the action
@@ -96,12 +96,12 @@ module _ (plans : List Plan) (costs : CostModel) (h : List Timed) (a : Timed) (r
         free_send plans costs h a r free s until (ap holds_cpu begins) (until_of until ends) (a.time + gap plans costs a.op) after (sends_at_begin plans costs h a.class a.op eager_send begins) (ap (λ (n : ℕ). a.time + n) (sym (tx_of_eager plans costs h a.class a.op eager_send begins eager))) (ap holds_rx begins)
 
   -- a send with a request before it
-  module _ (is : w.task ≡ task.Large) where
+  module _ (is : w.task ≡ task.Rendezvous) where
     large_send : IsSend plans a.op
     large_send = send_of plans costs a.op w.task task_is (inr is)
 
     large : is_eager plans costs a.op ≡ false
-    large = large_of plans costs a.op w.task task_is is
+    large = rendezvous_of plans costs a.op w.task task_is is
 
     pub large_message : IsMessage plans a.op w.to w.amount
     large_message = is_message plans costs a.op w does large_send

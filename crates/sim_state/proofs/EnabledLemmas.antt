@@ -20,7 +20,7 @@ use Rattle.sim_params.specs.Run.{IsRun}
 use Rattle.sim_params.specs.Laws.{at_its_time}
 use Rattle.sim_params.specs.Budget.{budget}
 use Rattle.sim_params.proofs.ForCallers.{possible_budget, possible_at, run_each, run_interleaving}
-use Rattle.sim_state.specs.declared.entry.Entry.{Entry}
+use Rattle.sim_state.specs.declared.entry.OpState.{OpState}
 use Rattle.sim_state.specs.declared.task.Task.{Task}
 use Rattle.sim_state.specs.declared.task.Task.TheVariants as task
 use Rattle.sim_state.specs.Represents.{Pairing, message_known, entry_known}
@@ -86,9 +86,9 @@ module _ (plans : List Plan) (costs : CostModel) (h : List Timed) (x : OpId) whe
   first_happened c b = ap (λ (d : Class). happened d x (plain h)) (sym b.first)
 
   -- when its message or its request arrives, once it has started and while it is not paired
-  pub arrival_told : IsRun plans costs h → (e : Entry) → e ≡ entry_known plans costs h x → has_started plans x (plain h) ≡ true → mate plans costs h x ≡ None → e.times.awaited ≡ time_known plans costs h Arrive x
+  pub arrival_told : IsRun plans costs h → (e : OpState) → e ≡ entry_known plans costs h x → has_started plans x (plain h) ≡ true → mate plans costs h x ≡ None → e.times.awaited ≡ time_known plans costs h Arrive x
   arrival_told run e told s none =
-      ap (λ (e : Entry). e.times.awaited) told ∙ awaited_unpaired plans costs h x run s none
+      ap (λ (e : OpState). e.times.awaited) told ∙ awaited_unpaired plans costs h x run s none
 
   pub arrival_enabled : (r : Option ℕ) → r ≡ time_known plans costs h Arrive x → option_map (λ (t : ℕ). record { time = t; class = Arrive; op = x }) r ≡ enabled_action plans costs h Arrive x
   arrival_enabled r told =
@@ -102,12 +102,12 @@ module _ (plans : List Plan) (costs : CostModel) (h : List Timed) (x : OpId) whe
       go false = refl
 
   -- whether it has ended, as its entry tells it
-  end_told : (e : Entry) → e ≡ entry_known plans costs h x → has_ended plans (is_eager plans costs) x (plain h) ≡ is_some e.times.end
+  end_told : (e : OpState) → e ≡ entry_known plans costs h x → has_ended plans (is_eager plans costs) x (plain h) ≡ is_some e.times.end
   end_told e told =
-      sym (is_known (has_ended plans (is_eager plans costs) x (plain h)) _) ∙ sym (ap (λ (e : Entry). is_some e.times.end) told)
+      sym (is_known (has_ended plans (is_eager plans costs) x (plain h)) _) ∙ sym (ap (λ (e : OpState). is_some e.times.end) told)
 
   -- a rendezvous send ends as it transfers its data
-  large_end : IsSend plans x → is_eager plans costs x ≡ false → (e : Entry) → e ≡ entry_known plans costs h x → happened Data x (plain h) ≡ is_some e.times.end
+  large_end : IsSend plans x → is_eager plans costs x ≡ false → (e : OpState) → e ≡ entry_known plans costs h x → happened Data x (plain h) ≡ is_some e.times.end
   large_end k large e told =
       sym (ap (λ (c : Class). happened c x (plain h)) (last_of_large plans (is_eager plans costs) x k large)) ∙ end_told e told
 
@@ -152,21 +152,21 @@ module _ (plans : List Plan) (costs : CostModel) (h : List Timed) (x : OpId) whe
     pub at_is : paired_at plans costs h x ≡ p.at
 
   -- the partner that the entry tells
-  partner_told : (e : Entry) (o : Option OpId) → e ≡ entry_known plans costs h x → e.link.partner ≡ o → mate plans costs h x ≡ o
-  partner_told e o told is = sym (ap (λ (e : Entry). e.link.partner) told) ∙ is
+  partner_told : (e : OpState) (o : Option OpId) → e ≡ entry_known plans costs h x → e.link.partner ≡ o → mate plans costs h x ≡ o
+  partner_told e o told is = sym (ap (λ (e : OpState). e.link.partner) told) ∙ is
 
   -- what the entry of a receive that is paired awaits tells since when it is
-  receive_since : IsRun plans costs h → IsReceive plans x → (e : Entry) (m : OpId) → e ≡ entry_known plans costs h x → e.link.partner ≡ Some m → e.times.awaited ≡ Some (paired_at plans costs h x)
+  receive_since : IsRun plans costs h → IsReceive plans x → (e : OpState) (m : OpId) → e ≡ entry_known plans costs h x → e.link.partner ≡ Some m → e.times.awaited ≡ Some (paired_at plans costs h x)
   receive_since run k e m told is =
-      ap (λ (e : Entry). e.times.awaited) told ∙ receive_waits plans costs h x run k m (partner_told e (Some m) told is)
+      ap (λ (e : OpState). e.times.awaited) told ∙ receive_waits plans costs h x run k m (partner_told e (Some m) told is)
 
-  pub receive_pairing : IsRun plans costs h → IsReceive plans x → (e : Entry) (m : OpId) (n : ℕ) → e ≡ entry_known plans costs h x → e.link.partner ≡ Some m → e.times.awaited ≡ Some n → IsPairing (record { with = m; at = n })
+  pub receive_pairing : IsRun plans costs h → IsReceive plans x → (e : OpState) (m : OpId) (n : ℕ) → e ≡ entry_known plans costs h x → e.link.partner ≡ Some m → e.times.awaited ≡ Some n → IsPairing (record { with = m; at = n })
   receive_pairing run k e m n told is since_is = record {
     mate_is = partner_told e (Some m) told is;
     at_is = same_Some (paired_at plans costs h x) n (sym (receive_since run k e m told is) ∙ since_is);
   }
 
-  pub since_there : IsRun plans costs h → IsReceive plans x → (e : Entry) (m : OpId) → e ≡ entry_known plans costs h x → e.link.partner ≡ Some m → e.times.awaited ≡ None → ⊥
+  pub since_there : IsRun plans costs h → IsReceive plans x → (e : OpState) (m : OpId) → e ≡ entry_known plans costs h x → e.link.partner ≡ Some m → e.times.awaited ≡ None → ⊥
   since_there run k e m told is none =
       both_ways _ (ap is_some none) (ap is_some (receive_since run k e m told is))
 
@@ -184,7 +184,7 @@ module _ (plans : List Plan) (costs : CostModel) (h : List Timed) (x : OpId) whe
   paired_arrive k paired = past_not_enabled Arrive (paired_arrived plans costs h x k paired)
 
   -- the Data of a send that is paired
-  module _ (run : IsRun plans costs h) (k : IsSend plans x) (paired : is_some (mate plans costs h x) ≡ true) (e : Entry) (told : e ≡ entry_known plans costs h x) where
+  module _ (run : IsRun plans costs h) (k : IsSend plans x) (paired : is_some (mate plans costs h x) ≡ true) (e : OpState) (told : e ≡ entry_known plans costs h x) where
     -- there is none once it has ended
     pub ended_data : is_some e.times.end ≡ true → None ≡ enabled_action plans costs h Data x
     ended_data s =
@@ -204,7 +204,7 @@ module _ (plans : List Plan) (costs : CostModel) (h : List Timed) (x : OpId) whe
       send_since : e.times.awaited ≡ Some (paired_at plans costs h x)
       send_since =
           let with = cases_some (mate plans costs h x) paired in
-          ap (λ (e : Entry). e.times.awaited) told ∙ send_waits plans costs h x run k unended_fresh with.0 with.1
+          ap (λ (e : OpState). e.times.awaited) told ∙ send_waits plans costs h x run k unended_fresh with.0 with.1
 
       pub waiting_there : e.times.awaited ≡ None → ⊥
       waiting_there none = both_ways _ (ap is_some none) (ap is_some send_since)
@@ -227,31 +227,31 @@ module _ (plans : List Plan) (costs : CostModel) (h : List Timed) (x : OpId) whe
           omega (arith, possible_budget plans costs h (at_its_time plans costs h Data x) (run_each plans costs h run) (possible_at plans costs h Data x can), data_time k)
 
   -- the message of a rendezvous send is available once it has ended, when its data reach the receive
-  pub ended_message : IsRun plans costs h → IsSend plans x → is_eager plans costs x ≡ false → (at : ℕ) (e : Entry) → e ≡ entry_known plans costs h x → is_some e.times.end ≡ true → e.times.awaited ≡ message_known plans costs h (record { with = x; at = at })
+  pub ended_message : IsRun plans costs h → IsSend plans x → is_eager plans costs x ≡ false → (at : ℕ) (e : OpState) → e ≡ entry_known plans costs h x → is_some e.times.end ≡ true → e.times.awaited ≡ message_known plans costs h (record { with = x; at = at })
   ended_message run k large at e told s =
-      ap (λ (e : Entry). e.times.awaited) told ∙ awaited_handed plans costs h x run (large_end k large e told ∙ s) ∙ sym (cond-false _ _ _ large)
+      ap (λ (e : OpState). e.times.awaited) told ∙ awaited_handed plans costs h x run (large_end k large e told ∙ s) ∙ sym (cond-false _ _ _ large)
 
   -- no Serve of a receive that has ended, that is not paired, or whose message is not there
-  ended : IsReceive plans x → (e : Entry) → e ≡ entry_known plans costs h x → happened Serve x (plain h) ≡ is_some e.times.end
-  ended k e told = sym (ended_receive plans (is_eager plans costs) (plain h) x k) ∙ end_told e told
+  served_receive_ended : IsReceive plans x → (e : OpState) → e ≡ entry_known plans costs h x → happened Serve x (plain h) ≡ is_some e.times.end
+  served_receive_ended k e told = sym (ended_receive plans (is_eager plans costs) (plain h) x k) ∙ end_told e told
 
-  pub ended_serve : IsReceive plans x → (e : Entry) → e ≡ entry_known plans costs h x → is_some e.times.end ≡ true → None ≡ enabled_action plans costs h Serve x
-  ended_serve k e told s = past_not_enabled Serve (ended k e told ∙ s)
+  pub ended_serve : IsReceive plans x → (e : OpState) → e ≡ entry_known plans costs h x → is_some e.times.end ≡ true → None ≡ enabled_action plans costs h Serve x
+  ended_serve k e told s = past_not_enabled Serve (served_receive_ended k e told ∙ s)
 
-  unserved : is_served plans (is_eager plans costs) (plain h) (mate plans costs h x) ≡ false → None ≡ enabled_action plans costs h Serve x
-  unserved n =
+  unserved_not_enabled : is_served plans (is_eager plans costs) (plain h) (mate plans costs h x) ≡ false → None ≡ enabled_action plans costs h Serve x
+  unserved_not_enabled n =
       not_enabled Serve (λ p. both_ways _ n (allowed_serve plans (is_eager plans costs) (plain h) x p).1)
 
-  pub unpaired_serve : (e : Entry) → e ≡ entry_known plans costs h x → e.link.partner ≡ None → None ≡ enabled_action plans costs h Serve x
+  pub unpaired_serve : (e : OpState) → e ≡ entry_known plans costs h x → e.link.partner ≡ None → None ≡ enabled_action plans costs h Serve x
   unpaired_serve e told n =
-      unserved (ap (is_served plans (is_eager plans costs) (plain h)) (partner_told e None told n))
+      unserved_not_enabled (ap (is_served plans (is_eager plans costs) (plain h)) (partner_told e None told n))
 
   pub pairing_send : IsReceive plans x → (p : Pairing) → IsPairing p → IsSend plans p.with
   pairing_send k p is = partner_is_send plans (plain h) x p.with k is.mate_is
 
   pub absent_serve : (p : Pairing) → IsPairing p → (r : Option ℕ) → r ≡ message_known plans costs h p → r ≡ None → None ≡ enabled_action plans costs h Serve x
   absent_serve p is r told n =
-      unserved (ap (is_served plans (is_eager plans costs) (plain h)) is.mate_is ∙ go (is_eager plans costs p.with) (happened Data p.with (plain h)) (sym told ∙ n))
+      unserved_not_enabled (ap (is_served plans (is_eager plans costs) (plain h)) is.mate_is ∙ go (is_eager plans costs p.with) (happened Data p.with (plain h)) (sym told ∙ n))
     where
       go : (b d : Bool) → (if b then Some p.at else (if d then Some (since (happened Data p.with) h + flight plans costs p.with) else None)) ≡ None → (b || d) ≡ false
       go true d f = absurd (cc)
@@ -279,9 +279,9 @@ module _ (plans : List Plan) (costs : CostModel) (h : List Timed) (x : OpId) whe
       go false true f = (refl, same_Some later n f)
       go false false f = absurd (cc)
 
-  pub serve_enabled : IsReceive plans x → (e : Entry) → e ≡ entry_known plans costs h x → is_some e.times.end ≡ false → (n t : ℕ) → IsThere n → t ≡ time plans costs h Serve x → Some (record { time = t; class = Serve; op = x }) ≡ enabled_action plans costs h Serve x
+  pub serve_enabled : IsReceive plans x → (e : OpState) → e ≡ entry_known plans costs h x → is_some e.times.end ≡ false → (n t : ℕ) → IsThere n → t ≡ time plans costs h Serve x → Some (record { time = t; class = Serve; op = x }) ≡ enabled_action plans costs h Serve x
   serve_enabled k e told s n t there at =
-      comes_enabled Serve t (ended k e told ∙ s) (ap (may plans (is_eager plans costs) (plain h) Serve x) k.kind ∙ there.served) at
+      comes_enabled Serve t (served_receive_ended k e told ∙ s) (ap (may plans (is_eager plans costs) (plain h) Serve x) k.kind ∙ there.served) at
 
 -- whether a send is eager, as the code reads it
 pub eager_read : (plans : List Plan) (costs : CostModel) (m : OpId) (bytes to tag : ℕ) → kind_at plans m ≡ Some (Send bytes to tag) → costs.eager m.rank to bytes ≡ is_eager plans costs m

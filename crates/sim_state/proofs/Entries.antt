@@ -17,7 +17,7 @@ use Rattle.sim_params.specs.Times.{mate, cpu_hold, Possible}
 use Rattle.sim_params.specs.Run.{IsRun}
 use Rattle.sim_params.proofs.ForCallers.{run_interleaving}
 use Rattle.sim_match.specs.PostsAndArrivals.{is_post_or_arrival, is_post_or_arrival_class, send_for, receive_for}
-use Rattle.sim_state.specs.declared.entry.Entry.{Entry}
+use Rattle.sim_state.specs.declared.entry.OpState.{OpState}
 use Rattle.sim_state.specs.Engine.{start_known, end_known}
 use Rattle.sim_state.specs.Enabled.{time_known}
 use Rattle.sim_state.specs.Links.{Linked}
@@ -25,29 +25,29 @@ use Rattle.sim_state.specs.Tasks.{work_of}
 use Rattle.sim_state.specs.Tables.{with_entry, with_pairing, with_partner}
 use Rattle.sim_state.specs.Represents.{times_known, link_known, entry_known, entry_then}
 use Rattle.sim_state.specs.Awaited.{unmet, awaited_known, delivered_known, paired_since}
-use Rattle.sim_state.proofs.After.{fresh, other_op, other_class, happened_same, start_same, start_new, end_same, end_new, arriving_same, arriving_calc, arriving_receive, arriving_begun, arriving_arrived, awaited_paired, awaited_same, awaited_started, none_unmet, since_none, started_then, started_this, started_still, there_same, there_new, unstarted_unpaired}
+use Rattle.sim_state.proofs.After.{not_happened_yet, other_op, other_class, happened_same, start_same, start_new, end_same, end_new, arriving_same, arriving_calc, arriving_receive, arriving_begun, arriving_arrived, awaited_paired, awaited_same, awaited_started, none_unmet, since_none, started_then, started_this, started_still, there_same, there_new, unstarted_unpaired}
 use Rattle.sim_state.proofs.GivenMoments.{started_was_ready}
 use Rattle.sim_state.proofs.Handed.{arriving_none, or_none, paired_arrived, unarrived_unhanded, undelivered, unstarted_unhanded}
 use Rattle.sim_state.proofs.Started.{arrive_started, data_started, serve_started}
 use Rattle.sim_state.proofs.Pairings.{none_made, other_makes_none, post_none, post_some, arrive_none, arrive_some}
 
-same_entry : (d e : Entry) → d.work ≡ e.work → d.times.start ≡ e.times.start → d.times.end ≡ e.times.end → d.times.awaited ≡ e.times.awaited → d.link ≡ e.link → d ≡ e
+same_entry : (d e : OpState) → d.work ≡ e.work → d.times.start ≡ e.times.start → d.times.end ≡ e.times.end → d.times.awaited ≡ e.times.awaited → d.link ≡ e.link → d ≡ e
 same_entry d e w s n a l =
     λ i. record { work = w i; times = record { start = s i; end = n i; awaited = a i }; link = l i }
 
 -- an entry that says that it is paired with m since that time
-abbrev paired_with : OpId → ℕ → Entry → Entry
+abbrev paired_with : OpId → ℕ → OpState → OpState
 paired_with m at e =
     record e { times = record e.times { awaited = Some at }; link = record { unmet = 0; partner = Some m } }
 
 -- an entry is written, and two entries get their partners
-pair_written : (y m : OpId) (at : ℕ) (e : Entry) (f g : OpId → Entry) → same_op y m ≡ false → g y ≡ paired_with m at e → g m ≡ paired_with y at (f m) → ((x : OpId) → same_op y x ≡ false → same_op m x ≡ false → g x ≡ f x) → (x : OpId) → with_pairing m y at (with_pairing y m at (with_entry y e f)) x ≡ g x
+pair_written : (y m : OpId) (at : ℕ) (e : OpState) (f g : OpId → OpState) → same_op y m ≡ false → g y ≡ paired_with m at e → g m ≡ paired_with y at (f m) → ((x : OpId) → same_op y x ≡ false → same_op m x ≡ false → g x ≡ f x) → (x : OpId) → with_pairing m y at (with_pairing y m at (with_entry y e f)) x ≡ g x
 pair_written y m at e f g differ here there others = entry_written m _ first g second rest
   where
-    base : OpId → Entry
+    base : OpId → OpState
     base = with_entry y e f
 
-    first : OpId → Entry
+    first : OpId → OpState
     first = with_pairing y m at base
 
     second : g m ≡ paired_with y at (first m)
@@ -59,16 +59,16 @@ pair_written y m at e f g differ here there others = entry_written m _ first g s
         elim (cases_op x y) [ inl s ↦ ap g s ∙ here ∙ ap (paired_with m at) (sym (at_entry y e f y refl)) ∙ sym (at_entry y _ base x s) | inr o ↦ others x (same_op_swapped x y o) d ∙ sym (off_entry y _ base x o ∙ off_entry y e f x o) ]
 
 module _ (plans : List Plan) (costs : CostModel) (h : List Timed) (a : Timed) (run : IsRun plans costs h) (possible : Possible plans costs h a) where
-  abbrev before : OpId → Entry
+  abbrev before : OpId → OpState
   before = entry_known plans costs h
 
   -- what is known of one after the action, where it still waits for as many moments
-  abbrev after : OpId → Entry
+  abbrev after : OpId → OpState
   after x =
       record (entry_known plans costs (a ∷ h) x) { link = record (link_known plans costs (a ∷ h) x) { unmet = unmet plans costs h x } }
 
   -- what is written at the action's operation and at the others
-  abbrev pub next : OpId → Entry
+  abbrev pub next : OpId → OpState
   next = entry_then plans costs h a
 
   -- what is awaited by one that another action was of
@@ -76,7 +76,7 @@ module _ (plans : List Plan) (costs : CostModel) (h : List Timed) (a : Timed) (r
   awaited_then x =
       if has_started plans x (plain h) then awaited_known plans costs (a ∷ h) x else awaited_known plans costs h x
 
-  abbrev waiting : OpId → Entry
+  abbrev waiting : OpId → OpState
   waiting x =
       record (after x) { times = record (times_known plans costs (a ∷ h) x) { awaited = awaited_then x } }
 
@@ -103,24 +103,24 @@ module _ (plans : List Plan) (costs : CostModel) (h : List Timed) (a : Timed) (r
       λ i. record { unmet = none i; partner = taken i }
 
   -- the newest action is of another class
-  another : (c d : Class) (x : OpId) → a.class ≡ c → (c ≡ d → ⊥) → is_act d x (plain_act a) ≡ false
-  another c d x e other =
+  other_class_no_act : (c d : Class) (x : OpId) → a.class ≡ c → (c ≡ d → ⊥) → is_act d x (plain_act a) ≡ false
+  other_class_no_act c d x e other =
       false_from_ne_true _ (λ t. other (sym e ∙ is_act_class d x (plain_act a) t))
 
   not_class : (c d : Class) (x : OpId) → a.class ≡ c → (place c == place d) ≡ false → is_act d x (plain_act a) ≡ false
   not_class c d x e f = other_class plans costs h a d x (ap (λ (c : Class). place c == place d) e ∙ f)
 
-  module _ (e : Entry) (was : e ≡ before a.op) where
+  module _ (e : OpState) (was : e ≡ before a.op) where
     work_was : work_of plans costs a.op ≡ e.work
-    work_was = ap (λ (d : Entry). d.work) (sym was)
+    work_was = ap (λ (d : OpState). d.work) (sym was)
 
     start_was : (c : Class) → a.class ≡ c → (c ≡ first_class (kind_at plans a.op) → ⊥) → start_known plans costs (a ∷ h) a.op ≡ e.times.start
     start_was c same other =
-        start_same plans costs h a a.op (another c (first_class (kind_at plans a.op)) a.op same other) ∙ ap (λ (d : Entry). d.times.start) (sym was)
+        start_same plans costs h a a.op (other_class_no_act c (first_class (kind_at plans a.op)) a.op same other) ∙ ap (λ (d : OpState). d.times.start) (sym was)
 
     end_was : (c : Class) → a.class ≡ c → (c ≡ last_class (is_eager plans costs a.op) (kind_at plans a.op) → ⊥) → end_known plans costs (a ∷ h) a.op ≡ e.times.end
     end_was c same other =
-        end_same plans costs h a run a.op (another c (last_class (is_eager plans costs a.op) (kind_at plans a.op)) a.op same other) ∙ ap (λ (d : Entry). d.times.end) (sym was)
+        end_same plans costs h a run a.op (other_class_no_act c (last_class (is_eager plans costs a.op) (kind_at plans a.op)) a.op same other) ∙ ap (λ (d : OpState). d.times.end) (sym was)
 
     allowed_as : (c : Class) → a.class ≡ c → allowed plans (is_eager plans costs) (plain h) c a.op ≡ true
     allowed_as c same =
@@ -129,7 +129,7 @@ module _ (plans : List Plan) (costs : CostModel) (h : List Timed) (a : Timed) (r
     -- what its first action makes it await: when it arrives, or nothing
     awaited_now : (c : Class) → a.class ≡ c → (place c == 2) ≡ false → c ≡ first_class (kind_at plans a.op) → mate plans costs (a ∷ h) a.op ≡ mate plans costs h a.op → awaited_known plans costs (a ∷ h) a.op ≡ time_known plans costs (a ∷ h) Arrive a.op
     awaited_now c same f first m =
-        let before : has_started plans a.op (plain h) ≡ false = ap (λ (d : Class). happened d a.op (plain h)) (sym first) ∙ fresh plans costs h a c possible same in
+        let before : has_started plans a.op (plain h) ≡ false = ap (λ (d : Class). happened d a.op (plain h)) (sym first) ∙ not_happened_yet plans costs h a c possible same in
         let none : delivered_known plans costs (a ∷ h) a.op ≡ None = there_same plans costs h a a.op (not_class c Data a.op same f) ∙ undelivered plans costs h a.op (unstarted_unhanded plans costs h a.op run before) in
         let never : paired_since plans costs (a ∷ h) a.op ≡ None = since_none plans costs (a ∷ h) a.op (m ∙ unstarted_unpaired plans costs h a.op (run_interleaving plans costs h run) before) in
         awaited_started plans costs h a (a ∷ h) a.op (started_this plans costs h a (same ∙ first)) ∙ (λ i. option_or (time_known plans costs (a ∷ h) Arrive a.op) (option_or (none i) (never i))) ∙ or_none (time_known plans costs (a ∷ h) Arrive a.op)
@@ -137,7 +137,7 @@ module _ (plans : List Plan) (costs : CostModel) (h : List Timed) (a : Timed) (r
     -- what an arrival that pairs no one leaves it to await: nothing
     awaited_none : a.class ≡ Arrive → IsSend plans a.op → mate plans costs (a ∷ h) a.op ≡ mate plans costs h a.op → awaited_known plans costs (a ∷ h) a.op ≡ None
     awaited_none c k m =
-        let not_before : happened Arrive a.op (plain h) ≡ false = fresh plans costs h a Arrive possible c in
+        let not_before : happened Arrive a.op (plain h) ≡ false = not_happened_yet plans costs h a Arrive possible c in
         let none : delivered_known plans costs (a ∷ h) a.op ≡ None = there_same plans costs h a a.op (not_class Arrive Data a.op c refl) ∙ undelivered plans costs h a.op (unarrived_unhanded plans costs h a.op run not_before) in
         let never : paired_since plans costs (a ∷ h) a.op ≡ None = since_none plans costs (a ∷ h) a.op (m ∙ not_arrived plans (plain h) a.op k not_before) in
         awaited_started plans costs h a (a ∷ h) a.op (started_still plans costs h a a.op (arrive_started plans costs h a.op (allowed_as Arrive c))) ∙ (λ i. option_or (arriving_arrived plans costs h a c i) (option_or (none i) (never i)))
@@ -152,18 +152,18 @@ module _ (plans : List Plan) (costs : CostModel) (h : List Timed) (a : Timed) (r
     -- it waits for as many moments, and may keep its partner
     link_was : mate plans costs (a ∷ h) a.op ≡ mate plans costs h a.op → (after a.op).link ≡ e.link
     link_was m =
-        ap (λ (o : Option OpId). record { unmet = unmet plans costs h a.op; partner = o }) m ∙ ap (λ (d : Entry). d.link) (sym was)
+        ap (λ (o : Option OpId). record { unmet = unmet plans costs h a.op; partner = o }) m ∙ ap (λ (d : OpState). d.link) (sym was)
 
     -- what a receive that takes its message awaited, it does still
     served_awaited : a.class ≡ Serve → mate plans costs (a ∷ h) a.op ≡ mate plans costs h a.op → awaited_known plans costs (a ∷ h) a.op ≡ e.times.awaited
     served_awaited c m =
-        awaited_same plans costs h a a.op m (not_class Serve Arrive a.op c refl) (not_class Serve Begin a.op c refl) (not_class Serve Data a.op c refl) (serve_started plans costs h a.op (allowed_as Serve c)) ∙ ap (λ (d : Entry). d.times.awaited) (sym was)
+        awaited_same plans costs h a a.op m (not_class Serve Arrive a.op c refl) (not_class Serve Begin a.op c refl) (not_class Serve Data a.op c refl) (serve_started plans costs h a.op (allowed_as Serve c)) ∙ ap (λ (d : OpState). d.times.awaited) (sym was)
 
     -- the table after an action that pairs no one
-    abbrev Becomes : Entry → Type 0
+    abbrev Becomes : OpState → Type 0
     Becomes n = map (with_entry a.op n before) (operations plans) ≡ map next (operations plans)
 
-    one_written : (n : Entry) → ((x : OpId) → mate plans costs (a ∷ h) x ≡ mate plans costs h x) → after a.op ≡ n → Becomes n
+    one_written : (n : OpState) → ((x : OpId) → mate plans costs (a ∷ h) x ≡ mate plans costs h x) → after a.op ≡ n → Becomes n
     one_written n mates now =
         same_tables _ _ (operations plans) (λ i x s. entry_written a.op n before next (own_next ∙ now) (λ x d. other_same x (mates x) d) x)
 
@@ -248,7 +248,7 @@ module _ (plans : List Plan) (costs : CostModel) (h : List Timed) (a : Timed) (r
         one_written _ mates (arrived_entry None e.link c k (awaited_none c k (mates a.op)) (link_was (mates a.op)))
 
     -- the operation that is paired with that of the action
-    abbrev BecomePaired : OpId → Entry → Type 0
+    abbrev BecomePaired : OpId → OpState → Type 0
     BecomePaired m n = map (with_pairing m a.op a.time (with_pairing a.op m a.time (with_entry a.op n before))) (operations plans) ≡ map next (operations plans)
 
     -- it had started before, and is paired since the action

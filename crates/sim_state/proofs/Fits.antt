@@ -16,7 +16,7 @@ use Rattle.sim_params.specs.Run.{IsRun}
 use Rattle.sim_params.specs.Budget.{budget}
 use Rattle.sim_params.specs.Laws.{at_its_time}
 use Rattle.sim_params.proofs.ForCallers.{possible_budget, start_now, since_new, mate_stays, possible_at, run_each, run_interleaving}
-use Rattle.sim_state.proofs.After.{happened_same, happened_this, fresh, other_class}
+use Rattle.sim_state.proofs.After.{happened_same, happened_this, not_happened_yet, other_class}
 
 module _ (plans : List Plan) (costs : CostModel) (h : List Timed) (a : Timed) (run : IsRun plans costs h) (p : Possible plans costs h a) where
   -- the action releases what it holds within the budget
@@ -38,7 +38,7 @@ module _ (plans : List Plan) (costs : CostModel) (h : List Timed) (a : Timed) (r
   flight_fits : a.class ≡ Begin → IsSend plans a.op → a.time + (if is_eager plans costs a.op then flight plans costs a.op else flight_one plans costs a.op) ≤ budget plans costs
   unfolding time
   flight_fits e s =
-      let not_arrived : happened Arrive a.op (plain h) ≡ false = false_from_ne_true _ (λ t. both_ways _ (fresh plans costs h a Begin p e) (arrived_begun plans (is_eager plans costs) (plain h) a.op (run_interleaving plans costs h run) t)) in
+      let not_arrived : happened Arrive a.op (plain h) ≡ false = false_from_ne_true _ (λ t. both_ways _ (not_happened_yet plans costs h a Begin p e) (arrived_begun plans (is_eager plans costs) (plain h) a.op (run_interleaving plans costs h run) t)) in
       let other : is_act Arrive a.op (plain_act a) ≡ false = other_class plans costs h a Arrive a.op (ap (λ (c : Class). place c == 0) e) in
       let still : happened Arrive a.op (plain (a ∷ h)) ≡ false = happened_same plans costs h a Arrive a.op other ∙ not_arrived in
       let may_arrive : may plans (is_eager plans costs) (plain (a ∷ h)) Arrive a.op (kind_at plans a.op) ≡ true = ap (may plans (is_eager plans costs) (plain (a ∷ h)) Arrive a.op) s.kind ∙ happened_this plans costs h a Begin e in
@@ -83,7 +83,7 @@ module _ (plans : List Plan) (costs : CostModel) (h : List Timed) (a : Timed) (r
           let r = partner_is_receive plans (plain h) a.op x s with.1 in
           let back : mate plans costs h x ≡ Some a.op = partners_mutual plans eager (plain h) a.op x (run_interleaving plans costs h run) with.1 in
           let back_now : mate plans costs (a ∷ h) x ≡ Some a.op = mate_stays plans costs a h x a.op back in
-          let unsent = fresh plans costs h a Data p e in
+          let unsent = not_happened_yet plans costs h a Data p e in
           let unserved : happened Serve x (plain h) ≡ false = false_from_ne_true _ (λ t. absent large unsent (subst (λ o. is_served plans eager (plain h) o ≡ true) back (served_message plans eager (plain h) x (run_interleaving plans costs h run) t))) in
           let other : is_act Serve x (plain_act a) ≡ false = other_class plans costs h a Serve x (ap (λ (c : Class). place c == 1) e) in
           let still : happened Serve x (plain (a ∷ h)) ≡ false = happened_same plans costs h a Serve x other ∙ unserved in

@@ -17,14 +17,14 @@ shares_same place x y (Some o) None = refl
 shares_same place x y None p = refl
 
 -- another hold
-one_more : (place : Op → ℕ) (plans old : List Plan) (hs : List Hold) (y x : OpId) (was until : ℕ) → old ≡ plans → free_at place old hs x ≡ was → free_at place old (hold y until ∷ hs) x ≡ max was (if same_place place x (op_at plans x) y (op_at plans y) then until else 0)
+free_after_hold : (place : Op → ℕ) (plans old : List Plan) (hs : List Hold) (y x : OpId) (was until : ℕ) → old ≡ plans → free_at place old hs x ≡ was → free_at place old (hold y until ∷ hs) x ≡ max was (if same_place place x (op_at plans x) y (op_at plans y) then until else 0)
 unfolding free_at
-one_more place plans old hs y x was until e f =
+free_after_hold place plans old hs y x was until e f =
     ap₂ (λ (n : ℕ) (b : Bool). max n (if b then until else 0)) f (ap (λ (ps : List Plan). shares place ps x y) e ∙ shares_same place x y (op_at plans x) (op_at plans y))
 
-held : (b c : Bool) (m until n : ℕ) → b ≡ true → until ≡ n → max m (if c then until else 0) ≡ max m (if b && c then n else 0)
-held true c m until n e f = ap (λ (n : ℕ). max m (if c then n else 0)) f
-held false c m until n e f = absurd (cc)
+held_alike : (b c : Bool) (m until n : ℕ) → b ≡ true → until ≡ n → max m (if c then until else 0) ≡ max m (if b && c then n else 0)
+held_alike true c m until n e f = ap (λ (n : ℕ). max m (if c then n else 0)) f
+held_alike false c m until n e f = absurd (cc)
 
 not_and : (b c : Bool) (m n : ℕ) → b ≡ false → m ≡ max m (if b && c then n else 0)
 not_and true c m n e = absurd (cc)
@@ -48,17 +48,17 @@ module _ (plans : List Plan) (costs : CostModel) (h : List Timed) (a : Timed) wh
     cpu_more : holds_cpu a.class ≡ true → until ≡ a.time + cpu_hold plans costs h a.class a.op (kind_at plans a.op) → (x : OpId) → free_at (λ (o : Op). o.cpu) r.plans (hold a.op until ∷ r.cpu) x ≡ cpu plans costs (a ∷ h) x
     unfolding cpu
     cpu_more e f x =
-        one_more (λ (o : Op). o.cpu) plans r.plans r.cpu a.op x (cpu plans costs h x) until before.same_plans (before.cpus x) ∙ held (holds_cpu a.class) _ _ until _ e f
+        free_after_hold (λ (o : Op). o.cpu) plans r.plans r.cpu a.op x (cpu plans costs h x) until before.same_plans (before.cpus x) ∙ held_alike (holds_cpu a.class) _ _ until _ e f
 
     tx_more : holds_tx a.class (kind_at plans a.op) ≡ true → until ≡ a.time + tx_hold plans costs a.class a.op (kind_at plans a.op) → (x : OpId) → free_at (λ (o : Op). o.nic) r.plans (hold a.op until ∷ r.tx) x ≡ tx plans costs (a ∷ h) x
     unfolding tx
     tx_more e f x =
-        one_more (λ (o : Op). o.nic) plans r.plans r.tx a.op x (tx plans costs h x) until before.same_plans (before.senders x) ∙ held (holds_tx a.class (kind_at plans a.op)) _ _ until _ e f
+        free_after_hold (λ (o : Op). o.nic) plans r.plans r.tx a.op x (tx plans costs h x) until before.same_plans (before.senders x) ∙ held_alike (holds_tx a.class (kind_at plans a.op)) _ _ until _ e f
 
     rx_more : holds_rx a.class ≡ true → until ≡ a.time + rx_hold plans costs h a.class a.op (kind_at plans a.op) → (x : OpId) → free_at (λ (o : Op). o.nic) r.plans (hold a.op until ∷ r.rx) x ≡ rx plans costs (a ∷ h) x
     unfolding rx
     rx_more e f x =
-        one_more (λ (o : Op). o.nic) plans r.plans r.rx a.op x (rx plans costs h x) until before.same_plans (before.receivers x) ∙ held (holds_rx a.class) _ _ until _ e f
+        free_after_hold (λ (o : Op). o.nic) plans r.plans r.rx a.op x (rx plans costs h x) until before.same_plans (before.receivers x) ∙ held_alike (holds_rx a.class) _ _ until _ e f
 
   module _ (r : Holds) (before : AreFreeTimes plans costs h r) where
     -- a Post and an Arrive hold nothing

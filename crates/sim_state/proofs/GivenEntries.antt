@@ -18,7 +18,7 @@ use Rattle.sim_params.specs.Times.{greatest, met_at, Possible}
 use Rattle.sim_params.specs.Run.{IsRun}
 use Rattle.sim_params.specs.Budget.{budget}
 use Rattle.sim_params.proofs.ForCallers.{run_each, within_budget}
-use Rattle.sim_state.specs.declared.entry.Entry.{Entry}
+use Rattle.sim_state.specs.declared.entry.OpState.{OpState}
 use Rattle.sim_state.specs.declared.entry.Times.{Times}
 use Rattle.sim_state.specs.Awaited.{unmet, last_given, awaited_known}
 use Rattle.sim_state.specs.Given.{given_times, with_given, moment_in}
@@ -55,11 +55,11 @@ module _ (plans : List Plan) (costs : CostModel) (h : List Timed) (a : Timed) wh
   given_last ns y = greatest (given_to plans costs h a y) ns
 
   -- this entry, which gets a moment this late, and how many it waits for then
-  abbrev given_entry : ℕ → ℕ → Entry → Entry
+  abbrev given_entry : ℕ → ℕ → OpState → OpState
   given_entry n left e = record e { times = given_times n e.times; link = record e.link { unmet = left } }
 
   -- the entry of y, after the first of those entries are given theirs, and before the rest are
-  abbrev pub entry_so_far : List Need → List Need → OpId → Entry
+  abbrev pub entry_so_far : List Need → List Need → OpId → OpState
   entry_so_far done rest y =
       given_entry (given_last done y) (unmet_left rest y) (entry_then plans costs h a y)
 
@@ -68,15 +68,15 @@ module _ (plans : List Plan) (costs : CostModel) (h : List Timed) (a : Timed) wh
   awaited_then x = if has_started plans x (plain h) then awaited_known plans costs (a ∷ h) x else awaited_known plans costs h x
 
   -- what is known of x since, except for what it awaits and how many moments it waits for
-  abbrev entry_with : OpId → Option ℕ → ℕ → Entry
+  abbrev entry_with : OpId → Option ℕ → ℕ → OpState
   entry_with x o n =
       record (entry_known plans costs (a ∷ h) x) { times = record (times_known plans costs (a ∷ h) x) { awaited = o }; link = record (link_known plans costs (a ∷ h) x) { unmet = n } }
 
   -- the entry of the action's operation before those moments are given, and that of another
-  abbrev own_then : OpId → Entry
+  abbrev own_then : OpId → OpState
   own_then x = entry_with x (awaited_known plans costs (a ∷ h) x) (unmet plans costs h x)
 
-  abbrev other_then : OpId → Entry
+  abbrev other_then : OpId → OpState
   other_then x = entry_with x (awaited_then x) (unmet plans costs h x)
 
   own_is : (y : OpId) → y ≡ a.op → entry_then plans costs h a y ≡ own_then y
@@ -88,7 +88,7 @@ module _ (plans : List Plan) (costs : CostModel) (h : List Timed) (a : Timed) wh
   -- before that it waits for as many as before the action
   unmet_then : (y : OpId) → (entry_then plans costs h a y).link.unmet ≡ unmet plans costs h y
   unmet_then y =
-      elim (cases_op y a.op) [ inl e ↦ ap (λ (d : Entry). d.link.unmet) (own_is y e) | inr d ↦ ap (λ (d : Entry). d.link.unmet) (other_is y d) ]
+      elim (cases_op y a.op) [ inl e ↦ ap (λ (d : OpState). d.link.unmet) (own_is y e) | inr d ↦ ap (λ (d : OpState). d.link.unmet) (other_is y d) ]
 
   -- the moment of the action's operation
   known_moment : (w : When) → moment_in (times_known plans costs (a ∷ h) a.op) w ≡ (if there_now plans costs h a w a.op then Some (met_at plans costs (a ∷ h) w a.op) else None)
@@ -218,7 +218,7 @@ module _ (plans : List Plan) (costs : CostModel) (h : List Timed) (a : Timed) wh
       pub entry_last : entry_so_far ws [] y ≡ entry_known plans costs (a ∷ h) y
       entry_last = elim (cases_op y a.op) [ inl e ↦ own e | inr d ↦ other d ]
         where
-          given : Entry → Entry
+          given : OpState → OpState
           given = given_entry (given_last ws y) (unmet_left [] y)
 
           left : unmet_left [] y ≡ unmet plans costs (a ∷ h) y

@@ -19,7 +19,7 @@ use Rattle.sim_params.specs.Times.{met_at, Possible}
 use Rattle.sim_params.specs.Run.{IsRun}
 use Rattle.sim_params.proofs.ForCallers.{start_kept, end_kept, run_each, run_interleaving}
 use Rattle.sim_state.specs.Awaited.{gives}
-use Rattle.sim_state.proofs.After.{other_op, happened_same, fresh}
+use Rattle.sim_state.proofs.After.{other_op, happened_same, not_happened_yet}
 
 -- an arrival gives none
 pub gives_none : (c : Class) (w : When) → c ≡ Arrive → gives c w ≡ false
@@ -97,10 +97,10 @@ module _ (plans : List Plan) (costs : CostModel) (h : List Timed) (a : Timed) wh
 
   module _ (run : IsRun plans costs h) (p : Possible plans costs h a) where
     not_started : (c : Class) → a.class ≡ c → first_class (kind_at plans a.op) ≡ c → was_there AfterStart a.op ≡ false
-    not_started c e f = ap (λ (d : Class). happened d a.op (plain h)) f ∙ fresh plans costs h a c p e
+    not_started c e f = ap (λ (d : Class). happened d a.op (plain h)) f ∙ not_happened_yet plans costs h a c p e
 
     not_ended : (c : Class) → a.class ≡ c → last_class (is_eager plans costs a.op) (kind_at plans a.op) ≡ c → was_there AfterEnd a.op ≡ false
-    not_ended c e f = ap (λ (d : Class). happened d a.op (plain h)) f ∙ fresh plans costs h a c p e
+    not_ended c e f = ap (λ (d : Class). happened d a.op (plain h)) f ∙ not_happened_yet plans costs h a c p e
 
     is_allowed : (c : Class) → a.class ≡ c → allowed plans (is_eager plans costs) (plain h) c a.op ≡ true
     is_allowed c e =

@@ -12,7 +12,7 @@ use Rattle.goal_graph.specs.Concerned.{waiting_on}
 use Rattle.sim_params.specs.Costs.{CostModel}
 use Rattle.sim_params.specs.Times.{met_at, Possible}
 use Rattle.sim_params.specs.Run.{IsRun}
-use Rattle.sim_state.specs.declared.entry.Entry.{Entry}
+use Rattle.sim_state.specs.declared.entry.OpState.{OpState}
 use Rattle.sim_state.specs.Awaited.{gives, given_by}
 use Rattle.sim_state.specs.Given.{with_given, IsWaiting}
 use Rattle.sim_state.specs.Represents.{entry_known, entry_then}
@@ -25,7 +25,7 @@ abbrev pub may_give : Class → Need → Bool
 may_give c d = gives c d.when
 
 module _ (plans : List Plan) (costs : CostModel) (h : List Timed) (a : Timed) where
-  abbrev entries_so_far : List Need → List Need → List Entry
+  abbrev entries_so_far : List Need → List Need → List OpState
   entries_so_far done rest = map (entry_so_far plans costs h a done rest) (operations plans)
 
   module _ (ws : List Need) (k : ℕ) (nothing : Need) (within : k < length ws) where
@@ -40,16 +40,16 @@ module _ (plans : List Plan) (costs : CostModel) (h : List Timed) (a : Timed) wh
     given_counted m n l e f g = omega (arith, f, g, count_by_more_yes (may_give a.class) ws k nothing within e)
 
     -- an entry that is given none
-    pub passed_entries : (es : List Entry) → is_given plans costs h a next.when ≡ false → es ≡ entries_so_far (take k ws) (drop k ws) → es ≡ entries_so_far (take (k + 1) ws) (drop (k + 1) ws)
+    pub passed_entries : (es : List OpState) → is_given plans costs h a next.when ≡ false → es ≡ entries_so_far (take k ws) (drop k ws) → es ≡ entries_so_far (take (k + 1) ws) (drop (k + 1) ws)
     passed_entries es none table =
         table ∙ ap (entries_so_far (take k ws)) (drop_more ws k nothing within) ∙ sym (λ i. map (λ (y : OpId). entry_passed plans costs h a next none (take k ws) (drop (k + 1) ws) y i) (operations plans)) ∙ sym (ap (λ (done : List Need). entries_so_far done (drop (k + 1) ws)) (take_more ws k nothing within))
 
     -- an entry that is given its moment
-    module _ (given : is_given plans costs h a next.when ≡ true) (es : List Entry) (table : es ≡ entries_so_far (take k ws) (drop k ws)) where
+    module _ (given : is_given plans costs h a next.when ≡ true) (es : List OpState) (table : es ≡ entries_so_far (take k ws) (drop k ws)) where
       abbrev later : OpId
       later = needed a.op next
 
-      abbrev before : OpId → Entry
+      abbrev before : OpId → OpState
       before = entry_so_far plans costs h a (take k ws) (next ∷ drop (k + 1) ws)
 
       pub entries_before : es ≡ map before (operations plans)
@@ -58,7 +58,7 @@ module _ (plans : List Plan) (costs : CostModel) (h : List Timed) (a : Timed) wh
       pub still_waiting : IsWaiting plans es later
       still_waiting = (before, entries_before, some_left plans costs h a next given (drop (k + 1) ws))
 
-      pub given_entries : (new : List Entry) (m : ℕ) → m ≡ met_at plans costs (a ∷ h) next.when a.op → ((f : OpId → Entry) → es ≡ map f (operations plans) → new ≡ map (with_given later m f) (operations plans)) → new ≡ entries_so_far (take (k + 1) ws) (drop (k + 1) ws)
+      pub given_entries : (new : List OpState) (m : ℕ) → m ≡ met_at plans costs (a ∷ h) next.when a.op → ((f : OpId → OpState) → es ≡ map f (operations plans) → new ≡ map (with_given later m f) (operations plans)) → new ≡ entries_so_far (take (k + 1) ws) (drop (k + 1) ws)
       given_entries new m is written =
           written before entries_before ∙ (λ j. map (λ (y : OpId). entry_given plans costs h a next given m is (take k ws) (drop (k + 1) ws) y j) (operations plans)) ∙ sym (ap (λ (done : List Need). entries_so_far done (drop (k + 1) ws)) (take_more ws k nothing within))
 
@@ -70,11 +70,11 @@ module _ (plans : List Plan) (costs : CostModel) (h : List Timed) (a : Timed) wh
 
     module _ (run : IsRun plans costs h) (p : Possible plans costs h a) where
       -- before the first
-      pub first_entries : (es : List Entry) → es ≡ map (entry_then plans costs h a) (operations plans) → es ≡ entries_so_far [] ws
+      pub first_entries : (es : List OpState) → es ≡ map (entry_then plans costs h a) (operations plans) → es ≡ entries_so_far [] ws
       first_entries es table =
           table ∙ (λ i. map (λ (y : OpId). entry_first plans costs h a run p ws whom y i) (operations plans))
 
       -- after the last
-      pub last_entries : (es : List Entry) → es ≡ entries_so_far ws [] → es ≡ map (entry_known plans costs (a ∷ h)) (operations plans)
+      pub last_entries : (es : List OpState) → es ≡ entries_so_far ws [] → es ≡ map (entry_known plans costs (a ∷ h)) (operations plans)
       last_entries es table =
           table ∙ (λ i. map (λ (y : OpId). entry_last plans costs h a run p ws whom y i) (operations plans))

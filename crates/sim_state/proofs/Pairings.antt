@@ -20,8 +20,8 @@ use Rattle.sim_params.proofs.ForCallers.{run_interleaving}
 use Rattle.sim_match.specs.PostsAndArrivals.{is_post_or_arrival, is_post_or_arrival_class, send_for, receive_for}
 use Rattle.sim_match.proofs.ForCallers.{send_for_filtered, receive_for_filtered}
 
-unpaired : (ps : List Pair) (x : OpId) → is_paired ps x ≡ false → partner ps x ≡ None
-unpaired ps x e = go (partner ps x) refl
+unpaired_no_partner : (ps : List Pair) (x : OpId) → is_paired ps x ≡ false → partner ps x ≡ None
+unpaired_no_partner ps x e = go (partner ps x) refl
   where
     go : (o : Option OpId) → partner ps x ≡ o → o ≡ None
     go None s = refl
@@ -79,9 +79,9 @@ module _ (plans : List Plan) (costs : CostModel) (h : List Timed) (a : Timed) wh
 
         go : ((plain_act a ≡ act_of Arrive p.send) × (is_paired (pairs plans (plain h)) p.recv ≡ false)) ⊎ ((plain_act a ≡ act_of Post p.recv) × (is_paired (pairs plans (plain h)) p.send ≡ false)) → (mate plans costs h p.send ≡ None) × (mate plans costs h p.recv ≡ None)
         go (inl (e, free)) =
-            (not_arrived plans (plain h) p.send (fits_send plans p.recv p.send fit) (fresh _ e), unpaired _ p.recv free)
+            (not_arrived plans (plain h) p.send (fits_send plans p.recv p.send fit) (fresh _ e), unpaired_no_partner _ p.recv free)
         go (inr (e, free)) =
-            (unpaired _ p.send free, not_posted plans (plain h) p.recv (fits_receive plans p.recv p.send fit) (fresh _ e))
+            (unpaired_no_partner _ p.send free, not_posted plans (plain h) p.recv (fits_receive plans p.recv p.send fit) (fresh _ e))
 
     listed_first : (p : Pair) → pair_made ≡ Some p → IsListed p (pairs plans (plain (a ∷ h)))
     unfolding plain pairs

@@ -20,9 +20,9 @@ module _ (plans : List Plan) (costs : CostModel) (x : OpId) where
   task_by k = (work_by plans costs x k).task
 
   -- the task of a send
-  pub send_task : (b : Bool) → IsSend plans x → b ≡ is_eager plans costs x → (if b then task.Eager else task.Large) ≡ task_of plans costs x
+  pub send_task : (b : Bool) → IsSend plans x → b ≡ is_eager plans costs x → (if b then task.Eager else task.Rendezvous) ≡ task_of plans costs x
   send_task b send e =
-      ap (λ (b : Bool). if b then task.Eager else task.Large) e ∙ sym (ap task_by send.kind)
+      ap (λ (b : Bool). if b then task.Eager else task.Rendezvous) e ∙ sym (ap task_by send.kind)
 
   -- an operation has a kind
   has_kind : IsOp plans x → kind_at plans x ≡ None → ⊥
@@ -35,11 +35,11 @@ module _ (plans : List Plan) (costs : CostModel) (x : OpId) where
           differ : Some o.kind ≡ None → ⊥
           differ f = cc
 
-  calc_not_send : (b : Bool) → task.Calc ≡ (if b then task.Eager else task.Large) → ⊥
+  calc_not_send : (b : Bool) → task.Calc ≡ (if b then task.Eager else task.Rendezvous) → ⊥
   calc_not_send true e = cc
   calc_not_send false e = cc
 
-  receive_not_send : (b : Bool) → task.Receive ≡ (if b then task.Eager else task.Large) → ⊥
+  receive_not_send : (b : Bool) → task.Receive ≡ (if b then task.Eager else task.Rendezvous) → ⊥
   receive_not_send true e = cc
   receive_not_send false e = cc
 
@@ -62,10 +62,10 @@ module _ (plans : List Plan) (costs : CostModel) (x : OpId) where
       go (Some (Send bytes to tag)) k s = absurd (receive_not_send (is_eager plans costs x) s)
       go (Some (Recv room from tag)) k s = record { room = room; from = from; tag = tag; kind = k }
 
-  pub send_of : (s : Task) → s ≡ task_of plans costs x → (s ≡ task.Eager) ⊎ (s ≡ task.Large) → IsSend plans x
+  pub send_of : (s : Task) → s ≡ task_of plans costs x → (s ≡ task.Eager) ⊎ (s ≡ task.Rendezvous) → IsSend plans x
   send_of s e f = go (kind_at plans x) refl f
     where
-      go : (k : Option Kind) → kind_at plans x ≡ k → (s ≡ task.Eager) ⊎ (s ≡ task.Large) → IsSend plans x
+      go : (k : Option Kind) → kind_at plans x ≡ k → (s ≡ task.Eager) ⊎ (s ≡ task.Rendezvous) → IsSend plans x
       go None k (inl f) = let d = sym f ∙ e ∙ ap task_by k in absurd (cc d)
       go None k (inr f) = let d = sym f ∙ e ∙ ap task_by k in absurd (cc d)
       go (Some (Calc nanos)) k (inl f) = let d = sym f ∙ e ∙ ap task_by k in absurd (cc d)
@@ -78,14 +78,14 @@ module _ (plans : List Plan) (costs : CostModel) (x : OpId) where
   pub eager_of : (s : Task) → s ≡ task_of plans costs x → s ≡ task.Eager → is_eager plans costs x ≡ true
   eager_of s e f = go (is_eager plans costs x) (send_task _ (send_of s e (inl f)) refl ∙ sym e ∙ f)
     where
-      go : (b : Bool) → (if b then task.Eager else task.Large) ≡ task.Eager → b ≡ true
+      go : (b : Bool) → (if b then task.Eager else task.Rendezvous) ≡ task.Eager → b ≡ true
       go true d = refl
       go false d = absurd (cc)
 
-  pub large_of : (s : Task) → s ≡ task_of plans costs x → s ≡ task.Large → is_eager plans costs x ≡ false
-  large_of s e f = go (is_eager plans costs x) (send_task _ (send_of s e (inr f)) refl ∙ sym e ∙ f)
+  pub rendezvous_of : (s : Task) → s ≡ task_of plans costs x → s ≡ task.Rendezvous → is_eager plans costs x ≡ false
+  rendezvous_of s e f = go (is_eager plans costs x) (send_task _ (send_of s e (inr f)) refl ∙ sym e ∙ f)
     where
-      go : (b : Bool) → (if b then task.Eager else task.Large) ≡ task.Large → b ≡ false
+      go : (b : Bool) → (if b then task.Eager else task.Rendezvous) ≡ task.Rendezvous → b ≡ false
       go true d = absurd (cc)
       go false d = refl
 

@@ -11,7 +11,7 @@ use Rattle.sim_state.specs.declared.fault.EngineFault.{EngineFault}
 use Rattle.sim_state.specs.declared.fault.EngineFault.TheVariants.{Budget, NoMemory}
 
 -- the plans of its schedule, its costs, and the actions so far, the newest first
-pub record View (C : Type 0) : Type 0 where
+pub record RunSoFar (C : Type 0) : Type 0 where
   pub plans : List Plan
   pub costs : C
   pub history : List Timed

@@ -1,7 +1,7 @@
 -- What a reader must believe.
 pub mod Engine
 -- What only the code keeps.
-pub mod Moments
+pub mod OptionalTimes
 pub mod Links
 pub mod Unkept
 pub mod Tables

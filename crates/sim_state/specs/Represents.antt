@@ -13,7 +13,7 @@ use Rattle.sim_params.specs.Run.{IsRun}
 use Rattle.sim_params.specs.Budget.{budget}
 use Rattle.sim_match.specs.PostsAndArrivals.{PostsAndArrivals, is_post_or_arrival}
 use Rattle.sim_resources.specs.FreeTimes.{Holds, cpu_free, tx_free, rx_free}
-use Rattle.sim_state.specs.declared.entry.Entry.{Entry}
+use Rattle.sim_state.specs.declared.entry.OpState.{OpState}
 use Rattle.sim_state.specs.declared.entry.Times.{Times}
 use Rattle.sim_state.specs.Engine.{start_known, end_known}
 use Rattle.sim_state.specs.Links.{Linked}
@@ -43,7 +43,7 @@ module _ (plans : List Plan) (costs : CostModel) (h : List Timed) where
   link_known x = record { unmet = unmet plans costs h x; partner = mate plans costs h x }
 
   -- what is kept of x
-  abbrev pub entry_known : OpId → Entry
+  abbrev pub entry_known : OpId → OpState
   entry_known x = record {
     work = work_of plans costs x;
     times = times_known x;
@@ -63,7 +63,7 @@ module _ (plans : List Plan) (costs : CostModel) (h : List Timed) where
     pub events : matcher.actions ≡ filter is_post_or_arrival (plain h)
 
   -- there is an entry for each operation, in their order, and room for each action of a run
-  pub record Represents (entries : List Entry) (matcher : PostsAndArrivals) (res : Holds) (has_room : ℕ → Type 0) : Type 0 where
+  pub record Represents (entries : List OpState) (matcher : PostsAndArrivals) (res : Holds) (has_room : ℕ → Type 0) : Type 0 where
     pub accepted : IsAccepted plans
     pub within : budget plans costs < 2 ^ 63
     pub run : IsRun plans costs h
@@ -75,7 +75,7 @@ module _ (plans : List Plan) (costs : CostModel) (h : List Timed) where
 -- The entry of x after an action, before this gives its moments to others: what is known then, but each operation
 -- waits for as many moments as before, and one that has not started awaits the same as before.
 module _ (plans : List Plan) (costs : CostModel) (h : List Timed) (a : Timed) where
-  abbrev pub entry_then : OpId → Entry
+  abbrev pub entry_then : OpId → OpState
   entry_then =
       with_entry a.op
       (record (entry_known plans costs (a ∷ h) a.op) { link = record (link_known plans costs (a ∷ h) a.op) { unmet = unmet plans costs h a.op } })

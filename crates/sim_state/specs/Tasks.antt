@@ -29,7 +29,7 @@ module _ (plans : List Plan) (costs : CostModel) (x : OpId) where
   work_by (Some (Send bytes to tag)) = record {
     amount = bytes;
     to = to;
-    task = if is_eager plans costs x then task.Eager else task.Large;
+    task = if is_eager plans costs x then task.Eager else task.Rendezvous;
     is_needed = is_needed plans x;
   }
   work_by (Some (Recv room from tag)) = record { amount = 0; to = 0; task = task.Receive; is_needed = is_needed plans x }

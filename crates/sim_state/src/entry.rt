@@ -3,13 +3,13 @@ ghost use Rattle.std.specs.Prelude.{◌≡◌, ◌<◌, ◌^◌, List, length, m
 ghost use Rattle.goal_graph.specs.declared.action.OpId.{OpId};
 ghost use Rattle.goal_graph.specs.Schedule.{operations};
 ghost use Rattle.goal_graph.specs.Fault.{IsOp};
-ghost use Rattle.sim_state.specs.declared.entry.Entry.{Entry};
+ghost use Rattle.sim_state.specs.declared.entry.OpState.{OpState};
 ghost use Rattle.sim_state.specs.Represents.{entry_known};
 ghost use Rattle.sim_state.specs.Given.{given_times, with_given, IsWaiting};
 ghost use Rattle.sim_state.specs.Tables.{fresh_entry, with_times, with_pairing, with_change};
 
 use crate::link::Link;
-use crate::moment::Moment;
+use crate::optional_time::OptionalTime;
 use crate::work::{Work, work_of};
 use goal_graph::{OpId, Sched, entry_of};
 use sim_params::Costs;
@@ -19,13 +19,13 @@ use std::alloc::{AllocError, Global};
 #[derive(Clone, Copy)]
 pub struct Times {
     /// When it started.
-    pub start: Moment,
+    pub start: OptionalTime,
     /// When it ends.
-    pub end: Moment,
+    pub end: OptionalTime,
     /// What it waits for. Before it starts, this is the last known moment that it needs, or 0 without any. Then it is
     /// the arrival of its message or its request; once it is paired, the time of this; once a rendezvous send has
     /// transferred its data, when they reach the receive.
-    pub awaited: Moment,
+    pub awaited: OptionalTime,
 }
 
 impl Times {
@@ -34,9 +34,9 @@ impl Times {
         ensures { result ≡ record { start = None; end = None; awaited = Some 0 } }
     {
         Times {
-            start: Moment::NONE,
-            end: Moment::NONE,
-            awaited: Moment::at(0),
+            start: OptionalTime::NONE,
+            end: OptionalTime::NONE,
+            awaited: OptionalTime::at(0),
         }
     }
 
@@ -57,7 +57,7 @@ impl Times {
         ensures { result ≡ record self { start = Some at } }
     {
         Times {
-            start: Moment::at(at),
+            start: OptionalTime::at(at),
             ..self
         }
     }
@@ -68,7 +68,7 @@ impl Times {
         ensures { result ≡ record self { end = Some at } }
     {
         Times {
-            end: Moment::at(at),
+            end: OptionalTime::at(at),
             ..self
         }
     }
@@ -80,7 +80,7 @@ impl Times {
         ensures { result ≡ record self { awaited = Some at } }
     {
         Times {
-            awaited: Moment::at(at),
+            awaited: OptionalTime::at(at),
             ..self
         }
     }
@@ -90,7 +90,7 @@ impl Times {
         ensures { result ≡ record self { awaited = None } }
     {
         Times {
-            awaited: Moment::NONE,
+            awaited: OptionalTime::NONE,
             ..self
         }
     }
@@ -99,7 +99,7 @@ impl Times {
 /// What is known of an operation, in 48 bytes. It is small, because a run mostly waits for its tables to come from
 /// memory.
 #[derive(Clone, Copy)]
-pub struct Entry {
+pub struct OpState {
     /// What it does.
     pub work: Work,
     /// Its times.
@@ -129,12 +129,12 @@ impl Change {
     }
 }
 
-impl Entry {
+impl OpState {
     // The entry of an operation that has done nothing and needs `unmet` moments.
-    fn first(work: Work, unmet: u32) -> Entry
+    fn first(work: Work, unmet: u32) -> OpState
         ensures { result ≡ fresh_entry work unmet }
     {
-        Entry {
+        OpState {
             work,
             times: Times::first(),
             link: Link::waiting(unmet),
@@ -147,44 +147,44 @@ pub fn first_entries<C: Costs>(
     alloc: Global,
     sched: &Sched,
     costs: &C,
-) -> Result<Vec<Entry>, AllocError>
+) -> Result<Vec<OpState>, AllocError>
     ensures { IfOk result (λ entries. entries.items ≡ map (entry_known sched.now (C.model costs.now) []) (operations sched.now)) }
 {
     let _plans = sched.plans();
     let mut entries = Vec::with_capacity(alloc, sched.count() as usize)?;
     for id in sched.operations() {
         let unmet = sched.needs(*id).len() as u32;
-        entries.push_reserved(Entry::first(work_of(sched, costs, *id), unmet));
+        entries.push_reserved(OpState::first(work_of(sched, costs, *id), unmet));
     }
     Ok(entries)
 }
 
 /// Returns the entry of an operation.
-pub fn read<'e>(sched: &Sched, entries: &'e [Entry], id: OpId) -> &'e Entry
+pub fn read<'e>(sched: &Sched, entries: &'e [OpState], id: OpId) -> &'e OpState
     requires exists { IsOp sched.now id }
     requires each { length entries.now ≡ length (operations sched.now) }
-    ensures { (f : OpId → Entry) → entries.now ≡ map f (operations sched.now) → result.now ≡ f id }
+    ensures { (f : OpId → OpState) → entries.now ≡ map f (operations sched.now) → result.now ≡ f id }
 {
     entry_of(entries, sched, id)
 }
 
 // Writes the times of an operation.
-fn write_times(sched: &Sched, entries: &mut [Entry], id: OpId, times: Times)
+fn write_times(sched: &Sched, entries: &mut [OpState], id: OpId, times: Times)
     requires exists { IsOp sched.now id }
     requires each { length entries.old ≡ length (operations sched.now) }
-    ensures { (f : OpId → Entry) → entries.old ≡ map f (operations sched.now) → entries.new ≡ map (with_times id times f) (operations sched.now) }
+    ensures { (f : OpId → OpState) → entries.old ≡ map f (operations sched.now) → entries.new ≡ map (with_times id times f) (operations sched.now) }
 {
     let kept = &mut entries[sched.index(id) as usize];
     kept.times = times;
 }
 
 // Writes that an operation has been paired with another since a time.
-fn write_paired(sched: &Sched, entries: &mut [Entry], id: OpId, with: OpId, at: u64)
+fn write_paired(sched: &Sched, entries: &mut [OpState], id: OpId, with: OpId, at: u64)
     requires exists { IsOp sched.now id }
     requires other { IsOp sched.now with }
     requires fits { at < 2 ^ 63 }
     requires each { length entries.old ≡ length (operations sched.now) }
-    ensures { (f : OpId → Entry) → entries.old ≡ map f (operations sched.now) → entries.new ≡ map (with_pairing id with at f) (operations sched.now) }
+    ensures { (f : OpId → OpState) → entries.old ≡ map f (operations sched.now) → entries.new ≡ map (with_pairing id with at f) (operations sched.now) }
 {
     let _plans = sched.plans();
     let kept = &mut entries[sched.index(id) as usize];
@@ -194,12 +194,12 @@ fn write_paired(sched: &Sched, entries: &mut [Entry], id: OpId, with: OpId, at: 
 
 /// Writes what an action of an operation changes, at its time. If it pairs the operation, the two are paired since
 /// then.
-pub fn write_change(sched: &Sched, entries: &mut [Entry], id: OpId, change: Change, at: u64)
+pub fn write_change(sched: &Sched, entries: &mut [OpState], id: OpId, change: Change, at: u64)
     requires exists { IsOp sched.now id }
     requires other { IfSome change.partner (IsOp sched.now) }
     requires fits { at < 2 ^ 63 }
     requires each { length entries.old ≡ length (operations sched.now) }
-    ensures { (f : OpId → Entry) → entries.old ≡ map f (operations sched.now) → entries.new ≡ map (with_change id change at f) (operations sched.now) }
+    ensures { (f : OpId → OpState) → entries.old ≡ map f (operations sched.now) → entries.new ≡ map (with_change id change at f) (operations sched.now) }
 {
     write_times(sched, entries, id, change.times);
     let Some(with) = change.partner else {
@@ -211,12 +211,12 @@ pub fn write_change(sched: &Sched, entries: &mut [Entry], id: OpId, change: Chan
 
 /// Gives an operation a moment that it needs and still waits for, in nanoseconds, before it starts.
 #[inline(always)]
-pub fn write_given(sched: &Sched, entries: &mut [Entry], id: OpId, moment: u64)
+pub fn write_given(sched: &Sched, entries: &mut [OpState], id: OpId, moment: u64)
     requires exists { IsOp sched.now id }
     requires fits { moment < 2 ^ 63 }
     requires waits { IsWaiting sched.now entries.old id }
     requires each { length entries.old ≡ length (operations sched.now) }
-    ensures { (f : OpId → Entry) → entries.old ≡ map f (operations sched.now) → entries.new ≡ map (with_given id moment f) (operations sched.now) }
+    ensures { (f : OpId → OpState) → entries.old ≡ map f (operations sched.now) → entries.new ≡ map (with_given id moment f) (operations sched.now) }
 {
     let kept = &mut entries[sched.index(id) as usize];
     kept.link = kept.link.with_one_met();

@@ -17,7 +17,7 @@ ghost use Rattle.sim_state.specs.Represents.{entry_known};
 ghost use Rattle.sim_state.specs.Tasks.{task_of, work_of};
 ghost use Rattle.sim_state.specs.Free.{side};
 
-use crate::entry::{Entry, first_entries, read};
+use crate::entry::{OpState, first_entries, read};
 use crate::fault::EngineFault;
 use crate::history::{History, Kept};
 use crate::record::Record;
@@ -37,13 +37,13 @@ mod perform;
 
 /// A schedule during its run. Its value in contracts is the plans of the schedule, the costs, and the actions so far,
 /// the newest first. Its type says whether the actions are kept.
-pub struct State<'a, C: Costs, H: History = Kept> {
+pub struct RunState<'a, C: Costs, H: History = Kept> {
     sched: &'a Sched,
     costs: C,
     // the actions so far
     history: H,
     // what is known of each operation, in the order of all
-    entries: Vec<Entry>,
+    entries: Vec<OpState>,
     // the matcher
     matcher: Matcher<'a>,
     // when cpus and NICs are free
@@ -51,9 +51,9 @@ pub struct State<'a, C: Costs, H: History = Kept> {
 }
 
 // It is dropped by a call, and not field by field, so that callers that drop one are shorter to prove.
-impl<C: Costs + Drop, H: History> Drop for State<'_, C, H> {
+impl<C: Costs + Drop, H: History> Drop for RunState<'_, C, H> {
     fn drop(self) {
-        let State {
+        let RunState {
             sched: _,
             costs: _costs,
             history: _history,
@@ -64,21 +64,21 @@ impl<C: Costs + Drop, H: History> Drop for State<'_, C, H> {
     }
 }
 
-impl<'a, C: Costs, H: History> Model for State<'a, C, H> {
-    ghost use Rattle.sim_state.specs.Engine.{View};
+impl<'a, C: Costs, H: History> Model for RunState<'a, C, H> {
+    ghost use Rattle.sim_state.specs.Engine.{RunSoFar};
     ghost use Rattle.sim_state.specs.Represents.{Represents};
 
-    ghost Value = { View C };
+    ghost Value = { RunSoFar C };
 
     ghost view = { λ e. record { plans = e.sched.now; costs = e.costs; history = H.actions e.history } };
 
     ghost invariant = { λ e. Represents e.sched.now (C.model e.costs) (H.actions e.history) e.entries.items e.matcher e.resources (H.has_room e.history) };
 }
 
-impl<'a, C: Costs + Drop, H: History> State<'a, C, H> {
+impl<'a, C: Costs + Drop, H: History> RunState<'a, C, H> {
     /// Creates the state of a schedule before its first action. It allocates all memory of the run; no later call
     /// allocates any. If the time budget is over 2^63-1, the fault has it, whether there is enough memory or not.
-    pub fn new(alloc: Global, sched: &'a Sched, costs: C) -> Result<State<'a, C, H>, EngineFault>
+    pub fn new(alloc: Global, sched: &'a Sched, costs: C) -> Result<RunState<'a, C, H>, EngineFault>
         ensures plans { IfOk result (λ e. e.plans ≡ sched.now) }
         ensures costs { IfOk result (λ e. e.costs ≡ costs) }
         ensures empty { IfOk result (λ e. e.history ≡ []) }
@@ -96,7 +96,7 @@ impl<'a, C: Costs + Drop, H: History> State<'a, C, H> {
         let entries = first_entries(alloc, sched, &costs)?;
         let matcher = Matcher::new(alloc, sched)?;
         let resources = Resources::new(alloc, sched)?;
-        Ok(State {
+        Ok(RunState {
             sched,
             costs,
             history,
@@ -107,7 +107,7 @@ impl<'a, C: Costs + Drop, H: History> State<'a, C, H> {
     }
 }
 
-impl<'a, C: Costs> State<'a, C> {
+impl<'a, C: Costs> RunState<'a, C> {
     /// Returns the actions so far, the oldest first.
     pub fn trace(&self) -> &[Timed]
         ensures { result.now ≡ reverse self.now.history }
@@ -116,7 +116,7 @@ impl<'a, C: Costs> State<'a, C> {
     }
 }
 
-impl<'a, C: Costs, H: History> State<'a, C, H> {
+impl<'a, C: Costs, H: History> RunState<'a, C, H> {
     /// Returns what is known of an operation.
     pub fn record(&self, id: OpId) -> Record
         requires { IsOp self.now.plans id }
@@ -155,7 +155,7 @@ impl<'a, C: Costs, H: History> State<'a, C, H> {
     {
         match self.task(id) {
             Task::Calc => self.resources.cpu(id),
-            Task::Eager | Task::Large => self.resources.tx(id),
+            Task::Eager | Task::Rendezvous => self.resources.tx(id),
             Task::Receive => self.resources.rx(id),
         }
     }
@@ -199,7 +199,7 @@ impl<'a, C: Costs, H: History> State<'a, C, H> {
     }
 
     // What is known of an operation.
-    fn entry(&self, id: OpId) -> &Entry
+    fn entry(&self, id: OpId) -> &OpState
         requires { IsOp self.now.plans id }
         ensures { result.now ≡ entry_known self.now.plans (C.model self.now.costs) self.now.history id }
     {

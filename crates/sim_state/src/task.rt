@@ -8,7 +8,7 @@ pub enum Task {
     /// An eager send.
     Eager,
     /// A rendezvous send.
-    Large,
+    Rendezvous,
     /// A receive.
     Receive,
 }

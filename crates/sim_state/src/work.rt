@@ -31,7 +31,7 @@ fn task_of_send<C: Costs>(sched: &Sched, costs: &C, send: OpId) -> Task
     if costs.eager(send.rank, message.to, message.bytes) {
         Task::Eager
     } else {
-        Task::Large
+        Task::Rendezvous
     }
 }
 

@@ -12,8 +12,8 @@ ghost use Rattle.sim_state.specs.Represents.{message_known};
 ghost use Rattle.sim_state.specs.Tasks.{IsLast};
 ghost use Rattle.sim_state.specs.Enabled.{ready_known, enabled_action, IsEnabledActionOf};
 
-use super::State;
-use crate::entry::Entry;
+use super::RunState;
+use crate::entry::OpState;
 use crate::history::History;
 use crate::task::Task;
 use goal_graph::{Class, OpId, Timed};
@@ -21,7 +21,7 @@ use sim_eager::{begin_at, serve_at};
 use sim_params::Costs;
 use sim_rendezvous::{clear_to, data_at};
 
-impl<'a, C: Costs, H: History> State<'a, C, H> {
+impl<'a, C: Costs, H: History> RunState<'a, C, H> {
     /// Returns the possible action of an operation, if it has one.
     pub fn choice(&self, id: OpId) -> Option<Timed>
         requires { IsOp self.now.plans id }
@@ -29,7 +29,7 @@ impl<'a, C: Costs, H: History> State<'a, C, H> {
     {
         match self.task(id) {
             Task::Calc => self.begin_of_calc(id),
-            Task::Eager | Task::Large => self.choice_of_send(id),
+            Task::Eager | Task::Rendezvous => self.choice_of_send(id),
             Task::Receive => self.choice_of_receive(id),
         }
     }
@@ -115,7 +115,7 @@ impl<'a, C: Costs, H: History> State<'a, C, H> {
         ensures { result ≡ enabled_action self.now.plans (C.model self.now.costs) self.now.history Data send }
     {
         self.known();
-        let Entry { work, times, .. } = *self.entry(send);
+        let OpState { work, times, .. } = *self.entry(send);
         // an eager send has an end since it began, a rendezvous send once it has transferred its data
         if times.end.get().is_some() {
             return None;
@@ -171,7 +171,7 @@ impl<'a, C: Costs, H: History> State<'a, C, H> {
         ensures { result ≡ message_known self.now.plans (C.model self.now.costs) self.now.history (record { with = send; at = paired }) }
     {
         self.known();
-        let Entry { work, times, .. } = *self.entry(send);
+        let OpState { work, times, .. } = *self.entry(send);
         if work.task == Task::Eager {
             return Some(paired);
         }

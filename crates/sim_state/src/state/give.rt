@@ -11,7 +11,7 @@ ghost use Rattle.sim_state.specs.Awaited.{given_by};
 ghost use Rattle.sim_state.specs.Given.{moment_in};
 ghost use Rattle.sim_state.specs.Represents.{times_known, entry_known, entry_then};
 
-use crate::entry::{Entry, Times, write_given};
+use crate::entry::{OpState, Times, write_given};
 use crate::giving::gives;
 use crate::history::History;
 use goal_graph::{Need, OpId, Sched, Timed, When};
@@ -40,7 +40,7 @@ pub fn give<C: Costs, H: History, N: Ledger>(
     sched: &Sched,
     costs: &C,
     history: &H,
-    entries: &mut [Entry],
+    entries: &mut [OpState],
     action: Timed,
     times: Times,
     waiting: &[Need],

@@ -12,9 +12,9 @@ ghost use Rattle.sim_state.specs.Awaited.{given_by};
 ghost use Rattle.sim_state.specs.Tasks.{work_of};
 ghost use Rattle.sim_state.specs.Changes.{IsChange};
 
-use super::State;
+use super::RunState;
 use super::give::give;
-use crate::entry::{Change, Entry, Times, read, write_change};
+use crate::entry::{Change, OpState, Times, read, write_change};
 use crate::history::History;
 use crate::task::Task;
 use crate::work::Work;
@@ -27,7 +27,7 @@ use sim_rendezvous::{data_message, request_to};
 use sim_resources::Resources;
 use std::sync::ledger::Ledger;
 
-impl<'a, C: Costs, H: History> State<'a, C, H> {
+impl<'a, C: Costs, H: History> RunState<'a, C, H> {
     /// Performs the next action, and gives the start or end of its operation to the operations in `waiting`, which wait for
     /// it. An Arrive gives neither, so `waiting` may be anything then.
     ///
@@ -82,7 +82,7 @@ fn change_of<C: Costs, H: History, M: Ledger>(
     sched: &Sched,
     costs: &C,
     history: &H,
-    entries: &[Entry],
+    entries: &[OpState],
     resources: &mut Resources,
     matcher: &mut Matcher,
     action: Timed,
@@ -100,7 +100,7 @@ fn change_of<C: Costs, H: History, M: Ledger>(
     ensures looked { looks.new ≤ looks.old + 8 }
 {
     let (id, at) = (action.op, action.time);
-    let Entry { work, times, link } = *read(sched, entries, id);
+    let OpState { work, times, link } = *read(sched, entries, id);
     match action.class {
         Class::Begin => {
             Change::of_times(begin(sched, costs, history, resources, action, work, times))
@@ -162,7 +162,7 @@ fn begin<C: Costs, H: History>(
             let begun = eager_begin_message(sched, costs, resources, id, work.to, work.amount, at);
             times.with_end(begun.end).with_awaited(begun.arrive)
         }
-        Task::Large => {
+        Task::Rendezvous => {
             let arrive = request_to(sched, costs, resources, id, work.to, at);
             times.with_awaited(arrive)
         }

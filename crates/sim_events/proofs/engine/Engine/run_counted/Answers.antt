@@ -2,7 +2,7 @@ use Rattle.std.proofs.Common.{refl, sym, ap, ◌∙◌, subst, arith}
 use Rattle.sim_params.specs.Run.{IsRun, IsCompleteRun}
 use Rattle.sim_params.proofs.ForCallers.{one_complete}
 use Rattle.sim_events.specs.declared.engine.Engine.TheInside.{Inside}
-use Rattle.sim_state.specs.Engine.{View}
+use Rattle.sim_state.specs.Engine.{RunSoFar}
 use Rattle.sim_events.specs.Pending.{IsPending}
 use Rattle.sim_events.proofs.engine.Engine.run_counted.Given.{Over}
 use Rattle.sim_events.proofs.engine.Engine.run_counted.Goals.{After-drop, in-Some, in_default}
@@ -13,11 +13,11 @@ complete : (g : Over) (c : After-drop g) → IsCompleteRun c.match-self.self-ins
 complete g c =
     let model = g.C.Costs.model in
     elim c.match-self.branch [
-      | in-Some w ↦ subst (λ (v : View _). IsCompleteRun v.plans (model v.costs) v.history) (sym (ap (λ (e : Inside _ _). e.state) w.self-inside-is)) w.run_on.ensures.complete
+      | in-Some w ↦ subst (λ (v : RunSoFar _). IsCompleteRun v.plans (model v.costs) v.history) (sym (ap (λ (e : Inside _ _). e.state) w.self-inside-is)) w.run_on.ensures.complete
       | in_default w ↦
           let state = c.self.inside.state in
-          subst (λ (v : View _). IsCompleteRun v.plans (model v.costs) v.history) (sym (ap (λ (e : Inside _ _). e.state) w.self-inside-is)) (record {
-            run = subst (λ (v : View _). IsRun v.plans (model v.costs) v.history) (sym c.self.view_is) c.known.ensures.run;
+          subst (λ (v : RunSoFar _). IsCompleteRun v.plans (model v.costs) v.history) (sym (ap (λ (e : Inside _ _). e.state) w.self-inside-is)) (record {
+            run = subst (λ (v : RunSoFar _). IsRun v.plans (model v.costs) v.history) (sym c.self.view_is) c.known.ensures.run;
             finished = subst (IsPending state.plans (model state.costs) state.history) w.in_default.is c.self.invariant;
           })
     ]
@@ -30,7 +30,7 @@ returns-clause-only g c = λ h other. one_complete _ _ h _ other (complete g c)
 
 pub returns-clause-plans : goal.returns-clause-plans
 returns-clause-plans g c =
-    let was = ap (λ (v : View _). v.plans) c.self.view_is in
+    let was = ap (λ (v : RunSoFar _). v.plans) c.self.view_is in
     elim c.match-self.branch [
       | in-Some w ↦ ap (λ (e : Inside _ _). e.state.plans) w.self-inside-is ∙ w.run_on.ensures.plans ∙ was
       | in_default w ↦ ap (λ (e : Inside _ _). e.state.plans) w.self-inside-is ∙ was
@@ -38,7 +38,7 @@ returns-clause-plans g c =
 
 pub returns-clause-costs : goal.returns-clause-costs
 returns-clause-costs g c =
-    let was = ap (λ (v : View _). v.costs) c.self.view_is in
+    let was = ap (λ (v : RunSoFar _). v.costs) c.self.view_is in
     elim c.match-self.branch [
       | in-Some w ↦ ap (λ (e : Inside _ _). e.state.costs) w.self-inside-is ∙ w.run_on.ensures.costs ∙ was
       | in_default w ↦ ap (λ (e : Inside _ _). e.state.costs) w.self-inside-is ∙ was

@@ -43,15 +43,15 @@ with_awaited-requires g c =
 pub request_to-arrive-requires : goal.request_to-arrive-requires
 request_to-arrive-requires g c = record {
   same_schedule = c.requires.free.same_plans;
-  goes_to = (_, large_message c.args.sched.now (g.C.Costs.model c.args.costs.now) (g.H.History.actions c.args.history.now) c.args.action c.requires.run c.requires.within c.requires.next.possible c.requires.class c.args.work c.requires.work c.in-Large.is);
-  over_fits = request_over c.args.sched.now (g.C.Costs.model c.args.costs.now) (g.H.History.actions c.args.history.now) c.args.action c.requires.run c.requires.within c.requires.next.possible c.requires.class c.args.work c.requires.work c.in-Large.is;
-  gap_fits = request_gap c.args.sched.now (g.C.Costs.model c.args.costs.now) (g.H.History.actions c.args.history.now) c.args.action c.requires.run c.requires.within c.requires.next.possible c.requires.class c.args.work c.requires.work c.in-Large.is;
-  flight_fits = request_flight c.args.sched.now (g.C.Costs.model c.args.costs.now) (g.H.History.actions c.args.history.now) c.args.action c.requires.run c.requires.within c.requires.next.possible c.requires.class c.args.work c.requires.work c.in-Large.is;
+  goes_to = (_, large_message c.args.sched.now (g.C.Costs.model c.args.costs.now) (g.H.History.actions c.args.history.now) c.args.action c.requires.run c.requires.within c.requires.next.possible c.requires.class c.args.work c.requires.work c.in-Rendezvous.is);
+  over_fits = request_over c.args.sched.now (g.C.Costs.model c.args.costs.now) (g.H.History.actions c.args.history.now) c.args.action c.requires.run c.requires.within c.requires.next.possible c.requires.class c.args.work c.requires.work c.in-Rendezvous.is;
+  gap_fits = request_gap c.args.sched.now (g.C.Costs.model c.args.costs.now) (g.H.History.actions c.args.history.now) c.args.action c.requires.run c.requires.within c.requires.next.possible c.requires.class c.args.work c.requires.work c.in-Rendezvous.is;
+  flight_fits = request_flight c.args.sched.now (g.C.Costs.model c.args.costs.now) (g.H.History.actions c.args.history.now) c.args.action c.requires.run c.requires.within c.requires.next.possible c.requires.class c.args.work c.requires.work c.in-Rendezvous.is;
 }
 
-pub with_awaited-requires-in-Large : goal.with_awaited-requires-in-Large
-with_awaited-requires-in-Large g c =
-    omega (arith, c.request_to-arrive.ensures.arrive, request_flight c.args.sched.now (g.C.Costs.model c.args.costs.now) (g.H.History.actions c.args.history.now) c.args.action c.requires.run c.requires.within c.requires.next.possible c.requires.class c.args.work c.requires.work c.in-Large.is)
+pub with_awaited-requires-in-Rendezvous : goal.with_awaited-requires-in-Rendezvous
+with_awaited-requires-in-Rendezvous g c =
+    omega (arith, c.request_to-arrive.ensures.arrive, request_flight c.args.sched.now (g.C.Costs.model c.args.costs.now) (g.H.History.actions c.args.history.now) c.args.action c.requires.run c.requires.within c.requires.next.possible c.requires.class c.args.work c.requires.work c.in-Rendezvous.is)
 
 pub unreachable-requires : goal.unreachable-requires
 unreachable-requires g c =
@@ -73,10 +73,10 @@ pub returns-in-Eager-clause-free : goal.returns-in-Eager-clause-free
 returns-in-Eager-clause-free g c =
     eager_free c.args.sched.now (g.C.Costs.model c.args.costs.now) (g.H.History.actions c.args.history.now) c.args.action c.requires.run c.requires.within c.requires.next.possible c.requires.class c.args.work c.requires.work c.in-Eager.is _ _ _ c.eager_begin_message-begun.ensures.end c.requires.free c.eager_begin_message-begun.ensures.holds
 
-pub returns-in-Large-clause-known : goal.returns-in-Large-clause-known
-returns-in-Large-clause-known g c =
-    request_known c.args.sched.now (g.C.Costs.model c.args.costs.now) (g.H.History.actions c.args.history.now) c.args.action c.requires.run c.requires.within c.requires.next.possible c.requires.class c.args.work c.requires.work c.in-Large.is _ c.request_to-arrive.ensures.arrive _ (c.with_awaited-in-Large.ensures ∙ ap (λ (t : Times). record t { awaited = Some c.request_to-arrive.result }) (c.with_start-times.ensures ∙ ap (λ (t : Times). record t { start = Some c.args.action.time }) c.requires.times))
+pub returns-in-Rendezvous-clause-known : goal.returns-in-Rendezvous-clause-known
+returns-in-Rendezvous-clause-known g c =
+    request_known c.args.sched.now (g.C.Costs.model c.args.costs.now) (g.H.History.actions c.args.history.now) c.args.action c.requires.run c.requires.within c.requires.next.possible c.requires.class c.args.work c.requires.work c.in-Rendezvous.is _ c.request_to-arrive.ensures.arrive _ (c.with_awaited-in-Rendezvous.ensures ∙ ap (λ (t : Times). record t { awaited = Some c.request_to-arrive.result }) (c.with_start-times.ensures ∙ ap (λ (t : Times). record t { start = Some c.args.action.time }) c.requires.times))
 
-pub returns-in-Large-clause-free : goal.returns-in-Large-clause-free
-returns-in-Large-clause-free g c =
-    request_free c.args.sched.now (g.C.Costs.model c.args.costs.now) (g.H.History.actions c.args.history.now) c.args.action c.requires.run c.requires.within c.requires.next.possible c.requires.class c.args.work c.requires.work c.in-Large.is _ _ c.requires.free c.request_to-arrive.ensures.holds
+pub returns-in-Rendezvous-clause-free : goal.returns-in-Rendezvous-clause-free
+returns-in-Rendezvous-clause-free g c =
+    request_free c.args.sched.now (g.C.Costs.model c.args.costs.now) (g.H.History.actions c.args.history.now) c.args.action c.requires.run c.requires.within c.requires.next.possible c.requires.class c.args.work c.requires.work c.in-Rendezvous.is _ _ c.requires.free c.request_to-arrive.ensures.holds
