@@ -9,8 +9,8 @@ use Rattle.goal_graph.specs.Schedule.{Plan}
 use Rattle.goal_graph.specs.Action.{Act}
 use Rattle.goal_blocks.specs.Values.{Value, Store}
 use Rattle.goal_values.specs.Sums.{HasGrown}
-use Rattle.goal_values.specs.Summed.{Summed, IsLent}
-use Rattle.goal_values.proofs.ForCallers.{lent_stays}
+use Rattle.goal_values.specs.Summed.{Summed, IsPayload}
+use Rattle.goal_values.proofs.ForCallers.{payload_stays}
 use Rattle.goal_certify.specs.declared.walk.parcel.Parcel.{Parcel}
 use Rattle.goal_certify.specs.Carried.{Told, told_of, told_in, IsKnown, IsCarrying, IsHolding}
 
@@ -18,7 +18,7 @@ use Rattle.goal_certify.specs.Carried.{Told, told_of, told_in, IsKnown, IsCarryi
 one_stays : (old new : List Value) → HasGrown old new → (o : Option Parcel) → IsKnown old o → (option_map (told_of new) o ≡ option_map (told_of old) o) × IsKnown new o
 one_stays old new grown None known = (refl, tt)
 one_stays old new grown (Some p) known =
-    let stays = lent_stays old new grown p.lent known in
+    let stays = payload_stays old new grown p.payload known in
     (ap (λ (vs : List Value). Some (record { payload = vs; size = p.size })) stays.0, stays.1)
 
 told_stays : (old new : List Value) → HasGrown old new → (ps : List (Option Parcel)) → All (IsKnown old) ps → told_in new ps ≡ told_in old ps
@@ -56,7 +56,7 @@ module _ (sums : List Value) (parcels : List (Option Parcel)) (j : ℕ) (inside 
   pub told_at : (p : Parcel) → get_or parcels j None ≡ Some p → get_or (told_in sums parcels) j None ≡ Some (told_of sums p)
   told_at p e = told_there ∙ ap (option_map (told_of sums)) e
 
-  pub known_at : All (IsKnown sums) parcels → (p : Parcel) → get_or parcels j None ≡ Some p → IsLent sums p.lent
+  pub known_at : All (IsKnown sums) parcels → (p : Parcel) → get_or parcels j None ≡ Some p → IsPayload sums p.payload
   known_at known p e = subst (IsKnown sums) e (known j None within)
 
   -- there is a parcel where one is told

@@ -39,8 +39,8 @@ nothing_known plans x = refl
 
 module _ (plans : List Plan) (h : List Act) (entries : List Entry) (matcher : PostsAndArrivals) (m : Represents plans h entries matcher) where
   -- each operation has its entry
-  pub each_entry : (lent : List Entry) → lent ≡ entries → length lent ≡ length (operations plans)
-  each_entry lent e = ap length (e ∙ m.known) ∙ length-map (operations plans) (entry_known plans h)
+  pub each_entry : (payload : List Entry) → payload ≡ entries → length payload ≡ length (operations plans)
+  each_entry payload e = ap length (e ∙ m.known) ∙ length-map (operations plans) (entry_known plans h)
 
   module _ (a : Act) (may : may_act plans h a.class a.op ≡ true) where
     -- what the matcher asks of a post and of an arrival
@@ -77,8 +77,8 @@ module _ (plans : List Plan) (h : List Act) (entries : List Entry) (matcher : Po
 
 -- the same, as they lie
 pub performed : (plans : List Plan) (items : List Action) (entries : List Entry) (matcher : PostsAndArrivals) (m : Represents plans (acts items) entries matcher) (a : Action) (may : may_act plans (acts items) a.class a.op ≡ true)
-    (new_items : List Action) (lent written : List Entry) (new_matcher : PostsAndArrivals) (n : ℕ) (o : Option OpId) (entry done : Entry) → entry ≡ entry_known plans (acts items) a.op → done ≡ with_class a.class entry → new_items ≡ items ++ a ∷ [] → n ≡ length entries → lent ≡ entries → length written ≡ length lent → o ≡ met matcher.plans matcher.actions a.class a.op → new_matcher.plans ≡ matcher.plans → new_matcher.actions ≡ more_met matcher.actions a.class a.op → written ≡ map (with_partner a.op o (with_entry a.op done (entry_known plans (acts items)))) (operations plans) → Represents plans (acts new_items) (take n (written ++ drop (length written) entries)) new_matcher
-performed plans items entries matcher m a may new_items lent written new_matcher n o entry done was is_done pushed count same kept is plans_same more told =
+    (new_items : List Action) (payload written : List Entry) (new_matcher : PostsAndArrivals) (n : ℕ) (o : Option OpId) (entry done : Entry) → entry ≡ entry_known plans (acts items) a.op → done ≡ with_class a.class entry → new_items ≡ items ++ a ∷ [] → n ≡ length entries → payload ≡ entries → length written ≡ length payload → o ≡ met matcher.plans matcher.actions a.class a.op → new_matcher.plans ≡ matcher.plans → new_matcher.actions ≡ more_met matcher.actions a.class a.op → written ≡ map (with_partner a.op o (with_entry a.op done (entry_known plans (acts items)))) (operations plans) → Represents plans (acts new_items) (take n (written ++ drop (length written) entries)) new_matcher
+performed plans items entries matcher m a may new_items payload written new_matcher n o entry done was is_done pushed count same kept is plans_same more told =
     let table : take n (written ++ drop (length written) entries) ≡ written = whole_back n written entries (kept ∙ ap length same) count in
     let list : act_of a ∷ acts items ≡ acts new_items = sym (ap acts pushed ∙ acts_push items a) in
     let known = table ∙ told ∙ ap (λ (e : Entry). map (with_partner a.op o (with_entry a.op e (entry_known plans (acts items)))) (operations plans)) is_done in

@@ -15,7 +15,7 @@ use Rattle.goal_blocks.specs.Channels.{HasNoWildcard}
 use Rattle.goal_blocks.specs.Certification.{IsSmall, HasEqualLengths, IsLight}
 use Rattle.goal_blocks.specs.Faults.{IsTooHeavy, IsFirstTooHeavy}
 use Rattle.goal_values.specs.Kept.{Kept, values}
-use Rattle.goal_values.specs.Summed.{Summed, lent_values, IsLent}
+use Rattle.goal_values.specs.Summed.{Summed, payload_values, IsPayload}
 use Rattle.goal_certify.specs.declared.walk.action.Action.{Action}
 use Rattle.goal_certify.specs.declared.walk.parcel.Parcel.{Parcel}
 use Rattle.goal_certify.specs.declared.walk.parcel.Holdings.{Holdings}
@@ -27,16 +27,16 @@ pub record Told : Type 0 where
   pub size : ℕ
 
 abbrev pub told_of : List Value → Parcel → Told
-told_of sums p = record { payload = lent_values sums p.lent; size = p.size }
+told_of sums p = record { payload = payload_values sums p.payload; size = p.size }
 
 -- the same for each parcel in a table
 abbrev pub told_in : List Value → List (Option Parcel) → List (Option Told)
 told_in sums parcels = map (option_map (told_of sums)) parcels
 
--- what the parcel lends are sums that exist
+-- the payload of the parcel refers to existing sums
 abbrev pub IsKnown : List Value → Option Parcel → Type 0
 IsKnown sums None = Unit {0}
-IsKnown sums (Some p) = IsLent sums p.lent
+IsKnown sums (Some p) = IsPayload sums p.payload
 
 -- how many contributions these values have
 abbrev pub size_of : List Value → ℕ

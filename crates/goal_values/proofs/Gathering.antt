@@ -14,8 +14,8 @@ use Rattle.goal_values.specs.declared.sums.Term.{Term}
 use Rattle.goal_values.specs.declared.sums.Term.TheVariants.{Nothing, Made}
 use Rattle.goal_values.specs.declared.sums.Sum.{Sum}
 use Rattle.goal_values.specs.Sums.{meaning, IsBelow}
-use Rattle.goal_values.specs.Parts.{told, IsSum, AreSums}
-use Rattle.goal_values.proofs.Told.{below_more}
+use Rattle.goal_values.specs.Parts.{values_of_sums, IsSum, AreSums}
+use Rattle.goal_values.proofs.SumValues.{below_more}
 
 -- how much remains to be done for a part: it falls when the part is opened
 abbrev pub weight : List Value → Term → ℕ
@@ -31,11 +31,11 @@ left_of sums n = (get_or sums n none).left
 
 -- the sum of f over the contributions of the left parts of these sums
 abbrev pub shares : List Sum → (Contribution → ℕ) → List ℕ → ℕ
-shares sums f numbers = sum_by (λ n. sum_by f (meaning (told [] sums) (left_of sums n))) numbers
+shares sums f numbers = sum_by (λ n. sum_by f (meaning (values_of_sums [] sums) (left_of sums n))) numbers
 
 -- how much remains to be done for these left parts
 abbrev pub weights : List Sum → List ℕ → ℕ
-weights sums numbers = sum_by (λ n. weight (told [] sums) (left_of sums n)) numbers
+weights sums numbers = sum_by (λ n. weight (values_of_sums [] sums) (left_of sums n)) numbers
 
 -- another contribution
 pub with_one : (f : Contribution → ℕ) (v : Value) (c : Contribution) → sum_by f (v ++ c ∷ []) ≡ sum_by f v + sum_by f (c ∷ [])
@@ -58,9 +58,9 @@ merge_sum f (c ∷ v) w =
     omega (arith, insert_sum f c (merge v w), merge_sum f v w, sum_by-cons f c v)
 
 -- a sum is opened: its number is kept, and its right part is next
-module _ (sums : List Sum) (are : AreSums sums) (i : ℕ) (inside : i < length (told [] sums)) where
+module _ (sums : List Sum) (are : AreSums sums) (i : ℕ) (inside : i < length (values_of_sums [] sums)) where
   abbrev known : List Value
-  known = told [] sums
+  known = values_of_sums [] sums
 
   abbrev s : Sum
   s = get_or sums i none
@@ -101,9 +101,9 @@ module _ (sums : List Sum) (are : AreSums sums) (i : ℕ) (inside : i < length (
 
 -- the last number is taken
 module _ (sums : List Sum) (i : ℕ) (numbers rest : List ℕ) (g : numbers ≡ rest ++ i ∷ []) where
-  pub taken_shares : (f : Contribution → ℕ) → shares sums f numbers ≡ shares sums f rest + sum_by f (meaning (told [] sums) (left_of sums i))
+  pub taken_shares : (f : Contribution → ℕ) → shares sums f numbers ≡ shares sums f rest + sum_by f (meaning (values_of_sums [] sums) (left_of sums i))
   taken_shares f =
-      let h : ℕ → ℕ = λ n. sum_by f (meaning (told [] sums) (left_of sums n)) in
+      let h : ℕ → ℕ = λ n. sum_by f (meaning (values_of_sums [] sums) (left_of sums n)) in
       omega (arith, ap (shares sums f) g, sum_by-append h rest (i ∷ []), sum_by-cons h i [])
 
   pub taken_last : (P : ℕ → Type 0) → All P numbers → P i

@@ -1,12 +1,12 @@
--- Lent values are unchanged when sums are appended.
+-- Payloads are unchanged when sums are appended.
 use Rattle.std.proofs.Common.{◌≡◌, List, [], ◌∷◌, ◌++◌, length, map, All, refl, sym, ap, ap₂, ◌∙◌, arith, append-nil, append_assoc, length-append}
 use Rattle.std.proofs.lemmas.List.Elements.{All-head, All-tail}
 use Rattle.goal_blocks.specs.Values.{Value}
 use Rattle.goal_values.specs.declared.sums.Term.{Term}
-use Rattle.goal_values.specs.declared.values.Lent.{Lent}
+use Rattle.goal_values.specs.declared.values.TermPayload.{TermPayload}
 use Rattle.goal_values.specs.Sums.{meaning, IsBelow, HasGrown}
-use Rattle.goal_values.specs.Summed.{lent_values, IsLent}
-use Rattle.goal_values.proofs.Told.{meaning_stays, below_more}
+use Rattle.goal_values.specs.Summed.{payload_values, IsPayload}
+use Rattle.goal_values.proofs.SumValues.{meaning_stays, below_more}
 
 pub grown_same : (sums : List Value) → HasGrown sums sums
 grown_same sums = ([], sym (append-nil sums))
@@ -20,7 +20,7 @@ meanings_stay sums more [] below = refl
 meanings_stay sums more (t ∷ ts) below =
     ap₂ (λ (v : Value) (vs : List Value). v ∷ vs) (meaning_stays sums more t (All-head (IsBelow (length sums)) t ts below)) (meanings_stay sums more ts (All-tail (IsBelow (length sums)) t ts below))
 
--- a lent value has the same meaning, and still refers to existing sums
-pub lent_stays : (old new : List Value) → HasGrown old new → (l : Lent) → IsLent old l → (lent_values new l ≡ lent_values old l) × IsLent new l
-lent_stays old new grown l lent =
-    (ap (λ (vs : List Value). map (meaning vs) l.terms.items) grown.1 ∙ meanings_stay old grown.0 l.terms.items lent, λ k d inside. below_more (length old) (length new) _ (omega (arith, ap length grown.1, length-append old grown.0)) (lent k d inside))
+-- a value of a payload has the same meaning, and still refers to existing sums
+pub payload_stays : (old new : List Value) → HasGrown old new → (l : TermPayload) → IsPayload old l → (payload_values new l ≡ payload_values old l) × IsPayload new l
+payload_stays old new grown l payload =
+    (ap (λ (vs : List Value). map (meaning vs) l.terms.items) grown.1 ∙ meanings_stay old grown.0 l.terms.items payload, λ k d inside. below_more (length old) (length new) _ (omega (arith, ap length grown.1, length-append old grown.0)) (payload k d inside))

@@ -17,48 +17,48 @@ use Rattle.goal_values.specs.declared.sums.Term.{Term}
 use Rattle.goal_values.specs.Sums.{meaning, IsBelow, HasGrown}
 use Rattle.goal_values.specs.Rows.{found_in, HasSameSlots, HasSet}
 use Rattle.goal_values.specs.Summed.{Summed, kept_in, IsSound}
-use Rattle.goal_values.proofs.Told.{meaning_stays, below_more}
+use Rattle.goal_values.proofs.SumValues.{meaning_stays, below_more}
 
 abbrev pub Terms : Type 0
 Terms = List (List (ℕ × Term))
 
 -- a slot with the value of its term
-abbrev told_slot : List Value → ℕ × Term → ℕ × Value
-told_slot sums e = (e.0, meaning sums e.1)
+abbrev slot_with_value : List Value → ℕ × Term → ℕ × Value
+slot_with_value sums e = (e.0, meaning sums e.1)
 
-mapped : (sums : List Value) (b : Bool) (t : Term) (o : Option Term) → cond b (Some (meaning sums t)) (option_map (meaning sums) o) ≡ option_map (meaning sums) (cond b (Some t) o)
-mapped sums true t o = refl
-mapped sums false t o = refl
+map_meaning : (sums : List Value) (b : Bool) (t : Term) (o : Option Term) → cond b (Some (meaning sums t)) (option_map (meaning sums) o) ≡ option_map (meaning sums) (cond b (Some t) o)
+map_meaning sums true t o = refl
+map_meaning sums false t o = refl
 
-found_told : (sums : List Value) (test : ℕ → Bool) (es : List (ℕ × Term)) → lookup test (map (told_slot sums) es) ≡ option_map (meaning sums) (lookup test es)
-found_told sums test [] = refl
-found_told sums test (e ∷ es) =
-    ap (cond (test e.0) (Some (meaning sums e.1))) (found_told sums test es) ∙ mapped sums (test e.0) e.1 (lookup test es)
+lookup_value : (sums : List Value) (test : ℕ → Bool) (es : List (ℕ × Term)) → lookup test (map (slot_with_value sums) es) ≡ option_map (meaning sums) (lookup test es)
+lookup_value sums test [] = refl
+lookup_value sums test (e ∷ es) =
+    ap (cond (test e.0) (Some (meaning sums e.1))) (lookup_value sums test es) ∙ map_meaning sums (test e.0) e.1 (lookup test es)
 
-found : (sums : List Value) (m : Terms) (r k : ℕ) → found_in (map (λ (row : List (ℕ × Term)). map (told_slot sums) row) m) r k ≡ option_map (meaning sums) (found_in m r k)
-found sums [] zero k = refl
-found sums [] (suc r) k = refl
-found sums (row ∷ m) zero k = found_told sums (is_at (nat_cmp k)) row
-found sums (row ∷ m) (suc r) k = found sums m r k
+found_value : (sums : List Value) (m : Terms) (r k : ℕ) → found_in (map (λ (row : List (ℕ × Term)). map (slot_with_value sums) row) m) r k ≡ option_map (meaning sums) (found_in m r k)
+found_value sums [] zero k = refl
+found_value sums [] (suc r) k = refl
+found_value sums (row ∷ m) zero k = lookup_value sums (is_at (nat_cmp k)) row
+found_value sums (row ∷ m) (suc r) k = found_value sums m r k
 
 -- the value of a slot, from its term
-pub value_by : (what : Collective) (ranks : ℕ) (segment : Segment) (sums : List Value) (m : Terms) (r k : ℕ) → values (kept_in what ranks segment sums m) r k ≡ unwrap_or (option_map (meaning sums) (found_in m r k)) (initial_in what segment.width segment.block ranks r k)
+pub value_from_terms : (what : Collective) (ranks : ℕ) (segment : Segment) (sums : List Value) (m : Terms) (r k : ℕ) → values (kept_in what ranks segment sums m) r k ≡ unwrap_or (option_map (meaning sums) (found_in m r k)) (initial_in what segment.width segment.block ranks r k)
 unfolding values
-value_by what ranks segment sums m r k =
-    ap (λ (o : Option Value). unwrap_or o (initial_in what segment.width segment.block ranks r k)) (found sums m r k)
+value_from_terms what ranks segment sums m r k =
+    ap (λ (o : Option Value). unwrap_or o (initial_in what segment.width segment.block ranks r k)) (found_value sums m r k)
 
 module _ (what : Collective) (ranks : ℕ) (segment : Segment) (sums : List Value) (m n : Terms) (rank slot : ℕ) (t : Term) (updates : HasSet rank slot t m n) where
   value_after : (r k : ℕ) → values (kept_in what ranks segment sums n) r k ≡ set_slot rank slot (meaning sums t) (values (kept_in what ranks segment sums m)) r k
   unfolding set_slot
   value_after r k =
-      value_by what ranks segment sums n r k ∙ ap (λ (o : Option Term). unwrap_or (option_map (meaning sums) o) first) (updates r k) ∙ go ((r == rank) && (k == slot))
+      value_from_terms what ranks segment sums n r k ∙ ap (λ (o : Option Term). unwrap_or (option_map (meaning sums) o) first) (updates r k) ∙ go ((r == rank) && (k == slot))
     where
       first : Value
       first = initial_in what segment.width segment.block ranks r k
 
       go : (b : Bool) → unwrap_or (option_map (meaning sums) (if b then Some t else found_in m r k)) (initial_in what segment.width segment.block ranks r k) ≡ (if b then meaning sums t else values (kept_in what ranks segment sums m) r k)
       go true = refl
-      go false = sym (value_by what ranks segment sums m r k)
+      go false = sym (value_from_terms what ranks segment sums m r k)
 
   pub values_after : values (kept_in what ranks segment sums n) ≡ set_slot rank slot (meaning sums t) (values (kept_in what ranks segment sums m))
   values_after = λ i r k. value_after r k i
@@ -69,7 +69,7 @@ values_same what ranks segment sums m n same = λ i r k. at r k i
   where
     at : (r k : ℕ) → values (kept_in what ranks segment sums n) r k ≡ values (kept_in what ranks segment sums m) r k
     at r k =
-        value_by what ranks segment sums n r k ∙ ap (λ (o : Option Term). unwrap_or (option_map (meaning sums) o) (initial_in what segment.width segment.block ranks r k)) (same r k) ∙ sym (value_by what ranks segment sums m r k)
+        value_from_terms what ranks segment sums n r k ∙ ap (λ (o : Option Term). unwrap_or (option_map (meaning sums) o) (initial_in what segment.width segment.block ranks r k)) (same r k) ∙ sym (value_from_terms what ranks segment sums m r k)
 
 -- the invariant of a map of terms: each refers to existing sums
 abbrev pub AreBelow : ℕ → Terms → Type 0
@@ -86,7 +86,7 @@ module _ (what : Collective) (ranks : ℕ) (segment : Segment) (sums more : List
 
       at : (r k : ℕ) → values (kept_in what ranks segment (sums ++ more) m) r k ≡ values (kept_in what ranks segment sums m) r k
       at r k =
-          value_by what ranks segment (sums ++ more) m r k ∙ go r k (found_in m r k) refl ∙ sym (value_by what ranks segment sums m r k)
+          value_from_terms what ranks segment (sums ++ more) m r k ∙ go r k (found_in m r k) refl ∙ sym (value_from_terms what ranks segment sums m r k)
 
   pub stay_below : AreBelow (length (sums ++ more)) m
   stay_below r k t e =
@@ -100,8 +100,8 @@ below_after n m after rank slot t updates below new r k u e =
     go true w = subst (IsBelow n) (same_Some t u w) new
     go false w = below r k u w
 
-is_none_some : {t : Term} → None ≡ Some t → ⊥
-is_none_some e = cc
+none_is_not_some : {t : Term} → None ≡ Some t → ⊥
+none_is_not_some e = cc
 
 -- the values at the start
 module _ (what : Collective) (ranks : ℕ) (segment : Segment) (m : Terms) (empty : m ≡ []) (sums : List Value) where
@@ -113,13 +113,13 @@ module _ (what : Collective) (ranks : ℕ) (segment : Segment) (m : Terms) (empt
     where
       at : (r k : ℕ) → values (kept_in what ranks segment sums m) r k ≡ initial_in what segment.width segment.block ranks r k
       at r k =
-          value_by what ranks segment sums m r k ∙ ap (λ (o : Option Term). unwrap_or (option_map (meaning sums) o) (initial_in what segment.width segment.block ranks r k)) (none_there r k)
+          value_from_terms what ranks segment sums m r k ∙ ap (λ (o : Option Term). unwrap_or (option_map (meaning sums) o) (initial_in what segment.width segment.block ranks r k)) (none_there r k)
 
   pub sound_empty : (held : ℕ) → ranks ≤ 65536 → segment.block * segment.width + segment.width ≤ 2 ^ 32 → held ≡ stored ranks (initial what ranks) → IsSound (record { kept = kept_in what ranks segment sums m; sums = sums }) m held
   sound_empty held few fits is = record {
     ranks = few;
     fits = fits;
-    below = λ r k t e. absurd (is_none_some (sym (none_there r k) ∙ e));
+    below = λ r k t e. absurd (none_is_not_some (sym (none_there r k) ∙ e));
     held_is = is ∙ sym (stored_exchanged segment.width segment.block what ranks fits) ∙ ap (stored ranks) (sym values_empty);
   }
 
@@ -150,11 +150,11 @@ sound_same what ranks segment sums m n held same sound = record {
 module _ (what : Collective) (ranks : ℕ) (segment : Segment) (sums : List Value) (m : Terms) (s : Summed) (is : record { kept = kept_in what ranks segment sums m; sums = sums } ≡ s) where
   pub value_there : (r k : ℕ) (t : Term) → Some t ≡ found_in m r k → meaning s.sums t ≡ values s.kept r k
   value_there r k t e =
-      subst (λ (u : Summed). meaning u.sums t ≡ values u.kept r k) is (sym (value_by what ranks segment sums m r k ∙ ap (λ (o : Option Term). unwrap_or (option_map (meaning sums) o) (initial_in what segment.width segment.block ranks r k)) (sym e)))
+      subst (λ (u : Summed). meaning u.sums t ≡ values u.kept r k) is (sym (value_from_terms what ranks segment sums m r k ∙ ap (λ (o : Option Term). unwrap_or (option_map (meaning sums) o) (initial_in what segment.width segment.block ranks r k)) (sym e)))
 
   pub first_there : (r k : ℕ) (v : Value) → None ≡ found_in m r k → v ≡ first_values s.kept r k → v ≡ values s.kept r k
   first_there r k v e first =
-      first ∙ subst (λ (u : Summed). first_values u.kept r k ≡ values u.kept r k) is (sym (value_by what ranks segment sums m r k ∙ ap (λ (o : Option Term). unwrap_or (option_map (meaning sums) o) (initial_in what segment.width segment.block ranks r k)) (sym e)))
+      first ∙ subst (λ (u : Summed). first_values u.kept r k ≡ values u.kept r k) is (sym (value_from_terms what ranks segment sums m r k ∙ ap (λ (o : Option Term). unwrap_or (option_map (meaning sums) o) (initial_in what segment.width segment.block ranks r k)) (sym e)))
 
   pub below_there : (held : ℕ) → IsSound (record { kept = kept_in what ranks segment sums m; sums = sums }) m held → (r k : ℕ) (t : Term) → Some t ≡ found_in m r k → IsBelow (length s.sums) t
   below_there held sound r k t e =
@@ -164,7 +164,7 @@ module _ (what : Collective) (ranks : ℕ) (segment : Segment) (sums : List Valu
 module _ (what : Collective) (ranks : ℕ) (segment : Segment) (sums : List Value) (m : Terms) (r k : ℕ) (old : Option Term) (first : Term) (there : old ≡ found_in m r k) where
   pub old_size : meaning sums first ≡ initial_in what segment.width segment.block ranks r k → length (meaning sums (unwrap_or old first)) ≡ length (values (kept_in what ranks segment sums m) r k)
   old_size is =
-      ap length (go old ∙ sym (value_by what ranks segment sums m r k ∙ ap (λ (o : Option Term). unwrap_or (option_map (meaning sums) o) (initial_in what segment.width segment.block ranks r k)) (sym there)))
+      ap length (go old ∙ sym (value_from_terms what ranks segment sums m r k ∙ ap (λ (o : Option Term). unwrap_or (option_map (meaning sums) o) (initial_in what segment.width segment.block ranks r k)) (sym there)))
     where
       go : (o : Option Term) → meaning sums (unwrap_or o first) ≡ unwrap_or (option_map (meaning sums) o) (initial_in what segment.width segment.block ranks r k)
       go None = is

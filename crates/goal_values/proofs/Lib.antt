@@ -1,4 +1,4 @@
-mod Told
+mod SumValues
 mod Gathering
 mod Listed
 mod SlotRows

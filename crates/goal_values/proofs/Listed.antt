@@ -11,28 +11,28 @@ use Rattle.std.specs.Ordering.{nat_cmp, ordering_then, is_lt}
 use Rattle.goal_values.specs.Parts.{HasSame}
 
 -- 1 for a contribution, 0 for every other
-abbrev is_it : Contribution → Contribution → ℕ
-is_it c d = if is_lower c d || is_lower d c then 0 else 1
+abbrev counts_as : Contribution → Contribution → ℕ
+counts_as c d = if is_lower c d || is_lower d c then 0 else 1
 
-not_itself : (a b : ℕ) → (nat_lt a a || ((a == a) && nat_lt b b)) ≡ false
-not_itself a b = grind (arith, nat_tests)
+not_below_itself : (a b : ℕ) → (nat_lt a a || ((a == a) && nat_lt b b)) ≡ false
+not_below_itself a b = grind (arith, nat_tests)
 
-is_it_itself : (c : Contribution) → is_it c c ≡ 1
-is_it_itself c = ap {B = ℕ} (λ (b : Bool). if b || b then 0 else 1) (not_itself c.rank c.item)
+counts_as_itself : (c : Contribution) → counts_as c c ≡ 1
+counts_as_itself c = ap {B = ℕ} (λ (b : Bool). if b || b then 0 else 1) (not_below_itself c.rank c.item)
 
 -- a contribution before all of a sorted value is not in it
-none_below : (c : Contribution) (v : Value) → ComesFirst c v → (d : Contribution) → is_lower d c ≡ true → sum_by (is_it d) v ≡ 0
+none_below : (c : Contribution) (v : Value) → ComesFirst c v → (d : Contribution) → is_lower d c ≡ true → sum_by (counts_as d) v ≡ 0
 none_below c [] first d lower = refl
 none_below c (x ∷ v) first d lower =
-    omega (arith, sum_by-cons (is_it d) x v, ap {B = ℕ} (λ (b : Bool). if b || is_lower x d then 0 else 1) (lower_still c d x lower first.0), none_below c v first.1 d lower)
+    omega (arith, sum_by-cons (counts_as d) x v, ap {B = ℕ} (λ (b : Bool). if b || is_lower x d then 0 else 1) (lower_still c d x lower first.0), none_below c v first.1 d lower)
 
 -- the first of a sorted value is in each value with the same contributions
 first_stands : (c d : Contribution) (v w : Value) → ComesFirst d w → HasSame (c ∷ v) (d ∷ w) → is_lower c d ≡ true → ⊥
 first_stands c d v w first same lower =
-    omega (arith, same (is_it c), sum_by-cons (is_it c) c v, is_it_itself c, sum_by-cons (is_it c) d w, none_below d w first c lower, ap {B = ℕ} (λ (b : Bool). if b || is_lower d c then 0 else 1) lower)
+    omega (arith, same (counts_as c), sum_by-cons (counts_as c) c v, counts_as_itself c, sum_by-cons (counts_as c) d w, none_below d w first c lower, ap {B = ℕ} (λ (b : Bool). if b || is_lower d c then 0 else 1) lower)
 
-swapped : (v w : Value) → HasSame v w → HasSame w v
-swapped v w same f = sym (same f)
+has_same_symmetric : (v w : Value) → HasSame v w → HasSame w v
+has_same_symmetric v w same f = sym (same f)
 
 pub same_sorted : (v w : Value) → IsSorted v → IsSorted w → HasSame v w → v ≡ w
 same_sorted [] [] sv sw same = refl
@@ -45,7 +45,7 @@ same_sorted (c ∷ v) (d ∷ w) sv sw same =
   where
     go : (a b : Bool) → is_lower c d ≡ a → is_lower d c ≡ b → (HasSame v w → v ≡ w) → c ∷ v ≡ d ∷ w
     go true b e f rest = absurd (first_stands c d v w sw.0 same e)
-    go false true e f rest = absurd (first_stands d c w v sv.0 (swapped (c ∷ v) (d ∷ w) same) f)
+    go false true e f rest = absurd (first_stands d c w v sv.0 (has_same_symmetric (c ∷ v) (d ∷ w) same) f)
     go false false e f rest =
         let is : c ≡ d = not_lower_is_equal c d e f in
         let tails : v ≡ w = rest (λ g. omega (arith, same g, sum_by-cons g c v, sum_by-cons g d w, ap g is)) in

@@ -23,13 +23,13 @@ listed_at (n ∷ maps) zero m l = refl
 listed_at (n ∷ maps) (suc i) m l = listed_at maps i m (omega (arith, l))
 
 module _ (before : List (List (ℕ × Term))) (maps : List (BTreeMap ℕ Term)) (rank : ℕ) (old new : BTreeMap ℕ Term) (same : HasSameSlots before (listed maps)) (within : rank < length maps) (was : old ≡ get_or maps rank old) where
-  here : (k : ℕ) → found_in (listed (set maps rank new)) rank k ≡ get nat_cmp new k
-  here k =
+  set_found : (k : ℕ) → found_in (listed (set maps rank new)) rank k ≡ get nat_cmp new k
+  set_found k =
       let inside : rank < length (listed maps) = omega (arith, within, length-map maps (λ (row : BTreeMap ℕ Term). row.entries)) in
       ap (λ (rows : List (List (ℕ × Term))). found_in rows rank k) (listed_set maps rank new) ∙ ap (λ (row : List (ℕ × Term)). found_in (row ∷ []) 0 k) (get_or-set_same (listed maps) rank new.entries [] inside)
 
-  elsewhere : (r k : ℕ) → r ≢ rank → found_in (listed (set maps rank new)) r k ≡ found_in before r k
-  elsewhere r k other =
+  found_elsewhere : (r k : ℕ) → r ≢ rank → found_in (listed (set maps rank new)) r k ≡ found_in before r k
+  found_elsewhere r k other =
       ap (λ (rows : List (List (ℕ × Term))). found_in rows r k) (listed_set maps rank new) ∙ ap (λ (row : List (ℕ × Term)). found_in (row ∷ []) 0 k) (get_or-set_other (listed maps) rank r new.entries [] other) ∙ same r k
 
   pub was_found : (k : ℕ) → get nat_cmp old k ≡ found_in before rank k
@@ -42,10 +42,10 @@ module _ (before : List (List (ℕ × Term))) (maps : List (BTreeMap ℕ Term)) 
       go : (b : Bool) → (r == rank) ≡ b → found_in (listed (set maps rank new)) r k ≡ (if (r == rank) && (k == slot) then Some t else found_in before r k)
       go true e =
           let is : r ≡ rank = eqb-true r rank e in
-          let rest : found_in (listed (set maps rank new)) r k ≡ (if k == slot then Some t else found_in before r k) = ap (λ (i : ℕ). found_in (listed (set maps rank new)) i k) is ∙ here k ∙ put k ∙ ap (λ (o : Option Term). if k == slot then Some t else o) (was_found k ∙ ap (λ (i : ℕ). found_in before i k) (sym is)) in
+          let rest : found_in (listed (set maps rank new)) r k ≡ (if k == slot then Some t else found_in before r k) = ap (λ (i : ℕ). found_in (listed (set maps rank new)) i k) is ∙ set_found k ∙ put k ∙ ap (λ (o : Option Term). if k == slot then Some t else o) (was_found k ∙ ap (λ (i : ℕ). found_in before i k) (sym is)) in
           rest ∙ ap (λ (b : Bool). if b && (k == slot) then Some t else found_in before r k) (sym e)
       go false e =
-          elsewhere r k (λ s. both_ways _ e (eq-eqb r rank s)) ∙ ap (λ (b : Bool). if b && (k == slot) then Some t else found_in before r k) (sym e)
+          found_elsewhere r k (λ s. both_ways _ e (eq-eqb r rank s)) ∙ ap (λ (b : Bool). if b && (k == slot) then Some t else found_in before r k) (sym e)
 
   pub has_same : new.entries ≡ old.entries → HasSameSlots before (listed (set maps rank new))
   has_same stays r k = go (r == rank) refl
@@ -53,8 +53,8 @@ module _ (before : List (List (ℕ × Term))) (maps : List (BTreeMap ℕ Term)) 
       go : (b : Bool) → (r == rank) ≡ b → found_in (listed (set maps rank new)) r k ≡ found_in before r k
       go true e =
           let is : r ≡ rank = eqb-true r rank e in
-          ap (λ (i : ℕ). found_in (listed (set maps rank new)) i k) is ∙ here k ∙ ap (λ (row : List (ℕ × Term)). found_in (row ∷ []) 0 k) stays ∙ was_found k ∙ ap (λ (i : ℕ). found_in before i k) (sym is)
-      go false e = elsewhere r k (λ s. both_ways _ e (eq-eqb r rank s))
+          ap (λ (i : ℕ). found_in (listed (set maps rank new)) i k) is ∙ set_found k ∙ ap (λ (row : List (ℕ × Term)). found_in (row ∷ []) 0 k) stays ∙ was_found k ∙ ap (λ (i : ℕ). found_in before i k) (sym is)
+      go false e = found_elsewhere r k (λ s. both_ways _ e (eq-eqb r rank s))
 
 -- the same, from the result of the change
 pub set_if_ok : {X E : Type 0} (old : List (List (ℕ × Term))) (rank slot : ℕ) (t : Term) (new : List (List (ℕ × Term))) (P : Type 0) (r : Result X E) → OnOk r P → (P → HasSet rank slot t old new) → OnOk r (HasSet rank slot t old new)

@@ -1,4 +1,4 @@
--- Another of the lent values is written.
+-- Another value of a payload is written.
 use Rattle.std.proofs.Common.{ℕ, suc, ◌≡◌, ◌≢◌, ◌+◌, ◌<◌, ◌≤◌, ◌==◌, ◌&&◌, Bool, true, false, if◌then◌else◌, List, [], ◌∷◌, length, map, take, drop, get_or, refl, sym, ap, ◌∙◌, arith, add-one, drop-cons, ne_eqb}
 use Rattle.std.specs.List.{sum_by}
 use Rattle.std.proofs.lemmas.List.{take_all}
@@ -34,7 +34,7 @@ sizes_mapped sums [] = refl
 sizes_mapped sums (t ∷ more) =
     omega (arith, sum_by-cons (λ (v : Value). length v) (meaning sums t) (map (meaning sums) more), sum_by-cons (λ x. length (meaning sums x)) t more, sizes_mapped sums more)
 
--- the number of contributions in the first of the lent values
+-- the number of contributions in the first values of a payload
 abbrev pub first_sizes : List Value → List Term → ℕ → ℕ
 first_sizes sums terms i = sum_by (λ t. length (meaning sums t)) (take i terms)
 

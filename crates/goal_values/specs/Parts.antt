@@ -8,9 +8,9 @@ use Rattle.goal_values.specs.Sums.{meaning, IsBelow}
 use Rattle.goal_values.specs.declared.sums.Sum.{Sum}
 
 -- the values of sums, after those already known: each sum is of values before it
-unfoldable pub told : List Value → List Sum → List Value
-told known [] = known
-told known (s ∷ more) = told (known ++ (merge (meaning known s.left) (meaning known s.right) ∷ [])) more
+unfoldable pub values_of_sums : List Value → List Sum → List Value
+values_of_sums known [] = known
+values_of_sums known (s ∷ more) = values_of_sums (known ++ (merge (meaning known s.left) (meaning known s.right) ∷ [])) more
 
 -- the invariant of sum number i, if all sums have these values
 pub record IsSum (values : List Value) (i : ℕ) (s : Sum) : Type 0 where
@@ -23,9 +23,9 @@ pub record IsSum (values : List Value) (i : ℕ) (s : Sum) : Type 0 where
 
 -- the invariant of all sums
 pub record AreSums (sums : List Sum) : Type 0 where
-  pub each : (i : ℕ) (s : Sum) → slice_get sums i ≡ Some s → IsSum (told [] sums) i s
-  pub sorted : (i : ℕ) → IsSorted (slice_index_or (told [] sums) i [])
-  pub many : length (told [] sums) ≡ length sums
+  pub each : (i : ℕ) (s : Sum) → slice_get sums i ≡ Some s → IsSum (values_of_sums [] sums) i s
+  pub sorted : (i : ℕ) → IsSorted (slice_index_or (values_of_sums [] sums) i [])
+  pub many : length (values_of_sums [] sums) ≡ length sums
 
 -- two lists have each contribution equally often
 abbrev pub HasSame : Value → Value → Type 0

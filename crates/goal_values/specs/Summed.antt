@@ -6,7 +6,7 @@ use Rattle.goal_blocks.specs.Values.{Value}
 use Rattle.goal_blocks.specs.Weight.{stored}
 use Rattle.goal_values.specs.Kept.{Kept, values}
 use Rattle.goal_values.specs.declared.sums.Term.{Term}
-use Rattle.goal_values.specs.declared.values.Lent.{Lent}
+use Rattle.goal_values.specs.declared.values.TermPayload.{TermPayload}
 use Rattle.goal_values.specs.Rows.{found_in}
 use Rattle.goal_values.specs.Sums.{meaning, IsBelow}
 
@@ -15,13 +15,13 @@ pub record Summed : Type 0 where
   pub kept : Kept
   pub sums : List Value
 
--- the values that were lent
-abbrev pub lent_values : List Value → Lent → List Value
-lent_values sums lent = map (meaning sums) lent.terms.items
+-- the values of a payload
+abbrev pub payload_values : List Value → TermPayload → List Value
+payload_values sums payload = map (meaning sums) payload.terms.items
 
 -- each of them refers only to these sums
-abbrev pub IsLent : List Value → Lent → Type 0
-IsLent sums lent = All (IsBelow (length sums)) lent.terms.items
+abbrev pub IsPayload : List Value → TermPayload → Type 0
+IsPayload sums payload = All (IsBelow (length sums)) payload.terms.items
 
 -- what is kept, for slots with these terms
 abbrev pub kept_in : Collective → ℕ → Segment → List Value → List (List (ℕ × Term)) → Kept

@@ -7,4 +7,4 @@ mod sums;
 mod values;
 
 pub use sums::{Sums, Term};
-pub use values::{Lent, SlotValues};
+pub use values::{SlotValues, TermPayload};

@@ -12,12 +12,12 @@ use std::marker::Model;
 /// The terms of some slots. A rank usually has few, so a slot is looked up among those of its rank. Contracts see a
 /// list of slots with their terms for each of the first ranks.
 #[derive(Drop)]
-pub(crate) struct Rows {
+pub(crate) struct SlotTerms {
     alloc: Global,
     of_ranks: Vec<BTreeMap<u32, Term>>,
 }
 
-impl Model for Rows {
+impl Model for SlotTerms {
     ghost use Rattle.std.specs.Prelude.{ℕ, List, map};
     ghost use Rattle.std.specs.BTreeMap.{BTreeMap};
     ghost use Rattle.goal_values.specs.declared.sums.Term.{Term};
@@ -27,12 +27,12 @@ impl Model for Rows {
     ghost view = { λ r. map (λ (row : BTreeMap ℕ Term). row.entries) r.of_ranks.items };
 }
 
-impl Rows {
+impl SlotTerms {
     /// Creates a table in which no slot has a term.
-    pub(crate) fn new(alloc: Global) -> Rows
+    pub(crate) fn new(alloc: Global) -> SlotTerms
         ensures { result ≡ [] }
     {
-        Rows {
+        SlotTerms {
             alloc,
             of_ranks: Vec::new(alloc),
         }

@@ -4,7 +4,7 @@ ghost use Rattle.goal_values.specs.declared.sums.Term.TheVariants.{One};
 ghost use Rattle.goal_blocks.specs.Values.{merge};
 ghost use Rattle.goal_blocks.specs.Stored.{IsSorted};
 ghost use Rattle.goal_values.specs.Sums.{meaning, IsBelow, HasGrown};
-ghost use Rattle.goal_values.specs.Parts.{HasSame, AreSums, told};
+ghost use Rattle.goal_values.specs.Parts.{HasSame, AreSums, values_of_sums};
 
 use goal_blocks::Contribution;
 use goal_limits::NoMemory;
@@ -39,11 +39,11 @@ pub struct Sums {
 impl Model for Sums {
     ghost use Rattle.std.specs.Prelude.{List, []};
     ghost use Rattle.goal_blocks.specs.declared.contribution.Contribution.{Contribution};
-    ghost use Rattle.goal_values.specs.Parts.{told, AreSums};
+    ghost use Rattle.goal_values.specs.Parts.{values_of_sums, AreSums};
 
     ghost Value = { List (List Contribution) };
 
-    ghost view = { λ s. told [] s.list.items };
+    ghost view = { λ s. values_of_sums [] s.list.items };
 
     ghost invariant = { λ s. AreSums s.list.items };
 }
@@ -136,8 +136,8 @@ fn gather(
     list: &mut Vec<Contribution>,
 ) -> Result<(), AllocError>
     requires sums { AreSums sums.now }
-    requires below { IsBelow (length (told [] sums.now)) term }
-    ensures { OnOk result (HasSame list.new.items (list.old.items ++ meaning (told [] sums.now) term)) }
+    requires below { IsBelow (length (values_of_sums [] sums.now)) term }
+    ensures { OnOk result (HasSame list.new.items (list.old.items ++ meaning (values_of_sums [] sums.now) term)) }
 {
     let mut opened = Vec::new(alloc);
     let mut part = term;

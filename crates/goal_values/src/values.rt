@@ -10,9 +10,9 @@ ghost use Rattle.goal_blocks.specs.Faults.{SlotAt, IsLeast, slot_key};
 ghost use Rattle.goal_blocks.specs.Stored.{one_or_none};
 ghost use Rattle.goal_values.specs.Kept.{values, first_values};
 ghost use Rattle.goal_values.specs.Sums.{meaning, IsBelow, HasGrown};
-ghost use Rattle.goal_values.specs.Summed.{Summed, lent_values, IsLent, lesser};
+ghost use Rattle.goal_values.specs.Summed.{Summed, payload_values, IsPayload, lesser};
 
-use crate::rows::Rows;
+use crate::rows::SlotTerms;
 use crate::sums::{Sums, Term};
 use goal_blocks::{
     Collective, Contribution, Segment, SlotIter, SlotRange, asked, first_of, initial_size,
@@ -22,10 +22,10 @@ use goal_limits::NoMemory;
 use std::alloc::{AllocError, Global};
 use std::marker::Model;
 
-/// The values of some slots, none of which was copied. They have a meaning only with the values from which they were
-/// lent.
+/// The values of some slots, none of which was copied. They have a meaning only with the values from which they
+/// were read.
 #[derive(Drop)]
-pub struct Lent {
+pub struct TermPayload {
     /// The values, as terms.
     pub terms: Vec<Term>,
 }
@@ -38,7 +38,7 @@ pub struct SlotValues {
     what: Collective,
     ranks: u32,
     segment: Segment,
-    written: Rows,
+    written: SlotTerms,
     sums: Sums,
     held: u64,
 }
@@ -78,7 +78,7 @@ impl SlotValues {
             what,
             ranks,
             segment,
-            written: Rows::new(alloc),
+            written: SlotTerms::new(alloc),
             sums: Sums::new(alloc),
             held: initial_size(ranks, what),
         }
@@ -100,48 +100,53 @@ impl SlotValues {
         self.sums.size(self.term_at(rank, slot))
     }
 
-    /// Returns the number of contributions in the lent values together.
-    pub fn lent_size(&self, lent: &Lent) -> u64
-        requires lent { IsLent self.now.sums lent.now }
-        requires fits { sum_by (λ v. length v) (lent_values self.now.sums lent.now) < 2 ^ 64 }
-        ensures { result ≡ sum_by (λ v. length v) (lent_values self.now.sums lent.now) }
+    /// Returns the number of contributions in a payload.
+    pub fn payload_size(&self, payload: &TermPayload) -> u64
+        requires payload { IsPayload self.now.sums payload.now }
+        requires fits { sum_by (λ v. length v) (payload_values self.now.sums payload.now) < 2 ^ 64 }
+        ensures { result ≡ sum_by (λ v. length v) (payload_values self.now.sums payload.now) }
     {
         let mut size = 0;
-        for term in &lent.terms {
+        for term in &payload.terms {
             size += self.sums.size(*term);
         }
         size
     }
 
     /// Returns the values of the slots in these ranges of the rank. `Err` means out of memory.
-    pub fn lend(&self, rank: u32, ranges: &[SlotRange]) -> Result<Lent, NoMemory>
+    pub fn read(&self, rank: u32, ranges: &[SlotRange]) -> Result<TermPayload, NoMemory>
         requires { rank < self.now.kept.ranks }
-        ensures values { IfOk result (λ l. lent_values self.now.sums l ≡ map (values self.now.kept rank) (slots_in ranges.now)) }
-        ensures lent { IfOk result (λ l. IsLent self.now.sums l) }
+        ensures values { IfOk result (λ l. payload_values self.now.sums l ≡ map (values self.now.kept rank) (slots_in ranges.now)) }
+        ensures payload { IfOk result (λ l. IsPayload self.now.sums l) }
     {
         let mut terms = Vec::with_capacity(self.alloc, slot_count(ranges) as usize)?;
         let mut slots = SlotIter::new(ranges);
         while let Some(slot) = slots.next() {
             terms.push(self.term_at(rank, slot))?;
         }
-        Ok(Lent { terms })
+        Ok(TermPayload { terms })
     }
 
     /// Sets the slots in these ranges of the rank to the values, in order: if a slot is named twice, the later value
     /// stays. On `Err` (out of memory) some of the slots may be set; those of other ranks are unchanged.
-    pub fn write(&mut self, rank: u32, ranges: &[SlotRange], lent: &Lent) -> Result<(), NoMemory>
+    pub fn write(
+        &mut self,
+        rank: u32,
+        ranges: &[SlotRange],
+        payload: &TermPayload,
+    ) -> Result<(), NoMemory>
         requires rank { rank < self.old.kept.ranks }
-        requires lent { IsLent self.old.sums lent.now }
-        requires lengths { length (slots_in ranges.now) ≡ length lent.now.terms.items }
+        requires payload { IsPayload self.old.sums payload.now }
+        requires lengths { length (slots_in ranges.now) ≡ length payload.now.terms.items }
         requires light { stored self.old.kept.ranks (values self.old.kept)
-            + sum_by (λ v. length v) (lent_values self.old.sums lent.now) ≤ 2 ^ 24 }
+            + sum_by (λ v. length v) (payload_values self.old.sums payload.now) ≤ 2 ^ 24 }
         ensures written { OnOk result (values self.new.kept
-            ≡ write rank (slots_in ranges.now) (lent_values self.old.sums lent.now) (values self.old.kept)) }
+            ≡ write rank (slots_in ranges.now) (payload_values self.old.sums payload.now) (values self.old.kept)) }
         ensures others { (r k : ℕ) → r ≢ rank → values self.new.kept r k ≡ values self.old.kept r k }
         ensures ranks { self.new.kept.ranks ≡ self.old.kept.ranks }
         ensures sums { self.new.sums ≡ self.old.sums }
     {
-        let terms = lent.terms.as_slice();
+        let terms = payload.terms.as_slice();
         let mut slots = SlotIter::new(ranges);
         for term in terms {
             match slots.next() {

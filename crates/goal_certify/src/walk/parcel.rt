@@ -1,12 +1,12 @@
 //! What is held along the walk: the values of slots, and those under way.
 
-use goal_values::{Lent, SlotValues};
+use goal_values::{SlotValues, TermPayload};
 
 /// The values that are under way to a receive, and how many contributions these have.
 #[derive(Drop)]
 pub struct Parcel {
     /// The values.
-    pub lent: Lent,
+    pub payload: TermPayload,
     /// The number of their contributions.
     pub size: u64,
 }

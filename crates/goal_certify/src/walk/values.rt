@@ -14,7 +14,7 @@ ghost use Rattle.goal_blocks.specs.Certification.{IsSmall, HasEqualLengths};
 ghost use Rattle.goal_blocks.specs.Faults.{IsTooHeavy, IsFirstTooHeavy};
 ghost use Rattle.goal_values.specs.Kept.{values};
 ghost use Rattle.goal_values.specs.Sums.{HasGrown};
-ghost use Rattle.goal_values.specs.Summed.{lent_values, IsLent};
+ghost use Rattle.goal_values.specs.Summed.{payload_values, IsPayload};
 ghost use Rattle.goal_certify.specs.Carried.{size_of, told_of, parcel_of, IsOver, AddsOver, AddsWithin, Holds, FollowsOn, GrowsTooHeavy, IsTaken, HasEqualEnds};
 ghost use Rattle.goal_certify.specs.WalkSoFar.{act_of};
 
@@ -69,20 +69,20 @@ pub fn hand_over(
     requires ranks { store.now.kept.ranks ≡ length table.now }
     requires light { stored store.now.kept.ranks (values store.now.kept) + others ≤ 2 ^ 24 }
     ensures parcel { IfOk result (λ p. told_of store.now.sums p ≡ parcel_of (map (values store.now.kept send.rank) (slots table.now send))) }
-    ensures lent { IfOk result (λ p. IsLent store.now.sums p.lent) }
+    ensures payload { IfOk result (λ p. IsPayload store.now.sums p.payload) }
     ensures within { OnOk result (stored store.now.kept.ranks (values store.now.kept) + others + size_of (map (values store.now.kept send.rank) (slots table.now send)) ≤ 2 ^ 24) }
     ensures over { IfErr result (IsOver (λ total. (stored store.now.kept.ranks (values store.now.kept) + others + size_of (map (values store.now.kept send.rank) (slots table.now send)) ≡ total) × IsTooHeavy total)) }
 {
     let slots = table.slots_of(send);
-    let Ok(lent) = store.lend(send.rank, slots) else {
+    let Ok(payload) = store.read(send.rank, slots) else {
         return Err(CertFault::NoMemory);
     };
-    let size = store.lent_size(&lent);
+    let size = store.payload_size(&payload);
     let total = store.held() + others + size;
     if total > MOST_HELD {
         return Err(CertFault::Weight { held: total });
     }
-    Ok(Parcel { lent, size })
+    Ok(Parcel { payload, size })
 }
 
 /// A receive sets its slots to the values of a parcel, in order.
@@ -95,16 +95,16 @@ pub fn take(
     requires small { IsSmall table.now }
     requires exists { IsOp table.now recv }
     requires ranks { store.old.kept.ranks ≡ length table.now }
-    requires lent { IsLent store.old.sums parcel.lent }
-    requires lengths { length (slots table.now recv) ≡ length parcel.lent.terms.items }
-    requires light { stored store.old.kept.ranks (values store.old.kept) + size_of (lent_values store.old.sums parcel.lent) ≤ 2 ^ 24 }
-    ensures written { OnOk result (values store.new.kept ≡ write recv.rank (slots table.now recv) (lent_values store.old.sums parcel.lent) (values store.old.kept)) }
+    requires payload { IsPayload store.old.sums parcel.payload }
+    requires lengths { length (slots table.now recv) ≡ length parcel.payload.terms.items }
+    requires light { stored store.old.kept.ranks (values store.old.kept) + size_of (payload_values store.old.sums parcel.payload) ≤ 2 ^ 24 }
+    ensures written { OnOk result (values store.new.kept ≡ write recv.rank (slots table.now recv) (payload_values store.old.sums parcel.payload) (values store.old.kept)) }
     ensures fault { IfErr result (λ fault. fault ≡ NoMemory) }
     ensures ranks { store.new.kept.ranks ≡ store.old.kept.ranks }
     ensures sums { store.new.sums ≡ store.old.sums }
 {
     let slots = table.slots_of(recv);
-    let Ok(()) = store.write(recv.rank, slots, &parcel.lent) else {
+    let Ok(()) = store.write(recv.rank, slots, &parcel.payload) else {
         return Err(CertFault::NoMemory);
     };
     Ok(())

@@ -33,7 +33,7 @@ returns-clause-follows c =
     let at = ap (λ (ps : List Plan). slice_get (operations ps) j) (sym c.sched.ensures) ∙ c.index-place.ensures.index in
     let is = c.in-Ok.ensures.parcel ∙ ap (λ (ps : List Plan). parcel_of (map (values s.kept x.rank) (slots ps x))) c.requires.taken.table_is in
     let few = subst (λ (ps : List Plan). stored s.kept.ranks (values s.kept) + c.args.held.now.carried + size_of (map (values s.kept x.rank) (slots ps x)) ≤ 2 ^ 24) c.requires.taken.table_is c.in-Ok.ensures.within in
-    λ first so_far. holding_set plans first c.args.walker.now.history c.args.held.now.parcels.items s s (drop 1 c.args.walker.now.history) c.args.held.now.carried _ j (Some c.in-Ok.parcel) _ c.put_in.ensures so_far refl c.in-Ok.ensures.lent (sent plans c.args.walker.now.history (act_of c.args.action) c.requires.taken.newest c.known.ensures.each first s.kept (told_in s.sums c.args.held.now.parcels.items) c.args.held.now.carried so_far.carrying c.requires.class j at (told_of s.sums c.in-Ok.parcel) _ _ is refl refl few)
+    λ first so_far. holding_set plans first c.args.walker.now.history c.args.held.now.parcels.items s s (drop 1 c.args.walker.now.history) c.args.held.now.carried _ j (Some c.in-Ok.parcel) _ c.put_in.ensures so_far refl c.in-Ok.ensures.payload (sent plans c.args.walker.now.history (act_of c.args.action) c.requires.taken.newest c.known.ensures.each first s.kept (told_in s.sums c.args.held.now.parcels.items) c.args.held.now.carried so_far.carrying c.requires.class j at (told_of s.sums c.in-Ok.parcel) _ _ is refl refl few)
 
 pub returns-in-Err-clause-over : goal.returns-in-Err-clause-over
 returns-in-Err-clause-over c =

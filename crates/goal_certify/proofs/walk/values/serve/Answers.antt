@@ -9,7 +9,7 @@ use Rattle.goal_certify.proofs.SlotFacts.{slots_low}
 use Rattle.goal_certify.specs.WalkSoFar.{act_of}
 use Rattle.std.proofs.Math.ListN.{length-map}
 use Rattle.goal_values.specs.Sums.{meaning}
-use Rattle.goal_values.specs.Summed.{lent_values}
+use Rattle.goal_values.specs.Summed.{payload_values}
 use Rattle.goal_certify.specs.Carried.{Told, told_of, told_in}
 use Rattle.goal_certify.proofs.Holding.{told_at, known_at, one_there, holding_set}
 use Rattle.goal_certify.proofs.Applied.{there_within, op_there, light_before, partner_then, pair_from, as_many, parcel_is, parcel_known, size_within, size_told, received}
@@ -65,8 +65,8 @@ overflow_sub-held c =
     let e = told_at s.sums c.args.held.now.parcels.items j inside c.in-Some-take_out.parcel raw in
     size_within plans hist a c.requires.taken.newest c.known.ensures.each c.requires.class c.in-Some.send pair first s.kept told c.args.held.now.carried so_far.carrying j at (told_of s.sums c.in-Some-take_out.parcel) e
 
-pub take-requires-clause-lent : goal.take-requires-clause-lent
-take-requires-clause-lent c =
+pub take-requires-clause-payload : goal.take-requires-clause-payload
+take-requires-clause-payload c =
     let plans = c.args.walker.now.plans in
     let hist = c.args.walker.now.history in
     let a = act_of c.args.action in
@@ -97,7 +97,7 @@ take-requires-clause-lengths c =
     let raw = sym c.take_out.ensures.taken ∙ c.in-Some-take_out.is in
     let e = told_at s.sums c.args.held.now.parcels.items j inside c.in-Some-take_out.parcel raw in
     let known = parcel_known plans hist a c.requires.taken.newest c.known.ensures.each c.requires.class c.in-Some.send pair first s.kept told c.args.held.now.carried so_far.carrying j at (told_of s.sums c.in-Some-take_out.parcel) e in
-    ap (λ (ps : List Plan). length (slots ps c.args.action.op)) c.requires.taken.table_is ∙ as_many plans hist a c.requires.taken.newest c.known.ensures.each c.requires.class c.in-Some.send pair c.requires.ends.channels c.requires.ends.lengths first ∙ sym (ap (λ (q : Told). length q.payload) known) ∙ length-map c.in-Some-take_out.parcel.lent.terms.items (meaning s.sums)
+    ap (λ (ps : List Plan). length (slots ps c.args.action.op)) c.requires.taken.table_is ∙ as_many plans hist a c.requires.taken.newest c.known.ensures.each c.requires.class c.in-Some.send pair c.requires.ends.channels c.requires.ends.lengths first ∙ sym (ap (λ (q : Told). length q.payload) known) ∙ length-map c.in-Some-take_out.parcel.payload.terms.items (meaning s.sums)
 
 pub take-requires-clause-light : goal.take-requires-clause-light
 take-requires-clause-light c =
@@ -132,5 +132,5 @@ returns-in-Ok-clause-follows c = λ first so_far.
     let e = told_at s.sums c.args.held.now.parcels.items j inside c.in-Some-take_out.parcel raw in
     let there = op_there plans hist a c.requires.taken.newest c.known.ensures.each in
     let below : x.rank < s.kept.ranks = omega (arith, rank_below plans x there, so_far.carrying.ranks) in
-    let put = c.in-Ok.ensures.written ∙ ap (λ (ps : List Plan). write x.rank (slots ps x) (lent_values s.sums c.in-Some-take_out.parcel.lent) (values s.kept)) c.requires.taken.table_is in
+    let put = c.in-Ok.ensures.written ∙ ap (λ (ps : List Plan). write x.rank (slots ps x) (payload_values s.sums c.in-Some-take_out.parcel.payload) (values s.kept)) c.requires.taken.table_is in
     holding_set plans first hist c.args.held.now.parcels.items s c.take.new.store (drop 1 hist) c.args.held.now.carried _ j None _ c.take_out.ensures.after so_far c.take.ensures.sums tt (received plans hist a c.requires.taken.newest c.known.ensures.each c.requires.class c.in-Some.send pair first s.kept told c.args.held.now.carried so_far.carrying j at (told_of s.sums c.in-Some-take_out.parcel) e c.take.new.store.kept _ _ below (slots_low plans c.requires.taken.small x there) put c.take.ensures.ranks refl refl)

@@ -2,7 +2,7 @@ use Rattle.std.proofs.Common.{◌+◌, sym, ap, ◌∙◌, arith}
 use Rattle.goal_blocks.specs.Values.{merge}
 use Rattle.goal_blocks.proofs.ForCallers.{merge_none}
 use Rattle.goal_values.specs.Sums.{meaning}
-use Rattle.goal_values.proofs.Told.{none_of_length, meaning_sorted, sorted_as, sums_put, put_told, put_value}
+use Rattle.goal_values.proofs.SumValues.{none_of_length, meaning_sorted, sorted_as, sums_put, put_told, put_value}
 use Rattle.goal_values.proofs.sums.Sums.add.Goals as goal
 
 pub returns-then-left_size-eq0-clause-sum : goal.returns-then-left_size-eq0-clause-sum

@@ -1,6 +1,6 @@
 use Rattle.std.proofs.Common.{◌∙◌}
 use Rattle.std.proofs.lemmas.List.Sorted.{sum_by-IsPermutation}
-use Rattle.goal_values.proofs.Told.{sorted_as, meaning_sorted}
+use Rattle.goal_values.proofs.SumValues.{sorted_as, meaning_sorted}
 use Rattle.goal_values.proofs.Listed.{same_sorted, sorted_by}
 use Rattle.goal_values.proofs.sums.Sums.list.Goals as goal
 

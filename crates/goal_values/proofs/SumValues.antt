@@ -12,17 +12,17 @@ use Rattle.goal_values.specs.declared.sums.Term.{Term}
 use Rattle.goal_values.specs.declared.sums.Term.TheVariants.{Nothing, One, Made}
 use Rattle.goal_values.specs.declared.sums.Sum.{Sum}
 use Rattle.goal_values.specs.Sums.{meaning, IsBelow}
-use Rattle.goal_values.specs.Parts.{told, IsSum, AreSums}
+use Rattle.goal_values.specs.Parts.{values_of_sums, IsSum, AreSums}
 
 -- both parts of a sum together
 abbrev pub sum_in : List Value → Sum → Value
 sum_in known s = merge (meaning known s.left) (meaning known s.right)
 
 -- another sum gives another value
-pub told_more : (known : List Value) (sums : List Sum) (s : Sum) → told known (sums ++ s ∷ []) ≡ told known sums ++ sum_in (told known sums) s ∷ []
-unfolding told
-told_more known [] s = refl
-told_more known (t ∷ sums) s = told_more (known ++ sum_in known t ∷ []) sums s
+pub values_of_one_more : (known : List Value) (sums : List Sum) (s : Sum) → values_of_sums known (sums ++ s ∷ []) ≡ values_of_sums known sums ++ sum_in (values_of_sums known sums) s ∷ []
+unfolding values_of_sums
+values_of_one_more known [] s = refl
+values_of_one_more known (t ∷ sums) s = values_of_one_more (known ++ sum_in known t ∷ []) sums s
 
 -- later values do not change the meaning of a term that refers to an earlier one
 pub meaning_stays : (known more : List Value) (t : Term) → IsBelow (length known) t → meaning (known ++ more) t ≡ meaning known t
@@ -41,7 +41,7 @@ meaning_sorted sums (One c) sorted = (tt, tt)
 meaning_sorted sums (Made i) sorted = sorted i
 
 pub no_sums : AreSums []
-unfolding told
+unfolding values_of_sums
 no_sums = record {
   each = λ i s at. absurd (omega (arith, slice_get_within {A = Sum} [] i s at));
   sorted = λ i. subst IsSorted (sym (get_or_past [] i [] (omega arith))) tt;
@@ -50,14 +50,14 @@ no_sums = record {
 
 module _ (sums : List Sum) (are : AreSums sums) (s : Sum) where
   abbrev values : List Value
-  values = told [] sums
+  values = values_of_sums [] sums
 
   abbrev after : List Value
   after = values ++ sum_in values s ∷ []
 
   -- an existing sum is unchanged
-  kept : (i : ℕ) (t : Sum) → slice_get sums i ≡ Some t → IsSum after i t
-  kept i t at =
+  earlier_sum_stays : (i : ℕ) (t : Sum) → slice_get sums i ≡ Some t → IsSum after i t
+  earlier_sum_stays i t at =
       let is = are.each i t at in
       let inside : i < length values = omega (arith, slice_get_within sums i t at, are.many) in
       let left : meaning after t.left ≡ meaning values t.left = meaning_stays values _ t.left (below_more i (length values) t.left (omega arith) is.left) in
@@ -93,7 +93,7 @@ module _ (sums : List Sum) (are : AreSums sums) (s : Sum) where
         let here : get_or (sums ++ s ∷ []) i t ≡ t = get_or_from_slice_get (sums ++ s ∷ []) i t t at in
         elim (cases_lt i (length sums)) [
           | inl before ↦
-              kept i t (slice_get_read sums (length sums) i t refl before (sym here ∙ get_or-append sums (s ∷ []) t i before))
+              earlier_sum_stays i t (slice_get_read sums (length sums) i t refl before (sym here ∙ get_or-append sums (s ∷ []) t i before))
           | inr past ↦
               let last : i ≡ length sums = omega (arith, inside, past, length-append sums (s ∷ [])) in
               let same : s ≡ t = sym (get_or-append_seam sums s [] t) ∙ ap (λ (k : ℕ). get_or (sums ++ s ∷ []) k t) (sym last) ∙ here in
@@ -114,14 +114,14 @@ module _ (sums : List Sum) (are : AreSums sums) (s : Sum) where
 
     pub sums_more : AreSums (sums ++ s ∷ [])
     sums_more = record {
-      each = λ i t at. subst (λ (vs : List Value). IsSum vs i t) (sym (told_more [] sums s)) (each_after i t at);
-      sorted = λ i. subst (λ (vs : List Value). IsSorted (get_or vs i [])) (sym (told_more [] sums s)) (sorted_after i);
-      many = omega (arith, ap length (told_more [] sums s), length-append values (sum_in values s ∷ []), length-append sums (s ∷ []), are.many);
+      each = λ i t at. subst (λ (vs : List Value). IsSum vs i t) (sym (values_of_one_more [] sums s)) (each_after i t at);
+      sorted = λ i. subst (λ (vs : List Value). IsSorted (get_or vs i [])) (sym (values_of_one_more [] sums s)) (sorted_after i);
+      many = omega (arith, ap length (values_of_one_more [] sums s), length-append values (sum_in values s ∷ []), length-append sums (s ∷ []), are.many);
     }
 
 -- a sum that is read says how many contributions its value has
-pub size_told : (sums : List Sum) → AreSums sums → (values : List Value) → told [] sums ≡ values → (i : ℕ) (s : Sum) → s ≡ get_or sums i s → i < length values → s.size ≡ length (get_or values i [])
-size_told sums are values is i s read inside =
+pub size_of_value : (sums : List Sum) → AreSums sums → (values : List Value) → values_of_sums [] sums ≡ values → (i : ℕ) (s : Sum) → s ≡ get_or sums i s → i < length values → s.size ≡ length (get_or values i [])
+size_of_value sums are values is i s read inside =
     let few : i < length sums = omega (arith, inside, are.many, ap length is) in
     (are.each i s (slice_get_read sums (length sums) i s refl few read)).size ∙ ap (λ (vs : List Value). length (get_or vs i [])) is
 
@@ -130,21 +130,21 @@ none_of_length [] e = refl
 none_of_length (c ∷ v) e = absurd (omega (arith, e))
 
 -- a sum is appended to those of some values
-module _ (sums : List Sum) (are : AreSums sums) (known : List Value) (is : told [] sums ≡ known) (s : Sum) (more : List Sum) (put : more ≡ sums ++ s ∷ []) where
+module _ (sums : List Sum) (are : AreSums sums) (known : List Value) (is : values_of_sums [] sums ≡ known) (s : Sum) (more : List Sum) (put : more ≡ sums ++ s ∷ []) where
   pub sums_put : IsBelow (length known) s.left → IsBelow (length known) s.right → 0 < length (meaning known s.left) → 0 < length (meaning known s.right) → s.size ≡ length (meaning known s.left) + length (meaning known s.right) → AreSums more
   sums_put left right some_left some_right size =
       let P : List Value → Type 0 = λ vs. IsBelow (length vs) s.left × IsBelow (length vs) s.right × (0 < length (meaning vs s.left)) × (0 < length (meaning vs s.right)) × (s.size ≡ length (meaning vs s.left) + length (meaning vs s.right)) in
-      let all : P (told [] sums) = subst P (sym is) (left, right, some_left, some_right, size) in
+      let all : P (values_of_sums [] sums) = subst P (sym is) (left, right, some_left, some_right, size) in
       subst AreSums (sym put) (sums_more sums are s all.0 all.1 all.2 all.3 all.4)
 
-  pub put_told : told [] more ≡ known ++ sum_in known s ∷ []
+  pub put_told : values_of_sums [] more ≡ known ++ sum_in known s ∷ []
   put_told =
-      ap (told []) put ∙ told_more [] sums s ∙ ap (λ (vs : List Value). vs ++ sum_in vs s ∷ []) is
+      ap (values_of_sums []) put ∙ values_of_one_more [] sums s ∙ ap (λ (vs : List Value). vs ++ sum_in vs s ∷ []) is
 
-  pub put_value : (i : ℕ) → i ≡ length sums → (get_or (told [] more) i [] ≡ sum_in known s) × (i < length (told [] more))
+  pub put_value : (i : ℕ) → i ≡ length sums → (get_or (values_of_sums [] more) i [] ≡ sum_in known s) × (i < length (values_of_sums [] more))
   put_value i last =
       let place : i ≡ length known = omega (arith, last, are.many, ap length is) in
       (ap₂ (λ (vs : List Value) (k : ℕ). get_or vs k []) put_told place ∙ get_or-append_seam known (sum_in known s) [] [], omega (arith, place, ap length put_told, length-append known (sum_in known s ∷ [])))
 
-pub sorted_as : (sums : List Sum) → AreSums sums → (known : List Value) → told [] sums ≡ known → (i : ℕ) → IsSorted (get_or known i [])
+pub sorted_as : (sums : List Sum) → AreSums sums → (known : List Value) → values_of_sums [] sums ≡ known → (i : ℕ) → IsSorted (get_or known i [])
 sorted_as sums are known is i = subst (λ (vs : List Value). IsSorted (get_or vs i [])) is (are.sorted i)

@@ -2,7 +2,7 @@ use Rattle.std.proofs.Common.{◌≡◌, ◌++◌, All, length, map}
 use Rattle.goal_blocks.specs.SlotRanges.{slots_in}
 use Rattle.goal_values.specs.Kept.{values}
 use Rattle.goal_values.specs.Sums.{meaning, IsBelow}
-use Rattle.goal_values.proofs.values.SlotValues.lend.Given as goal
+use Rattle.goal_values.proofs.values.SlotValues.read.Given as goal
 
 -- with the values of the remaining slots these are all
 abbrev pub invariant-loop-slot : goal.invariant-loop-slot

@@ -3,7 +3,7 @@ use Rattle.std.proofs.lemmas.List.{length-map}
 use Rattle.goal_values.specs.declared.sums.Term.{Term}
 use Rattle.goal_values.specs.Rows.{HasSameSlots}
 use Rattle.goal_values.proofs.SlotRows.{has_set, has_same, set_if_ok, same_if_err}
-use Rattle.goal_values.proofs.rows.Rows.insert.Goals as goal
+use Rattle.goal_values.proofs.rows.SlotTerms.insert.Goals as goal
 
 pub returns-clause-set : goal.returns-clause-set
 returns-clause-set c =

@@ -3,7 +3,7 @@ use Rattle.std.specs.List.{sum_by}
 use Rattle.goal_values.specs.declared.sums.Term.{Term}
 use Rattle.goal_values.specs.Sums.{meaning}
 use Rattle.goal_values.proofs.Writing.{size_more, size_within, size_all}
-use Rattle.goal_values.proofs.values.SlotValues.lent_size.Goals as goal
+use Rattle.goal_values.proofs.values.SlotValues.payload_size.Goals as goal
 
 pub overflow_add-size : goal.overflow_add-size
 overflow_add-size c =

@@ -4,7 +4,7 @@ use Rattle.goal_blocks.specs.SlotRanges.{slots_in}
 use Rattle.goal_blocks.proofs.ForCallers.{read_more, read_all}
 use Rattle.goal_values.specs.Kept.{values}
 use Rattle.goal_values.specs.Sums.{meaning, IsBelow}
-use Rattle.goal_values.proofs.values.SlotValues.lend.Goals as goal
+use Rattle.goal_values.proofs.values.SlotValues.read.Goals as goal
 
 pub loop-slot-preserved : goal.loop-slot-preserved
 loop-slot-preserved c =
@@ -17,5 +17,5 @@ loop-slot-preserved c =
 pub returns : goal.returns
 returns c = record {
   values = read_all (meaning c.args.self.now.sums) (values c.args.self.now.kept c.args.rank) (map (values c.args.self.now.kept c.args.rank) (slots_in c.args.ranges.now)) c.loop-slot.terms.items c.loop-slot.slots c.in_default.ensures.0 c.loop-slot.invariant.read;
-  lent = c.loop-slot.invariant.below;
+  payload = c.loop-slot.invariant.below;
 }

@@ -1,7 +1,7 @@
 use Rattle.std.proofs.Common.{◌+◌, ◌-◌, length}
 use Rattle.goal_values.specs.Rows.{HasSameSlots}
 use Rattle.goal_values.proofs.SlotRows.{listed}
-use Rattle.goal_values.proofs.rows.Rows.make_room.Given as goal
+use Rattle.goal_values.proofs.rows.SlotTerms.make_room.Given as goal
 
 -- each slot has the same as before
 abbrev pub invariant-loop-self : goal.invariant-loop-self
