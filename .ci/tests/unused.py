@@ -114,7 +114,7 @@ class Unused(unittest.TestCase):
         """A copy of the script with this list of what stays."""
         with open(f"{TOP}/.ci/unused", encoding="utf-8") as it:
             text = it.read()
-        text, count = re.subn(r"\nKEPT = \(\n.*?\n\)\n", f"\nKEPT = ({kept})\n", text, flags=re.S)
+        text, count = re.subn(r"\nKEPT: (.*?) = \(.*?\)\n", rf"\nKEPT: \1 = ({kept})\n", text, flags=re.S)
         self.assertEqual(count, 1)
         self.write(".ci/unused", text)
 

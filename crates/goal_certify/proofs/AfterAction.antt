@@ -14,29 +14,29 @@ use Rattle.goal_graph.proofs.ForCallers.{cases_op, happened_new, happened_other,
 use Rattle.goal_blocks.specs.Walk.{no_send}
 use Rattle.sim_match.specs.PostsAndArrivals.{is_post_or_arrival}
 use Rattle.sim_match.proofs.ForCallers.{send_for_filtered, receive_for_filtered}
-use Rattle.goal_certify.specs.declared.walk.entry.Entry.{Entry}
+use Rattle.goal_certify.specs.declared.walk.entry.OpProgress.{OpProgress}
 use Rattle.goal_certify.specs.WalkSoFar.{with_class, with_entry, with_pairing, with_partner, met, entry_known}
 
 -- an entry is written, and two entries get their partners
-pair_written : (y m : OpId) (e : Entry) (f g : OpId → Entry) → same_op y m ≡ false → g y ≡ record e { paired = Some m } → g m ≡ record (f m) { paired = Some y } → ((x : OpId) → same_op y x ≡ false → same_op m x ≡ false → g x ≡ f x) → (x : OpId) → with_pairing m y (with_pairing y m (with_entry y e f)) x ≡ g x
+pair_written : (y m : OpId) (e : OpProgress) (f g : OpId → OpProgress) → same_op y m ≡ false → g y ≡ record e { paired = Some m } → g m ≡ record (f m) { paired = Some y } → ((x : OpId) → same_op y x ≡ false → same_op m x ≡ false → g x ≡ f x) → (x : OpId) → with_pairing m y (with_pairing y m (with_entry y e f)) x ≡ g x
 pair_written y m e f g differ here there others = entry_written m _ first g second rest
   where
-    base : OpId → Entry
+    base : OpId → OpProgress
     base = with_entry y e f
 
-    first : OpId → Entry
+    first : OpId → OpProgress
     first = with_pairing y m base
 
     second : g m ≡ record (first m) { paired = Some y }
     second =
-        there ∙ ap (λ (d : Entry). record d { paired = Some y }) (sym (off_entry y _ base m (same_op_swapped y m differ) ∙ off_entry y e f m (same_op_swapped y m differ)))
+        there ∙ ap (λ (d : OpProgress). record d { paired = Some y }) (sym (off_entry y _ base m (same_op_swapped y m differ) ∙ off_entry y e f m (same_op_swapped y m differ)))
 
     rest : (x : OpId) → same_op m x ≡ false → g x ≡ first x
     rest x d =
-        elim (cases_op x y) [ inl s ↦ ap g s ∙ here ∙ ap (λ (d : Entry). record d { paired = Some m }) (sym (at_entry y e f y refl)) ∙ sym (at_entry y _ base x s) | inr o ↦ others x (same_op_swapped x y o) d ∙ sym (off_entry y _ base x o ∙ off_entry y e f x o) ]
+        elim (cases_op x y) [ inl s ↦ ap g s ∙ here ∙ ap (λ (d : OpProgress). record d { paired = Some m }) (sym (at_entry y e f y refl)) ∙ sym (at_entry y _ base x s) | inr o ↦ others x (same_op_swapped x y o) d ∙ sym (off_entry y _ base x o ∙ off_entry y e f x o) ]
 
 -- what is known of the partner is what was known
-same_paired : (c : Class) (e : Entry) → record (with_class c e) { paired = e.paired } ≡ with_class c e
+same_paired : (c : Class) (e : OpProgress) → record (with_class c e) { paired = e.paired } ≡ with_class c e
 same_paired Arrive e = refl
 same_paired Serve e = refl
 same_paired Data e = refl
@@ -134,10 +134,10 @@ module _ (plans : List Plan) (h : List Act) (a : Act) where
         go Data s f = none_made (made Data s) o f
         go Begin s f = none_made (made Begin s) o f
 
-  abbrev before : OpId → Entry
+  abbrev before : OpId → OpProgress
   before = entry_known plans h
 
-  abbrev after : OpId → Entry
+  abbrev after : OpId → OpProgress
   after = entry_known plans (a ∷ h)
 
   -- an operation that another action was of

@@ -25,7 +25,7 @@ use Rattle.goal_blocks.specs.Values.{Store, add_all, write, held_after}
 use Rattle.goal_blocks.specs.Weight.{stored}
 use Rattle.goal_blocks.specs.Faults.{IsTooHeavy, IsFirstTooHeavy}
 use Rattle.goal_values.specs.Kept.{Kept, values}
-use Rattle.goal_certify.specs.Carried.{Told, size_of, parcel_of, IsCarrying, IsOver, AddsOver, AddsWithin}
+use Rattle.goal_certify.specs.Carried.{ParcelValues, size_of, parcel_of, IsCarrying, IsOver, AddsOver, AddsWithin}
 use Rattle.goal_certify.proofs.Places.{allowed_exists}
 use Rattle.goal_certify.proofs.Carrying.{parcel_within, store_post, receive_adds, parcel_there, sum_taken, carrying_taken, held_before, carrying_calc, calc_over, carrying_same, carrying_handed, handed_over, store_send, send_adds}
 
@@ -54,7 +54,7 @@ module _ (plans : List Plan) (hist : List Act) (a : Act) (newest : hist ≡ a �
       let listed = allowed_listed plans no_send (drop 1 hist) a.class a.op now.1 in
       (listed.0, slice_get-get_or (operations plans) listed.0 a.op listed.1 ∙ ap Some listed.2)
 
-  module _ (first : Store) (s : Kept) (parcels : List (Option Told)) (count : ℕ) (so_far : IsCarrying plans first (drop 1 hist) s parcels count) where
+  module _ (first : Store) (s : Kept) (parcels : List (Option ParcelValues)) (count : ℕ) (so_far : IsCarrying plans first (drop 1 hist) s parcels count) where
     pub light_before : stored s.ranks (values s) + count ≤ 2 ^ 24
     light_before = held_before plans first (drop 1 hist) a now s parcels count so_far
 
@@ -62,7 +62,7 @@ module _ (plans : List Plan) (hist : List Act) (a : Act) (newest : hist ≡ a �
     pub there_within : (j : ℕ) (x : OpId) → slice_get (operations plans) j ≡ Some x → j < length parcels
     there_within = parcel_within plans first (drop 1 hist) a now s parcels count so_far
 
-    whole : (t : Kept) (new_parcels : List (Option Told)) (total : ℕ) → IsCarrying plans first (a ∷ drop 1 hist) t new_parcels total → IsCarrying plans first hist t new_parcels total
+    whole : (t : Kept) (new_parcels : List (Option ParcelValues)) (total : ℕ) → IsCarrying plans first (a ∷ drop 1 hist) t new_parcels total → IsCarrying plans first hist t new_parcels total
     whole t new_parcels total = subst (λ (l : List Act). IsCarrying plans first l t new_parcels total) (sym newest)
 
     heavy : (total : ℕ) → IsFirstTooHeavy plans first (a ∷ drop 1 hist) total → IsFirstTooHeavy plans first hist total
@@ -94,9 +94,9 @@ module _ (plans : List Plan) (hist : List Act) (a : Act) (newest : hist ≡ a �
       is_send =
           (allowed_data plans no_send (drop 1 hist) a.op (subst (λ (b : Class). allowed plans no_send (drop 1 hist) b a.op ≡ true) c now.1)).0
 
-      pub sent : (p : Told) (new_parcels : List (Option Told)) (total : ℕ) → p ≡ parcel_of (map (values s a.op.rank) (slots plans a.op)) → new_parcels ≡ set parcels j (Some p) → total ≡ count + p.size → stored s.ranks (values s) + count + size_of (map (values s a.op.rank) (slots plans a.op)) ≤ 2 ^ 24 → IsCarrying plans first hist s new_parcels total
+      pub sent : (p : ParcelValues) (new_parcels : List (Option ParcelValues)) (total : ℕ) → p ≡ parcel_of (map (values s a.op.rank) (slots plans a.op)) → new_parcels ≡ set parcels j (Some p) → total ≡ count + p.size → stored s.ranks (values s) + count + size_of (map (values s a.op.rank) (slots plans a.op)) ≤ 2 ^ 24 → IsCarrying plans first hist s new_parcels total
       sent p new_parcels total is put sum few =
-          whole s new_parcels total (carrying_handed plans first (drop 1 hist) a now s parcels count so_far c is_send j at new_parcels total (put ∙ ap (λ (q : Told). set parcels j (Some q)) is) (sum ∙ ap (λ (q : Told). count + q.size) is) few)
+          whole s new_parcels total (carrying_handed plans first (drop 1 hist) a now s parcels count so_far c is_send j at new_parcels total (put ∙ ap (λ (q : ParcelValues). set parcels j (Some q)) is) (sum ∙ ap (λ (q : ParcelValues). count + q.size) is) few)
 
       pub sent_over : (total : ℕ) → (stored s.ranks (values s) + count + size_of (map (values s a.op.rank) (slots plans a.op)) ≡ total) × IsTooHeavy total → IsFirstTooHeavy plans first hist total
       sent_over total is =
@@ -132,28 +132,23 @@ module _ (plans : List Plan) (hist : List Act) (a : Act) (newest : hist ≡ a �
           let met = partner_of_receive plans (drop 1 hist) a.op m receives.0 pair in
           sym (payload_length plans first m (drop 1 hist) now.0 data_there ∙ equal m a.op (fits_channel plans a.op m known met.fit))
 
-      module _ (first : Store) (s : Kept) (parcels : List (Option Told)) (count : ℕ) (so_far : IsCarrying plans first (drop 1 hist) s parcels count) (j : ℕ) (at : slice_get (operations plans) j ≡ Some m) where
+      module _ (first : Store) (s : Kept) (parcels : List (Option ParcelValues)) (count : ℕ) (so_far : IsCarrying plans first (drop 1 hist) s parcels count) (j : ℕ) (at : slice_get (operations plans) j ≡ Some m) where
         pub parcel_is : get_or parcels j None ≡ Some (parcel_of ((held_after plans no_send first (drop 1 hist)).payload m))
         parcel_is = parcel_there plans first (drop 1 hist) a now s parcels count so_far c receives.0 m pair j at
 
-        pub parcel_at : (d : Option Told) → get_or parcels j d ≡ get_or parcels j None
-        parcel_at d =
-            let l = parcel_within plans first (drop 1 hist) a now s parcels count so_far j m at in
-            same_Some _ _ (sym (slice_get-get_or parcels j d l) ∙ slice_get-get_or parcels j None l)
-
-        pub parcel_known : (p : Told) → get_or parcels j None ≡ Some p → p ≡ parcel_of ((held_after plans no_send first (drop 1 hist)).payload m)
+        pub parcel_known : (p : ParcelValues) → get_or parcels j None ≡ Some p → p ≡ parcel_of ((held_after plans no_send first (drop 1 hist)).payload m)
         parcel_known p e = same_Some _ _ (sym e ∙ parcel_is)
 
-        pub size_within : (p : Told) → get_or parcels j None ≡ Some p → p.size ≤ count
+        pub size_within : (p : ParcelValues) → get_or parcels j None ≡ Some p → p.size ≤ count
         size_within p e =
-            omega (arith, sum_taken plans first (drop 1 hist) a now s parcels count so_far c receives.0 m pair j at, ap (λ (q : Told). q.size) (parcel_known p e))
+            omega (arith, sum_taken plans first (drop 1 hist) a now s parcels count so_far c receives.0 m pair j at, ap (λ (q : ParcelValues). q.size) (parcel_known p e))
 
-        pub size_told : (p : Told) → get_or parcels j None ≡ Some p → p.size ≡ size_of p.payload
+        pub size_told : (p : ParcelValues) → get_or parcels j None ≡ Some p → p.size ≡ size_of p.payload
         size_told p e =
-            ap (λ (q : Told). q.size) (parcel_known p e) ∙ sym (ap (λ (q : Told). size_of q.payload) (parcel_known p e))
+            ap (λ (q : ParcelValues). q.size) (parcel_known p e) ∙ sym (ap (λ (q : ParcelValues). size_of q.payload) (parcel_known p e))
 
-        pub received : (p : Told) → get_or parcels j None ≡ Some p → (t : Kept) (new_parcels : List (Option Told)) (total : ℕ) → a.op.rank < s.ranks → All IsLow (slots plans a.op) → values t ≡ write a.op.rank (slots plans a.op) p.payload (values s) → t.ranks ≡ s.ranks → new_parcels ≡ set parcels j None → total ≡ count - p.size → IsCarrying plans first hist t new_parcels total
+        pub received : (p : ParcelValues) → get_or parcels j None ≡ Some p → (t : Kept) (new_parcels : List (Option ParcelValues)) (total : ℕ) → a.op.rank < s.ranks → All IsLow (slots plans a.op) → values t ≡ write a.op.rank (slots plans a.op) p.payload (values s) → t.ranks ≡ s.ranks → new_parcels ≡ set parcels j None → total ≡ count - p.size → IsCarrying plans first hist t new_parcels total
         received p e t new_parcels total below low put r taken left =
             let is = parcel_known p e in
-            let written = put ∙ ap (λ (q : Told). write a.op.rank (slots plans a.op) q.payload (values s)) is in
-            subst (λ (l : List Act). IsCarrying plans first l t new_parcels total) (sym newest) (carrying_taken plans first (drop 1 hist) a now s parcels count so_far c receives.0 m pair j at t new_parcels total below low written r taken (omega (arith, left, size_within p e, ap (λ (q : Told). q.size) is)))
+            let written = put ∙ ap (λ (q : ParcelValues). write a.op.rank (slots plans a.op) q.payload (values s)) is in
+            subst (λ (l : List Act). IsCarrying plans first l t new_parcels total) (sym newest) (carrying_taken plans first (drop 1 hist) a now s parcels count so_far c receives.0 m pair j at t new_parcels total below low written r taken (omega (arith, left, size_within p e, ap (λ (q : ParcelValues). q.size) is)))

@@ -1,20 +1,17 @@
 -- The answers of certification of all segments at once.
-use Rattle.std.proofs.Common.{ℕ, ◌+◌, ◌*◌, ◌<◌, ◌≤◌, ◌≡◌, ◌⊎◌, inl, inr, ⊎_elim, Bool, true, List, length, refl, sym, ap, subst, arith}
+use Rattle.std.proofs.Common.{ℕ, ◌+◌, ◌*◌, ◌<◌, ◌≤◌, ◌≡◌, ◌⊎◌, inl, inr, ⊎_elim, List, length, refl, sym, ap, subst, arith}
 use Rattle.std.proofs.lemmas.Bool.{cases_lt, cases_eq}
 use Rattle.goal_graph.specs.Schedule.{Plan}
 use Rattle.goal_graph.specs.Fault.{IsAccepted}
 use Rattle.goal_blocks.specs.declared.cert_fault.CertFault.{CertFault}
-use Rattle.goal_blocks.specs.declared.cert_fault.CertFault.TheVariants.{Wrong, NoMemory}
+use Rattle.goal_blocks.specs.declared.cert_fault.CertFault.TheVariants.{Wrong}
 use Rattle.goal_limits.specs.declared.collective.Collective.{Collective}
-use Rattle.goal_blocks.specs.Faults.{IsCertificationFault}
 use Rattle.goal_blocks.specs.Laws.{FaultExcludesCertified, FaultlessIsCertified, OneFirstFault}
-use Rattle.goal_blocks.specs.Segments.{initial_in, wanted_in, IsCertifiedIn}
+use Rattle.goal_blocks.specs.Segments.{initial_in, IsCertifiedIn}
 use Rattle.goal_blocks.specs.Joined.{keeps_out, SegmentsAtOnce}
-use Rattle.goal_certify.specs.declared.segments.SegmentFault.{SegmentFault}
 use Rattle.goal_certify.specs.declared.at_once.AtOnceFault.{AtOnceFault}
 use Rattle.goal_certify.specs.declared.at_once.AtOnceFault.TheVariants.{Narrow, Segment, Stray}
-use Rattle.goal_certify.specs.Segments.{IsSegmentFault}
-use Rattle.goal_certify.specs.AtOnce.{named, IsCertifiedApart, IsFaultApart, AreCertifiedAtOnce, AreRightAtOnce, IsStray, IsAtOnceFault, IsOutOfMemory}
+use Rattle.goal_certify.specs.AtOnce.{IsCertifiedApart, IsFaultApart, AreCertifiedAtOnce, AreRightAtOnce, IsStray, IsAtOnceFault, IsOutOfMemory}
 use Rattle.goal_certify.proofs.SegmentAnswers.{excluded, one_found}
 
 -- what is certified in each block, and keeps out of the others, is right at once
@@ -32,24 +29,12 @@ module _ (what : Collective) (width count : ℕ) (plans : List Plan) where
   abbrev pub IsTold : AtOnceFault → Type 0
   IsTold told = IsOutOfMemory told ⊎ IsAtOnceFault what width count plans told
 
-  pub segment_told : (found : SegmentFault) → named what (length plans) ≤ width → (found.fault ≡ NoMemory) ⊎ IsSegmentFault what width count plans found → IsTold (Segment found)
-  segment_told found wide (inl e) = inl e
-  segment_told found wide (inr is) = inr (wide, is)
-
   module _ (excludes : FaultExcludesCertified) (faultless : FaultlessIsCertified) (one : OneFirstFault) (accepted : IsAccepted plans) where
     not_apart : (from : ℕ) (fault : CertFault) → IsFaultApart what width count from plans fault → IsCertifiedApart what width count from plans → ⊥
     not_apart from fault is good =
         excludes plans (initial_in what width from (length plans)) (keeps_out width count from) fault is.has good
 
     -- where all is certified at once there is no fault
-    pub no_told : (told : AtOnceFault) → IsTold told → AreCertifiedAtOnce what width count plans → IsOutOfMemory told
-    no_told told (inl e) all = e
-    no_told Narrow (inr is) all = absurd (omega (arith, is, all.wide))
-    no_told (Segment found) (inr is) all =
-        absurd (excluded what width plans excludes faultless one accepted count found is.1 (all.each found.block is.1.block))
-    no_told (Stray from rank slot) (inr is) all =
-        absurd (not_apart from (Wrong rank slot) is.1.least (all.apart from is.1.segment))
-
     pub none_found : AreCertifiedAtOnce what width count plans → (found : AtOnceFault) → IsAtOnceFault what width count plans found → ⊥
     none_found all Narrow is = omega (arith, is, all.wide)
     none_found all (Segment found) is =

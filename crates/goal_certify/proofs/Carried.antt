@@ -20,7 +20,7 @@ use Rattle.goal_blocks.specs.Walk.{no_send}
 use Rattle.goal_blocks.specs.Slots.{slots}
 use Rattle.goal_blocks.specs.Values.{Value, Store, Held, change, read, held_after}
 use Rattle.goal_blocks.specs.Weight.{carried, has_received, is_under_way}
-use Rattle.goal_certify.specs.Carried.{Told, parcel_size, parcel_of, kept_of}
+use Rattle.goal_certify.specs.Carried.{ParcelValues, parcel_size, parcel_of, parcel_under_way}
 
 -- what a send has read stays, but at its Data
 payload_same : (plans : List Plan) (o : Option OpId) (c : Class) (x m : OpId) (k : Option Kind) (held : Held) → ((place c == 2) ≡ false) ⊎ (same_op m x ≡ false) → (change plans no_send o c x k held).payload m ≡ held.payload m
@@ -48,9 +48,9 @@ sum_of_tables f p g (x ∷ xs) same =
     sum_by-cons f x xs ∙ ap₂ (λ m n. m + n) (same x) (sum_of_tables f p g xs same) ∙ sym (sum_by-cons p (g x) (map g xs))
 
 module _ (plans : List Plan) (h : List Act) (held : Held) where
-  pub carried_kept : carried plans h held ≡ sum_by parcel_size (map (kept_of plans h held) (operations plans))
+  pub carried_kept : carried plans h held ≡ sum_by parcel_size (map (parcel_under_way plans h held) (operations plans))
   unfolding carried
-  carried_kept = sum_of_tables _ parcel_size (kept_of plans h held) (operations plans) (λ m. go (is_under_way plans h m) (held.payload m))
+  carried_kept = sum_of_tables _ parcel_size (parcel_under_way plans h held) (operations plans) (λ m. go (is_under_way plans h m) (held.payload m))
     where
       go : (b : Bool) (vs : List Value) → (if b then sum_by (λ (v : Value). length v) vs else 0) ≡ parcel_size (if b then Some (parcel_of vs) else None)
       go true vs = refl
@@ -63,11 +63,11 @@ module _ (plans : List Plan) (first : Store) (h : List Act) (a : Act) (now : IsI
   abbrev after : Held
   after = held_after plans no_send first (a ∷ h)
 
-  abbrev kept_before : OpId → Option Told
-  kept_before = kept_of plans h before
+  abbrev kept_before : OpId → Option ParcelValues
+  kept_before = parcel_under_way plans h before
 
-  abbrev kept_after : OpId → Option Told
-  kept_after = kept_of plans (a ∷ h) after
+  abbrev kept_after : OpId → Option ParcelValues
+  kept_after = parcel_under_way plans (a ∷ h) after
 
   payload_before : (m : OpId) → ((place a.class == 2) ≡ false) ⊎ (same_op m a.op ≡ false) → after.payload m ≡ before.payload m
   unfolding held_after

@@ -20,7 +20,7 @@ use Rattle.goal_blocks.specs.Weight.{stored, carried, weight, weight_within}
 use Rattle.goal_blocks.specs.Certification.{AddsAreLight, IsLight}
 use Rattle.goal_blocks.specs.Faults.{IsTooHeavy, AddsTooMuch, IsFirstTooHeavy}
 use Rattle.goal_values.specs.Kept.{Kept, values}
-use Rattle.goal_certify.specs.Carried.{Told, size_of, parcel_size, parcel_of, kept_of, IsCarrying, AddsOver, AddsWithin}
+use Rattle.goal_certify.specs.Carried.{ParcelValues, size_of, parcel_size, parcel_of, parcel_under_way, IsCarrying, AddsOver, AddsWithin}
 use Rattle.goal_certify.proofs.Carried.{carried_kept, kept_others, handed_before, handed_now, kept_handed, taken_before, taken_now, kept_taken}
 use Rattle.goal_certify.proofs.SlotFacts.{IsLow, stored_write}
 use Rattle.goal_graph.proofs.ForCallers.{entry_of, within_table}
@@ -73,7 +73,7 @@ module _ (plans : List Plan) (first : Store) (h : List Act) (a : Act) (now : IsI
   pub receive_adds : IsReceive plans a.op → AddsAreLight plans h before a.op (kind_at plans a.op)
   receive_adds k = subst (λ (o : Option Kind). AddsAreLight plans h before a.op o) (sym k.kind) tt
 
-  module _ (s : Kept) (parcels : List (Option Told)) (count : ℕ) (so_far : IsCarrying plans first h s parcels count) where
+  module _ (s : Kept) (parcels : List (Option ParcelValues)) (count : ℕ) (so_far : IsCarrying plans first h s parcels count) where
     -- after n notes of a calc
     within_is : (n : ℕ) → weight_within plans h before a.op n ≡ stored s.ranks (add_all a.op.rank (take n (adds plans a.op)) (values s)) + count
     unfolding weight_within
@@ -97,11 +97,11 @@ module _ (plans : List Plan) (first : Store) (h : List Act) (a : Act) (now : IsI
     weight_is t ranks total e r c =
         ap₂ (λ m k. m + k) (ap₂ (λ (n : ℕ) (u : Store). stored n u) (sym (r ∙ so_far.ranks)) (sym e)) (sym c)
 
-    count_is : (new_parcels : List (Option Told)) (total : ℕ) → new_parcels ≡ map (kept_of plans (a ∷ h) after) (operations plans) → sum_by parcel_size new_parcels ≡ total → total ≡ carried plans (a ∷ h) after
+    count_is : (new_parcels : List (Option ParcelValues)) (total : ℕ) → new_parcels ≡ map (parcel_under_way plans (a ∷ h) after) (operations plans) → sum_by parcel_size new_parcels ≡ total → total ≡ carried plans (a ∷ h) after
     count_is new_parcels total are sum =
         sym sum ∙ ap (sum_by parcel_size) are ∙ sym (carried_kept plans (a ∷ h) after)
 
-    pub carrying_after : (t : Kept) (new_parcels : List (Option Told)) (total : ℕ) → values t ≡ after.store → t.ranks ≡ s.ranks → new_parcels ≡ map (kept_of plans (a ∷ h) after) (operations plans) → sum_by parcel_size new_parcels ≡ total → AddsAreLight plans h before a.op (kind_at plans a.op) → stored t.ranks (values t) + total ≤ 2 ^ 24 → IsCarrying plans first (a ∷ h) t new_parcels total
+    pub carrying_after : (t : Kept) (new_parcels : List (Option ParcelValues)) (total : ℕ) → values t ≡ after.store → t.ranks ≡ s.ranks → new_parcels ≡ map (parcel_under_way plans (a ∷ h) after) (operations plans) → sum_by parcel_size new_parcels ≡ total → AddsAreLight plans h before a.op (kind_at plans a.op) → stored t.ranks (values t) + total ≤ 2 ^ 24 → IsCarrying plans first (a ∷ h) t new_parcels total
     carrying_after t new_parcels total e r are sum adds_light few = record {
       values_are = e;
       ranks = r ∙ so_far.ranks;
@@ -111,7 +111,7 @@ module _ (plans : List Plan) (first : Store) (h : List Act) (a : Act) (now : IsI
     }
 
     -- too much after the action
-    pub heavy_after : (new_parcels : List (Option Told)) (t : Store) (total more : ℕ) → t ≡ after.store → new_parcels ≡ map (kept_of plans (a ∷ h) after) (operations plans) → sum_by parcel_size new_parcels ≡ more → AddsAreLight plans h before a.op (kind_at plans a.op) → stored s.ranks t + more ≡ total → IsTooHeavy total → IsFirstTooHeavy plans first (a ∷ h) total
+    pub heavy_after : (new_parcels : List (Option ParcelValues)) (t : Store) (total more : ℕ) → t ≡ after.store → new_parcels ≡ map (parcel_under_way plans (a ∷ h) after) (operations plans) → sum_by parcel_size new_parcels ≡ more → AddsAreLight plans h before a.op (kind_at plans a.op) → stored s.ranks t + more ≡ total → IsTooHeavy total → IsFirstTooHeavy plans first (a ∷ h) total
     heavy_after new_parcels t total more e are sum adds_light is heavy =
         inr (so_far.light, inr (adds_light, weight_is t s.ranks more e refl (count_is new_parcels more are sum) ∙ is, heavy))
 
@@ -146,27 +146,27 @@ module _ (plans : List Plan) (first : Store) (h : List Act) (a : Act) (now : IsI
         carrying_after t parcels count added r (so_far.parcels_are ∙ sym (kept_others plans first h a now d v)) sum_before (calc_adds k within) (omega (arith, all, ap (stored t.ranks) e, ap (λ (n : ℕ). stored n (add_all a.op.rank (adds plans a.op) (values s))) r))
 
     -- what is kept at the place of an operation
-    read_parcel : (j : ℕ) (x : OpId) → slice_get (operations plans) j ≡ Some x → get_or parcels j None ≡ kept_of plans h before x
+    read_parcel : (j : ℕ) (x : OpId) → slice_get (operations plans) j ≡ Some x → get_or parcels j None ≡ parcel_under_way plans h before x
     read_parcel j x at =
-        ap (λ (ps : List (Option Told)). get_or ps j None) so_far.parcels_are ∙ entry_of (kept_of plans h before) (operations plans) j x None at
+        ap (λ (ps : List (Option ParcelValues)). get_or ps j None) so_far.parcels_are ∙ entry_of (parcel_under_way plans h before) (operations plans) j x None at
 
     pub parcel_within : (j : ℕ) (x : OpId) → slice_get (operations plans) j ≡ Some x → j < length parcels
-    parcel_within j x at = within_table (kept_of plans h before) (operations plans) j x parcels so_far.parcels_are at
+    parcel_within j x at = within_table (parcel_under_way plans h before) (operations plans) j x parcels so_far.parcels_are at
 
     -- a send hands over its values
     module _ (c : a.class ≡ Data) (k : IsSend plans a.op) (j : ℕ) (at : slice_get (operations plans) j ≡ Some a.op) where
       abbrev pub read_now : List Value
       read_now = map (values s a.op.rank) (slots plans a.op)
 
-      handed : set parcels j (Some (parcel_of read_now)) ≡ map (kept_of plans (a ∷ h) after) (operations plans)
+      handed : set parcels j (Some (parcel_of read_now)) ≡ map (parcel_under_way plans (a ∷ h) after) (operations plans)
       handed =
-          ap₂ (λ (ps : List (Option Told)) (o : Option Told). set ps j o) so_far.parcels_are (ap (λ (u : Store). Some (parcel_of (map (u a.op.rank) (slots plans a.op)))) so_far.values_are ∙ sym (handed_now plans first h a now c)) ∙ kept_handed plans first h a now c j at
+          ap₂ (λ (ps : List (Option ParcelValues)) (o : Option ParcelValues). set ps j o) so_far.parcels_are (ap (λ (u : Store). Some (parcel_of (map (u a.op.rank) (slots plans a.op)))) so_far.values_are ∙ sym (handed_now plans first h a now c)) ∙ kept_handed plans first h a now c j at
 
       sum_handed : sum_by parcel_size (set parcels j (Some (parcel_of read_now))) ≡ count + size_of read_now
       sum_handed =
           omega (arith, sum_by-set parcel_size parcels j (Some (parcel_of read_now)) None (parcel_within j a.op at), ap parcel_size (read_parcel j a.op at ∙ handed_before plans first h a now c), sum_before)
 
-      pub carrying_handed : (new_parcels : List (Option Told)) (total : ℕ) → new_parcels ≡ set parcels j (Some (parcel_of read_now)) → total ≡ count + size_of read_now → stored s.ranks (values s) + count + size_of read_now ≤ 2 ^ 24 → IsCarrying plans first (a ∷ h) s new_parcels total
+      pub carrying_handed : (new_parcels : List (Option ParcelValues)) (total : ℕ) → new_parcels ≡ set parcels j (Some (parcel_of read_now)) → total ≡ count + size_of read_now → stored s.ranks (values s) + count + size_of read_now ≤ 2 ^ 24 → IsCarrying plans first (a ∷ h) s new_parcels total
       carrying_handed new_parcels total put sum few =
           carrying_after s new_parcels total (so_far.values_are ∙ sym (store_send k)) refl (put ∙ handed) (ap (sum_by parcel_size) put ∙ sum_handed ∙ sym sum) (send_adds k) (omega (arith, few, sum))
 
@@ -179,15 +179,15 @@ module _ (plans : List Plan) (first : Store) (h : List Act) (a : Act) (now : IsI
       pub parcel_there : get_or parcels j None ≡ Some (parcel_of (before.payload m))
       parcel_there = read_parcel j m at ∙ taken_before plans first h a now c m pair
 
-      taken : set parcels j None ≡ map (kept_of plans (a ∷ h) after) (operations plans)
+      taken : set parcels j None ≡ map (parcel_under_way plans (a ∷ h) after) (operations plans)
       taken =
-          ap₂ (λ (ps : List (Option Told)) (o : Option Told). set ps j o) so_far.parcels_are (sym (taken_now plans first h a now c m pair)) ∙ kept_taken plans first h a now c m pair j at
+          ap₂ (λ (ps : List (Option ParcelValues)) (o : Option ParcelValues). set ps j o) so_far.parcels_are (sym (taken_now plans first h a now c m pair)) ∙ kept_taken plans first h a now c m pair j at
 
       pub sum_taken : sum_by parcel_size (set parcels j None) + size_of (before.payload m) ≡ count
       sum_taken =
           omega (arith, sum_by-set parcel_size parcels j None None (parcel_within j m at), ap parcel_size parcel_there, sum_before)
 
-      pub carrying_taken : (t : Kept) (new_parcels : List (Option Told)) (total : ℕ) → a.op.rank < s.ranks → All IsLow (slots plans a.op) → values t ≡ write a.op.rank (slots plans a.op) (before.payload m) (values s) → t.ranks ≡ s.ranks → new_parcels ≡ set parcels j None → total + size_of (before.payload m) ≡ count → IsCarrying plans first (a ∷ h) t new_parcels total
+      pub carrying_taken : (t : Kept) (new_parcels : List (Option ParcelValues)) (total : ℕ) → a.op.rank < s.ranks → All IsLow (slots plans a.op) → values t ≡ write a.op.rank (slots plans a.op) (before.payload m) (values s) → t.ranks ≡ s.ranks → new_parcels ≡ set parcels j None → total + size_of (before.payload m) ≡ count → IsCarrying plans first (a ∷ h) t new_parcels total
       carrying_taken t new_parcels total below low e r put sum =
           let most = stored_write s.ranks a.op.rank (slots plans a.op) (before.payload m) (values s) below low in
           let written = e ∙ ap (λ (u : Store). write a.op.rank (slots plans a.op) (before.payload m) u) so_far.values_are ∙ sym (store_receive c k m pair) in

@@ -22,8 +22,8 @@ use Rattle.goal_certify.specs.WalkQueue.{may_act, moves_partner, IsIdle}
 use Rattle.goal_certify.proofs.Choice.{calc_idle, send_idle, receive_idle, arrive_is, data_is, serve_some, start_of}
 
 -- what has happened may not happen again
-spent : (plans : List Plan) (h : List Act) (c : Class) (x : OpId) → happened c x h ≡ true → may_act plans h c x ≡ false
-spent plans h c x e = false_from_ne_true _ (λ t. both_ways _ (allowed_fresh plans no_send h c x t) e)
+happened_may_not_act : (plans : List Plan) (h : List Act) (c : Class) (x : OpId) → happened c x h ≡ true → may_act plans h c x ≡ false
+happened_may_not_act plans h c x e = false_from_ne_true _ (λ t. both_ways _ (allowed_fresh plans no_send h c x t) e)
 
 module _ (plans : List Plan) (rest : List Act) (x : OpId) where
   -- the action of that class of x is the newest
@@ -31,13 +31,13 @@ module _ (plans : List Plan) (rest : List Act) (x : OpId) where
   after c = act_of c x ∷ rest
 
   before : (c d : Class) → happened d x rest ≡ true → may_act plans (after c) d x ≡ false
-  before c d e = spent plans (after c) d x (happened_stays d x (act_of c x) rest e)
+  before c d e = happened_may_not_act plans (after c) d x (happened_stays d x (act_of c x) rest e)
 
-  itself : (c : Class) → may_act plans (after c) c x ≡ false
-  itself c = spent plans (after c) c x (happened_now (act_of c x) rest)
+  newest_may_not_act : (c : Class) → may_act plans (after c) c x ≡ false
+  newest_may_not_act c = happened_may_not_act plans (after c) c x (happened_now (act_of c x) rest)
 
   begun_calc : IsCalc plans x → IsIdle plans (after Begin) x
-  begun_calc k = calc_idle plans (after Begin) x k (itself Begin)
+  begun_calc k = calc_idle plans (after Begin) x k (newest_may_not_act Begin)
 
   begun_send : IsInterleaving plans no_send (after Begin) → IsSend plans x → may_act plans (after Begin) Arrive x ≡ true
   begun_send now k = arrive_is plans (after Begin) x k ∙ (λ i. not (not_yet i) && happened_now (act_of Begin x) rest i)
@@ -59,19 +59,19 @@ module _ (plans : List Plan) (rest : List Act) (x : OpId) where
   arrived : IsInterleaving plans no_send (after Arrive) → may_act plans (after Arrive) Data x ≡ false → IsIdle plans (after Arrive) x
   arrived now unpaired =
       let a = allowed_arrive plans no_send rest x now.1 in
-      send_idle plans (after Arrive) x a.0 (before Arrive Begin a.1) (itself Arrive) unpaired
+      send_idle plans (after Arrive) x a.0 (before Arrive Begin a.1) (newest_may_not_act Arrive) unpaired
 
   handed_over : IsInterleaving plans no_send (after Data) → IsIdle plans (after Data) x
   handed_over now =
       let d = allowed_data plans no_send rest x now.1 in
       let y = cases_some (partner (pairs plans rest) x) d.2 in
       let came : happened Arrive x rest ≡ true = elim (partners_met plans rest x y.0 y.1) [ inl met ↦ met.arrived | inr met ↦ absurd (not_send_receive plans x d.0 (fits_receive plans x y.0 met.fit)) ] in
-      send_idle plans (after Data) x d.0 (before Data Begin (arrived_begun plans no_send rest x now.0 came)) (before Data Arrive came) (itself Data)
+      send_idle plans (after Data) x d.0 (before Data Begin (arrived_begun plans no_send rest x now.0 came)) (before Data Arrive came) (newest_may_not_act Data)
 
   served : IsInterleaving plans no_send (after Serve) → IsIdle plans (after Serve) x
   served now =
       let s = allowed_serve plans no_send rest x now.1 in
-      receive_idle plans (after Serve) x s.0 (before Serve Post (go (partner (pairs plans rest) x) refl s.0 s.1)) (itself Serve)
+      receive_idle plans (after Serve) x s.0 (before Serve Post (go (partner (pairs plans rest) x) refl s.0 s.1)) (newest_may_not_act Serve)
     where
       go : (o : Option OpId) → partner (pairs plans rest) x ≡ o → IsReceive plans x → is_served plans no_send rest o ≡ true → happened Post x rest ≡ true
       go None e k t = absurd (both_ways false refl t)
@@ -94,7 +94,7 @@ module _ (plans : List Plan) (rest : List Act) (x : OpId) where
 
   posted : IsInterleaving plans no_send (after Post) → IsIdle plans (after Post) x
   posted now =
-      receive_idle plans (after Post) x (allowed_post plans no_send rest x now.1).0 (itself Post) (false_from_ne_true _ (λ t. go (partner (pairs plans (after Post)) x) refl (allowed_serve plans no_send (after Post) x t).1))
+      receive_idle plans (after Post) x (allowed_post plans no_send rest x now.1).0 (newest_may_not_act Post) (false_from_ne_true _ (λ t. go (partner (pairs plans (after Post)) x) refl (allowed_serve plans no_send (after Post) x t).1))
     where
       go : (o : Option OpId) → partner (pairs plans (after Post)) x ≡ o → is_served plans no_send (after Post) o ≡ true → ⊥
       go None f t = both_ways false refl t
@@ -109,8 +109,8 @@ module _ (plans : List Plan) (rest : List Act) (x : OpId) where
       data_is plans (after Post) y (fits_send plans x y met.fit) ∙ (λ i. not (fresh i) && taken i)
 
   -- the partner of a send that transfers its data now takes them
-  takes : IsInterleaving plans no_send (after Data) → (y : OpId) → partner (pairs plans (after Data)) x ≡ Some y → may_act plans (after Data) Serve y ≡ true
-  takes now y e =
+  partner_may_serve : IsInterleaving plans no_send (after Data) → (y : OpId) → partner (pairs plans (after Data)) x ≡ Some y → may_act plans (after Data) Serve y ≡ true
+  partner_may_serve now y e =
       let k = partner_is_receive plans (after Data) x y (allowed_data plans no_send rest x now.1).0 e in
       serve_some plans (after Data) y k x back ∙ (λ i. not (fresh i) && happened_now (act_of Data x) rest i)
     where
@@ -172,7 +172,7 @@ module _ (plans : List Plan) (h : List Act) (x : OpId) (now : IsInterleaving pla
   pub partner_acts : (c : Class) → IsNewest c → moves_partner c ≡ true → (y : OpId) → partner (pairs plans h) x ≡ Some y → (d : Class) × (may_act plans h d y ≡ true)
   partner_acts Data e t y p =
       let found = subst (λ (l : List Act). partner (pairs plans l) x ≡ Some y) e p in
-      (Serve, subst (λ (l : List Act). may_act plans l Serve y ≡ true) (sym e) (takes plans (drop 1 h) x (now_after Data e) y found))
+      (Serve, subst (λ (l : List Act). may_act plans l Serve y ≡ true) (sym e) (partner_may_serve plans (drop 1 h) x (now_after Data e) y found))
   partner_acts Post e t y p =
       let found = subst (λ (l : List Act). partner (pairs plans l) x ≡ Some y) e p in
       (Data, subst (λ (l : List Act). may_act plans l Data y ≡ true) (sym e) (hands_over plans (drop 1 h) x (now_after Post e) y found))
@@ -180,12 +180,12 @@ module _ (plans : List Plan) (h : List Act) (x : OpId) (now : IsInterleaving pla
   partner_acts Serve e t y p = absurd (both_ways false refl t)
   partner_acts Begin e t y p = absurd (both_ways false refl t)
 
-pub none_there : (ns : List Need) → (length ns == 0) ≡ true → ns ≡ []
-none_there [] t = refl
-none_there (n ∷ ns) t = let e : length (n ∷ ns) ≡ 0 = eqb-true (length (n ∷ ns)) 0 t in absurd (omega (arith, e))
+pub no_needs : (ns : List Need) → (length ns == 0) ≡ true → ns ≡ []
+no_needs [] t = refl
+no_needs (n ∷ ns) t = let e : length (n ∷ ns) ≡ 0 = eqb-true (length (n ∷ ns)) 0 t in absurd (omega (arith, e))
 
-pub some_there : (ns : List Need) → (length ns == 0) ≡ false → ns ≡ [] → ⊥
-some_there ns f e = both_ways _ f (ap (λ (l : List Need). length l == 0) e)
+pub some_needs : (ns : List Need) → (length ns == 0) ≡ false → ns ≡ [] → ⊥
+some_needs ns f e = both_ways _ f (ap (λ (l : List Need). length l == 0) e)
 
 -- before the first action those may act that need none
 module _ (plans : List Plan) (x : OpId) where

@@ -14,18 +14,18 @@ use Rattle.goal_certify.proofs.StageLemmas.{none_joined, first_later, first_soon
 
 module _ (plans : List Plan) (first : Store) (wanted : ℕ → ℕ → Value → Bool) where
   -- the answer of a stage whose kinds of faults may speak of values
-  abbrev pub IsToldFrom : ℕ → ℕ → CertFault → Type 0
-  IsToldFrom from end fault = (fault ≡ NoMemory) ⊎ IsFirstOf plans first wanted from end fault
+  abbrev pub IsFaultFrom : ℕ → ℕ → CertFault → Type 0
+  IsFaultFrom from end fault = (fault ≡ NoMemory) ⊎ IsFirstOf plans first wanted from end fault
 
-  pub told_stopped : (from end : ℕ) (fault : CertFault) → IsStopped plans from end fault → IsToldFrom from end fault
+  pub told_stopped : (from end : ℕ) (fault : CertFault) → IsStopped plans from end fault → IsFaultFrom from end fault
   told_stopped from end fault (inl e) = inl e
   told_stopped from end fault (inr is) = inr (is first wanted)
 
-  pub told_later : (a b c : ℕ) (fault : CertFault) → a ≤ b → HasNone plans first wanted a b → IsToldFrom b c fault → IsToldFrom a c fault
+  pub told_later : (a b c : ℕ) (fault : CertFault) → a ≤ b → HasNone plans first wanted a b → IsFaultFrom b c fault → IsFaultFrom a c fault
   told_later a b c fault le none (inl e) = inl e
   told_later a b c fault le none (inr is) = inr (first_later plans first wanted a b c fault le none is)
 
-  pub told_sooner : (a b c : ℕ) (fault : CertFault) → b ≤ c → IsToldFrom a b fault → IsToldFrom a c fault
+  pub told_sooner : (a b c : ℕ) (fault : CertFault) → b ≤ c → IsFaultFrom a b fault → IsFaultFrom a c fault
   told_sooner a b c fault le (inl e) = inl e
   told_sooner a b c fault le (inr is) = inr (first_sooner plans first wanted a b c fault le is)
 
@@ -33,7 +33,7 @@ module _ (plans : List Plan) (first : Store) (wanted : ℕ → ℕ → Value →
   answer_none (Ok x) a b c lower upper = none_joined plans first wanted a b c lower upper
   answer_none (Err fault) a b c lower upper = tt
 
-  pub answer_told : {T : Type 0} (r : Result T CertFault) (a b c : ℕ) → a ≤ b → HasNone plans first wanted a b → IfErr r (IsToldFrom b c) → IfErr r (IsToldFrom a c)
+  pub answer_told : {T : Type 0} (r : Result T CertFault) (a b c : ℕ) → a ≤ b → HasNone plans first wanted a b → IfErr r (IsFaultFrom b c) → IfErr r (IsFaultFrom a c)
   answer_told (Ok x) a b c le none told = tt
   answer_told (Err fault) a b c le none told = told_later a b c fault le none told
 
@@ -65,17 +65,17 @@ module _ (plans : List Plan) (first : Store) (wanted : ℕ → ℕ → Value →
     right_answer (Ok x) none = right plans first wanted (certified none)
     right_answer (Err fault) none = tt
 
-    pub fault_answer : {T : Type 0} (r : Result T CertFault) → IfErr r (IsToldFrom 0 9) → IfErr r (λ fault. (fault ≡ NoMemory) ⊎ IsCertificationFault plans first wanted fault)
+    pub fault_answer : {T : Type 0} (r : Result T CertFault) → IfErr r (IsFaultFrom 0 9) → IfErr r (λ fault. (fault ≡ NoMemory) ⊎ IsCertificationFault plans first wanted fault)
     fault_answer (Ok x) told = tt
     fault_answer (Err fault) (inl e) = inl e
     fault_answer (Err fault) (inr is) = inr (is_fault fault is)
 
-    pub accepts_answer : {T : Type 0} (r : Result T CertFault) → IfErr r (IsToldFrom 0 9) → IsCertified plans first wanted → IsOkUnless r NoMemory
+    pub accepts_answer : {T : Type 0} (r : Result T CertFault) → IfErr r (IsFaultFrom 0 9) → IsCertified plans first wanted → IsOkUnless r NoMemory
     accepts_answer (Ok x) told is = tt
     accepts_answer (Err fault) (inl e) is = e
     accepts_answer (Err fault) (inr is) good = absurd (excludes plans first wanted fault is.has good)
 
-    pub faults_answer : {T : Type 0} (r : Result T CertFault) → OnOk r (HasNone plans first wanted 0 9) → IfErr r (IsToldFrom 0 9) → (fault : CertFault) → IsCertificationFault plans first wanted fault → IsErrOf r fault ⊎ IsErrOf r NoMemory
+    pub faults_answer : {T : Type 0} (r : Result T CertFault) → OnOk r (HasNone plans first wanted 0 9) → IfErr r (IsFaultFrom 0 9) → (fault : CertFault) → IsCertificationFault plans first wanted fault → IsErrOf r fault ⊎ IsErrOf r NoMemory
     faults_answer (Ok x) none told fault is = absurd (no_fault none fault is.has)
     faults_answer (Err other) none (inl e) fault is = inr (ap Err e)
     faults_answer (Err other) none (inr found) fault is =

@@ -33,11 +33,11 @@ module _ (plans : List Plan) (rank n : ℕ) (in_range : (k : ℕ) → k < n → 
   next m l k inside each h =
       list_all-from_AllPass (λ (d : Need). is_below plans l (needed (op_id rank k) d)) (needs plans (op_id rank k)) (λ i d lt. each (get_or (needs plans (op_id rank k)) i d).op (in_range k inside i d lt) (AllPass-from_list_all (λ (d : Need). is_below plans m (needed (op_id rank k) d)) (needs plans (op_id rank k)) h i d lt))
 
-  more : (j m k : ℕ) → deep m k ≡ true → deep (j + m) k ≡ true
-  more zero m k h = subst (λ (x : ℕ). deep x k ≡ true) (sym (zero-add m)) h
-  more (suc j) m k h =
+  deep_with_more : (j m k : ℕ) → deep m k ≡ true → deep (j + m) k ≡ true
+  deep_with_more zero m k h = subst (λ (x : ℕ). deep x k ≡ true) (sym (zero-add m)) h
+  deep_with_more (suc j) m k h =
       let e : suc j + m ≡ suc (j + m) = omega arith in
-      subst (λ (x : ℕ). deep x k ≡ true) (sym e) (deeper plans (j + m) (op_id rank k) (more j m k h))
+      subst (λ (x : ℕ). deep x k ≡ true) (sym e) (deeper plans (j + m) (op_id rank k) (deep_with_more j m k h))
 
   abbrev Settled : ℕ → Type 0
   Settled m = (k : ℕ) → k < n → deep (suc m) k ≡ true → deep m k ≡ true
@@ -49,11 +49,11 @@ module _ (plans : List Plan) (rank n : ℕ) (in_range : (k : ℕ) → k < n → 
       let before : Settled (j + m) = settled_on m j s in
       subst Settled (sym e) (λ k inside h. next (suc (j + m)) (j + m) k inside before h)
 
-  back : (m j k : ℕ) → Settled m → k < n → deep (j + m) k ≡ true → deep m k ≡ true
-  back m zero k s inside h = subst (λ (x : ℕ). deep x k ≡ true) (zero-add m) h
-  back m (suc j) k s inside h =
+  settled_depth_stays : (m j k : ℕ) → Settled m → k < n → deep (j + m) k ≡ true → deep m k ≡ true
+  settled_depth_stays m zero k s inside h = subst (λ (x : ℕ). deep x k ≡ true) (zero-add m) h
+  settled_depth_stays m (suc j) k s inside h =
       let e : suc j + m ≡ suc (j + m) = omega arith in
-      back m j k s inside (settled_on m j s k inside (subst (λ (x : ℕ). deep x k ≡ true) e h))
+      settled_depth_stays m j k s inside (settled_on m j s k inside (subst (λ (x : ℕ). deep x k ≡ true) e h))
 
   abbrev numbers : List ℕ
   numbers = range_with_len 0 n
@@ -66,8 +66,8 @@ module _ (plans : List Plan) (rank n : ℕ) (in_range : (k : ℕ) → k < n → 
   count m = count_by (deep m) numbers
 
   -- a depth that one more operation has, or none
-  rises : (m : ℕ) → Settled m ⊎ (count m + 1 ≤ count (suc m))
-  rises m =
+  settled_or_more : (m : ℕ) → Settled m ⊎ (count m + 1 ≤ count (suc m))
+  settled_or_more m =
       ⊎_elim (λ f. inr (count_falls (deep (suc m)) (deep m) numbers f.0 (is_number f.0 f.1) (λ k h. deeper plans m (op_id rank k) h) f.2.1 f.2.0)) (λ no. inl (λ k inside h. ⊎_elim (λ yes. yes) (λ not. absurd (no k inside (h, not))) (cases_Bool (deep m k)))) (search_below New n cases)
     where
       New : ℕ → Type 0
@@ -77,19 +77,19 @@ module _ (plans : List Plan) (rank n : ℕ) (in_range : (k : ℕ) → k < n → 
       cases k =
           ⊎_elim (λ yes. ⊎_elim (λ old. inr (λ d. true≢false (sym old ∙ d.1))) (λ new. inl (yes, new)) (cases_Bool (deep m k))) (λ no. inr (λ d. true≢false (sym d.0 ∙ no))) (cases_Bool (deep (suc m) k))
 
-  climb : (m : ℕ) → ((l : ℕ) × (l < m) × Settled l) ⊎ (m ≤ count m)
-  climb zero = inr (omega arith)
-  climb (suc m) =
-      ⊎_elim (λ f. inl (f.0, omega (arith, f.1), f.2)) (λ high. ⊎_elim (λ s. inl (m, omega arith, s)) (λ up. inr (omega arith)) (rises m)) (climb m)
+  settles_below : (m : ℕ) → ((l : ℕ) × (l < m) × Settled l) ⊎ (m ≤ count m)
+  settles_below zero = inr (omega arith)
+  settles_below (suc m) =
+      ⊎_elim (λ f. inl (f.0, omega (arith, f.1), f.2)) (λ high. ⊎_elim (λ s. inl (m, omega arith, s)) (λ up. inr (omega arith)) (settled_or_more m)) (settles_below m)
 
   pub deep_enough : (b k : ℕ) → k < n → is_below plans b (op_id rank k) ≡ true → is_below plans n (op_id rank k) ≡ true
-  deep_enough b k inside h = ⊎_elim settled (λ high. absurd (too_many high)) (climb (suc n))
+  deep_enough b k inside h = ⊎_elim settled (λ high. absurd (too_many high)) (settles_below (suc n))
     where
       settled : (l : ℕ) × (l < suc n) × Settled l → deep n k ≡ true
       settled (l, lt, s) =
-          let there : deep l k ≡ true = back l b k s inside (subst (λ (x : ℕ). deep x k ≡ true) (omega arith) (more l b k h)) in
+          let there : deep l k ≡ true = settled_depth_stays l b k s inside (subst (λ (x : ℕ). deep x k ≡ true) (omega arith) (deep_with_more l b k h)) in
           let e : (n - l) + l ≡ n = omega arith in
-          subst (λ (x : ℕ). deep x k ≡ true) e (more (n - l) l k there)
+          subst (λ (x : ℕ). deep x k ≡ true) e (deep_with_more (n - l) l k there)
 
       too_many : suc n ≤ count (suc n) → ⊥
       too_many high =

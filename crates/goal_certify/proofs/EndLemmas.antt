@@ -14,7 +14,7 @@ use Rattle.goal_graph.specs.Order.{IsBefore}
 use Rattle.goal_blocks.specs.Channels.{Channel, channel_in, channel, AreOfOneChannel, HasNoWildcard, HasNoDoubleChannel}
 use Rattle.goal_blocks.specs.Faults.{IsLeast, op_key, AreDouble, IsUnpaired}
 use Rattle.goal_certify.specs.declared.ends.End.{End}
-use Rattle.goal_certify.specs.declared.ends.Entry.{Entry}
+use Rattle.goal_certify.specs.declared.ends.OpAtEnd.{OpAtEnd}
 use Rattle.goal_certify.proofs.InOrder.{before_from_less, other_before}
 use Rattle.goal_certify.specs.Ends.{end_in, end_of, other_end, AreEndsOf, IsFirstAt}
 
@@ -172,25 +172,25 @@ paired_ends plans x z e at other un = go (cases_Bool e.is_send) un
     go (inr b) (inl un) = not_both plans x un.0 (s.receive b)
     go (inr b) (inr un) = un.1 z (ends_one plans z x (other_end e) (ap not b) other (at ∙ ap (λ (d : End). Some d) (sym (other_twice e))))
 
-module _ (plans : List Plan) (entries : List Entry) (are : AreEndsOf plans entries) where
+module _ (plans : List Plan) (entries : List OpAtEnd) (are : AreEndsOf plans entries) where
   pub first_stands : (x : OpId) (e : End) → IsFirstAt entries e x → end_of plans x ≡ Some e
   first_stands x e first =
-      All-contains (λ (a : Entry). end_of plans a.op ≡ Some a.end) entries (record { end = e; op = x }) are.right first.listed
+      All-contains (λ (a : OpAtEnd). end_of plans a.op ≡ Some a.end) entries (record { end = e; op = x }) are.right first.listed
 
   -- who shares the end of x stands at it
-  sharing : (y x : OpId) (e : End) → end_of plans x ≡ Some e → AreDouble plans y x → Contains entries (record { end = e; op = y })
-  sharing y x e at d =
+  double_shares_end : (y x : OpId) (e : End) → end_of plans x ≡ Some e → AreDouble plans y x → Contains entries (record { end = e; op = y })
+  double_shares_end y x e at d =
       let s = double_ends plans y x d in
       are.listed y e (s.first_at ∙ sym s.second_at ∙ at)
 
   pub double_least : (first x : OpId) (e : End) → end_of plans x ≡ Some e → IsFirstAt entries e first → (first ≡ x → ⊥) → IsLeast op_key (λ (y : OpId). AreDouble plans y x) first
   double_least first x e at is differ = record {
     holds = ends_double plans first x e (other_before first x differ (λ b. is.none_before x b (are.listed x e at))) (first_stands first e is) at;
-    none_less = λ y less d. is.none_before y (before_from_less y first less) (sharing y x e at d);
+    none_less = λ y less d. is.none_before y (before_from_less y first less) (double_shares_end y x e at d);
   }
 
   pub double_none : (x : OpId) (e : End) → end_of plans x ≡ Some e → IsFirstAt entries e x → (y : OpId) → AreDouble plans y x → ⊥
-  double_none x e at is y d = is.none_before y d.in_order (sharing y x e at d)
+  double_none x e at is y d = is.none_before y d.in_order (double_shares_end y x e at d)
 
   pub double_nowhere : (x : OpId) (e : End) → end_of plans x ≡ Some e → ((z : OpId) → Contains entries (record { end = e; op = z }) → ⊥) → (y : OpId) → AreDouble plans y x → ⊥
   double_nowhere x e at none y d = none x (are.listed x e at)
@@ -201,14 +201,14 @@ module _ (plans : List Plan) (entries : List Entry) (are : AreEndsOf plans entri
       none-some s.shared (sym none ∙ s.second_at)
 
   -- who is of the channel of m and x stands at the other end
-  receiving : (m x : OpId) (e : End) → end_of plans m ≡ Some e → AreOfOneChannel plans m x → (e.is_send ≡ true) × Contains entries (record { end = other_end e; op = x })
-  receiving m x e at one =
+  send_has_receive_end : (m x : OpId) (e : End) → end_of plans m ≡ Some e → AreOfOneChannel plans m x → (e.is_send ≡ true) × Contains entries (record { end = other_end e; op = x })
+  send_has_receive_end m x e at one =
       let a = one_ends plans m x one in
       let same : a.end ≡ e = same_Some a.end e (sym a.send_at ∙ at) in
       (sym (ap (λ (d : End). d.is_send) same) ∙ a.is_send, are.listed x (other_end e) (a.receive_at ∙ ap (λ (d : End). Some (other_end d)) same))
 
-  sending : (m x : OpId) (e : End) → end_of plans x ≡ Some e → AreOfOneChannel plans m x → Contains entries (record { end = other_end e; op = m })
-  sending m x e at one =
+  receive_has_send_end : (m x : OpId) (e : End) → end_of plans x ≡ Some e → AreOfOneChannel plans m x → Contains entries (record { end = other_end e; op = m })
+  receive_has_send_end m x e at one =
       let a = one_ends plans m x one in
       let same : other_end a.end ≡ e = same_Some (other_end a.end) e (sym a.receive_at ∙ at) in
       are.listed m (other_end e) (a.send_at ∙ ap (λ (d : End). Some d) (sym (other_twice a.end) ∙ ap other_end same))
@@ -216,7 +216,7 @@ module _ (plans : List Plan) (entries : List Entry) (are : AreEndsOf plans entri
   pub unpaired_there : (x : OpId) (e : End) → end_of plans x ≡ Some e → ((z : OpId) → Contains entries (record { end = other_end e; op = z }) → ⊥) → IsUnpaired plans x
   unpaired_there x e at none =
       let s = stands_at plans x e at in
-      ⊎_elim (λ b. inl (s.send b, λ y one. none y (receiving x y e at one).1)) (λ b. inr (s.receive b, λ m one. none m (sending m x e at one))) (cases_Bool e.is_send)
+      ⊎_elim (λ b. inl (s.send b, λ y one. none y (send_has_receive_end x y e at one).1)) (λ b. inr (s.receive b, λ m one. none m (receive_has_send_end m x e at one))) (cases_Bool e.is_send)
 
   pub paired_there : (x z : OpId) (e : End) → end_of plans x ≡ Some e → IsFirstAt entries (other_end e) z → IsUnpaired plans x → ⊥
   paired_there x z e at first = paired_ends plans x z e at (first_stands z (other_end e) first)
@@ -229,10 +229,10 @@ module _ (plans : List Plan) (entries : List Entry) (are : AreEndsOf plans entri
   receive_found m x e at b first = ends_one plans m x e b at (first_stands x (other_end e) first)
 
   pub receive_nowhere : (m : OpId) (e : End) → end_of plans m ≡ Some e → ((z : OpId) → Contains entries (record { end = other_end e; op = z }) → ⊥) → (x : OpId) → AreOfOneChannel plans m x → ⊥
-  receive_nowhere m e at none x one = none x (receiving m x e at one).1
+  receive_nowhere m e at none x one = none x (send_has_receive_end m x e at one).1
 
   pub receive_itself : (m : OpId) (e : End) → end_of plans m ≡ Some e → e.is_send ≡ false → (x : OpId) → AreOfOneChannel plans m x → ⊥
-  receive_itself m e at b x one = both_ways e.is_send b (receiving m x e at one).0
+  receive_itself m e at b x one = both_ways e.is_send b (send_has_receive_end m x e at one).0
 
   pub receive_no_end : (m : OpId) → end_of plans m ≡ None → (x : OpId) → AreOfOneChannel plans m x → ⊥
   receive_no_end m none x one = send_end plans m one.is_send none

@@ -13,13 +13,13 @@ use Rattle.goal_certify.specs.Stages.{HasNone, IsFirstOf, IsFreeIn, IsStoppedIn}
 
 module _ (what : Collective) (plans : List Plan) (segment : Segment) (is : segment ≡ record { width = 0; block = 0 }) where
   -- what is said of its start and its end is said of those of the collective
-  as_it_is : (P : Store → (ℕ → ℕ → Value → Bool) → Type 0) → P (initial_in what segment.width segment.block (length plans)) (wanted_in what segment.width segment.block (length plans)) → P (initial what (length plans)) (wanted what (length plans))
-  as_it_is P told =
+  in_first_segment : (P : Store → (ℕ → ℕ → Value → Bool) → Type 0) → P (initial_in what segment.width segment.block (length plans)) (wanted_in what segment.width segment.block (length plans)) → P (initial what (length plans)) (wanted what (length plans))
+  in_first_segment P told =
       let there = subst (λ (s : Segment). P (initial_in what s.width s.block (length plans)) (wanted_in what s.width s.block (length plans))) is told in
       subst (λ (s : Store). P s (wanted what (length plans))) (first_initial what (length plans)) (subst (λ (w : ℕ → ℕ → Value → Bool). P (initial_in what 0 0 (length plans)) w) (first_wanted what (length plans)) there)
 
   pub first_free : {T : Type 0} (r : Result T CertFault) → OnOk r (IsFreeIn what segment plans 6 9) → OnOk r (HasNone plans (initial what (length plans)) (wanted what (length plans)) 6 9)
-  first_free r free = as_it_is (λ (s : Store) (w : ℕ → ℕ → Value → Bool). OnOk r (HasNone plans s w 6 9)) free
+  first_free r free = in_first_segment (λ (s : Store) (w : ℕ → ℕ → Value → Bool). OnOk r (HasNone plans s w 6 9)) free
 
-  pub first_told : {T : Type 0} (r : Result T CertFault) → IfErr r (IsStoppedIn what segment plans 6 9) → IfErr r (λ fault. (fault ≡ NoMemory) ⊎ IsFirstOf plans (initial what (length plans)) (wanted what (length plans)) 6 9 fault)
-  first_told r told = as_it_is (λ (s : Store) (w : ℕ → ℕ → Value → Bool). IfErr r (λ (fault : CertFault). (fault ≡ NoMemory) ⊎ IsFirstOf plans s w 6 9 fault)) told
+  pub fault_of_first_segment : {T : Type 0} (r : Result T CertFault) → IfErr r (IsStoppedIn what segment plans 6 9) → IfErr r (λ fault. (fault ≡ NoMemory) ⊎ IsFirstOf plans (initial what (length plans)) (wanted what (length plans)) 6 9 fault)
+  fault_of_first_segment r told = in_first_segment (λ (s : Store) (w : ℕ → ℕ → Value → Bool). IfErr r (λ (fault : CertFault). (fault ≡ NoMemory) ⊎ IsFirstOf plans s w 6 9 fault)) told

@@ -2,13 +2,13 @@
 use Rattle.std.proofs.Common.{⊎_elim, ℕ, ◌+◌, ◌≡◌, ◌<◌, ◌≤◌, ◌==◌, ◌&&◌, Bool, true, false, List, length, get_or, take, Option, Some, None, if◌then◌else◌, nat_lt, refl, sym, ◌∙◌, subst, arith, true≢false, eq-eqb}
 use Rattle.std.proofs.lemmas.List.{take_all}
 use Rattle.std.proofs.lemmas.Bool.{cases_lt, and_parts, eqb-true, ltb-true, lt-ltb}
-use Rattle.goal_certify.specs.declared.races.search.Pair.{Pair}
+use Rattle.goal_certify.specs.declared.races.search.OpPair.{OpPair}
 use Rattle.goal_certify.specs.declared.races.touches.Touch.{Touch}
 use Rattle.goal_certify.specs.Table.{meets}
 use Rattle.goal_certify.specs.Races.{IsLeastSlot, lesser, least_with}
 use Rattle.goal_certify.proofs.Table.{next_element, first_elements, last_element}
 
-module _ (touchers writers : List ℕ) (touches : List Touch) (p : Pair) where
+module _ (touchers writers : List ℕ) (touches : List Touch) (p : OpPair) where
   -- a touch of the first operation that meets the second one
   abbrev Counts : Touch → Type 0
   Counts t = (t.op ≡ p.first) × (meets touchers writers t p.second ≡ true)
@@ -52,6 +52,6 @@ module _ (touchers writers : List ℕ) (touches : List Touch) (p : Pair) where
             conjoined : (a b : Bool) → a ≡ true → b ≡ true → (a && b) ≡ true
             conjoined a b e f = rw (e, f) refl
 
-pub least_all : (touchers writers : List ℕ) (touches : List Touch) (p : Pair) (i : ℕ) (least : Option ℕ) → length touches ≤ i → IsLeastSlot touchers writers (take i touches) p least → IsLeastSlot touchers writers touches p least
+pub least_all : (touchers writers : List ℕ) (touches : List Touch) (p : OpPair) (i : ℕ) (least : Option ℕ) → length touches ≤ i → IsLeastSlot touchers writers (take i touches) p least → IsLeastSlot touchers writers touches p least
 least_all touchers writers touches p i least all h =
     subst (λ (ts : List Touch). IsLeastSlot touchers writers ts p least) (take_all i touches all) h

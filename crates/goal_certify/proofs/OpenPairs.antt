@@ -13,7 +13,7 @@ use Rattle.goal_blocks.specs.declared.cert_fault.CertFault.TheVariants.{TooLarge
 use Rattle.goal_blocks.specs.Certification.{NamesLowSlots, IsSmall}
 use Rattle.goal_blocks.specs.Slots.{slots, adds, touched_in, touched, written}
 use Rattle.goal_blocks.specs.Faults.{RaceAt, race_key, first_of, IsRace}
-use Rattle.goal_certify.specs.declared.races.search.Pair.{Pair}
+use Rattle.goal_certify.specs.declared.races.search.OpPair.{OpPair}
 use Rattle.goal_certify.specs.declared.races.touches.Touch.{Touch}
 use Rattle.goal_certify.specs.Stages.{IsFree}
 use Rattle.goal_certify.specs.Rows.{has}
@@ -159,7 +159,7 @@ module _ (plans : List Plan) (rank : ℕ) (touches : List Touch) (touchers write
         let o = race_open a.first a.second a.slot here in
         none a.first a.second here.in_order o.0 o.1
 
-    pub first_race : (p : Pair) (s : ℕ) → IsFirstOpen before shared (length (ops_at plans rank)) (Some p) → IsLeastSlot touchers writers touches p (Some s) → IsFirstOfRank plans rank (Some (record { first = p.first; second = p.second; slot = s }))
+    pub first_race : (p : OpPair) (s : ℕ) → IsFirstOpen before shared (length (ops_at plans rank)) (Some p) → IsLeastSlot touchers writers touches p (Some s) → IsFirstOfRank plans rank (Some (record { first = p.first; second = p.second; slot = s }))
     first_race p s found least = (open_race p.first p.second s found.0 found.1 found.2 least.0, none_less)
       where
         none_less : (a : RaceAt) → a.rank ≡ rank → IsLess (race_key a) (race_key (race_at rank (record { first = p.first; second = p.second; slot = s }))) → IsRace plans a → ⊥

@@ -15,7 +15,7 @@ use Rattle.goal_blocks.specs.Channels.{AreOfOneChannel, HasNoDoubleChannel}
 use Rattle.goal_blocks.specs.Slots.{slots}
 use Rattle.goal_blocks.specs.Faults.{IsLeast, op_key, IsWildcard, AreDouble, IsUnpaired, HaveOtherLengths}
 use Rattle.goal_certify.specs.declared.ends.End.{End}
-use Rattle.goal_certify.specs.declared.ends.Entry.{Entry}
+use Rattle.goal_certify.specs.declared.ends.OpAtEnd.{OpAtEnd}
 use Rattle.goal_certify.specs.Ends.{end_of, other_end, AreEndsOf, IsFirstAt}
 use Rattle.goal_certify.proofs.InOrder.{before_from_less, not_before_itself}
 use Rattle.goal_certify.proofs.EndLemmas.{unpaired_there, paired_there, receive_found, receive_nowhere, one_receive}
@@ -56,14 +56,14 @@ module _ (plans : List Plan) where
         send bytes to tag e = cc e
 
 -- a test and its contrary
-pub told_false : (s t : Bool) → s ≡ not t → t ≡ true → s ≡ false
-told_false s t e q = e ∙ ap not q
+pub negation_false : (s t : Bool) → s ≡ not t → t ≡ true → s ≡ false
+negation_false s t e q = e ∙ ap not q
 
-pub told_true : (s t : Bool) → s ≡ not t → s ≡ false → t ≡ true
-told_true s true e q = refl
-told_true s false e q = absurd (both_ways s q e)
+pub negation_true : (s t : Bool) → s ≡ not t → s ≡ false → t ≡ true
+negation_true s true e q = refl
+negation_true s false e q = absurd (both_ways s q e)
 
-module _ (plans : List Plan) (entries : List Entry) (are : AreEndsOf plans entries) where
+module _ (plans : List Plan) (entries : List OpAtEnd) (are : AreEndsOf plans entries) where
   pub unpaired_told : (x : OpId) (e d : End) (r : Option OpId) (t : Bool) → end_of plans x ≡ Some e → d ≡ other_end e → is_some r ≡ not t → IfSome r (IsFirstAt entries d) → IfNone r ((z : OpId) → Contains entries (record { end = d; op = z }) → ⊥) → (IsTrue t → IsUnpaired plans x) × (IsUnpaired plans x → IsTrue t)
   unpaired_told x e d (Some z) t at is told found none =
       (λ q. absurd (both_ways true (told ∙ ap not q) refl), λ un. absurd (paired_there plans entries are x z e at (subst (λ (f : End). IsFirstAt entries f z) is found) un))
@@ -117,5 +117,5 @@ same_op_told y x told =
     flipped true q = refl
     flipped false q = absurd (both_ways true (sym q) refl)
 
-pub none_told : {P : Type 0} (r : Option OpId) → r ≡ None → IfNone r P → P
-none_told {P} r e p = subst (λ (s : Option OpId). IfNone s P) e p
+pub none_passes : {P : Type 0} (r : Option OpId) → r ≡ None → IfNone r P → P
+none_passes {P} r e p = subst (λ (s : Option OpId). IfNone s P) e p

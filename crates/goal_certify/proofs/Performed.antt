@@ -1,6 +1,6 @@
 -- The fields of a state before the first action, and after one more.
-use Rattle.std.proofs.Common.{◌≡◌, ℕ, true, false, List, [], ◌∷◌, ◌++◌, length, map, take, drop, reverse, Option, Some, None, IfSome, refl, sym, ap, ◌∙◌, subst}
-use Rattle.std.proofs.lemmas.List.{reverse-append, length-reverse, length-map}
+use Rattle.std.proofs.Common.{◌≡◌, ℕ, true, false, List, [], ◌∷◌, ◌++◌, length, map, take, drop, Option, Some, None, IfSome, refl, sym, ap, ◌∙◌, subst}
+use Rattle.std.proofs.lemmas.List.{reverse-append}
 use Rattle.goal_graph.specs.declared.action.OpId.{OpId}
 use Rattle.goal_graph.specs.declared.action.Class.{Class}
 use Rattle.goal_graph.specs.declared.action.Class.TheVariants.{Arrive, Post}
@@ -13,7 +13,7 @@ use Rattle.goal_blocks.specs.Walk.{no_send}
 use Rattle.sim_match.specs.PostsAndArrivals.{PostsAndArrivals, is_post_or_arrival_class}
 use Rattle.sim_match.proofs.ForCallers.{happened_filtered}
 use Rattle.goal_certify.specs.declared.walk.action.Action.{Action}
-use Rattle.goal_certify.specs.declared.walk.entry.Entry.{Entry}
+use Rattle.goal_certify.specs.declared.walk.entry.OpProgress.{OpProgress}
 use Rattle.goal_certify.specs.WalkSoFar.{WalkSoFar, act_of, acts, with_class, with_entry, with_partner, met, more_met, entry_known, Represents}
 use Rattle.goal_certify.specs.WalkQueue.{may_act}
 use Rattle.goal_certify.proofs.AfterAction.{AfterMet, after_met, table_known, partner_there}
@@ -22,14 +22,11 @@ use Rattle.goal_certify.proofs.AfterAction.{AfterMet, after_met, table_known, pa
 acts_push : (items : List Action) (a : Action) → acts (items ++ a ∷ []) ≡ act_of a ∷ acts items
 acts_push items a = ap (map act_of) (reverse-append items (a ∷ []))
 
-pub length-acts : (items : List Action) → length (acts items) ≡ length items
-length-acts items = length-map (reverse items) act_of ∙ length-reverse items
-
 -- of two views that are equal
 pub may_at : (v w : WalkSoFar) (c : Class) (x : OpId) → v ≡ w → may_act w.plans w.history c x ≡ true → may_act v.plans v.history c x ≡ true
 may_at v w c x e = subst (λ (u : WalkSoFar). may_act u.plans u.history c x ≡ true) (sym e)
 
-pub entry_is : (v w : WalkSoFar) (x : OpId) (entry : Entry) → v ≡ w → entry ≡ entry_known w.plans w.history x → entry ≡ entry_known v.plans v.history x
+pub entry_is : (v w : WalkSoFar) (x : OpId) (entry : OpProgress) → v ≡ w → entry ≡ entry_known w.plans w.history x → entry ≡ entry_known v.plans v.history x
 entry_is v w x entry e f = f ∙ ap (λ (u : WalkSoFar). entry_known u.plans u.history x) (sym e)
 
 -- nothing has happened
@@ -37,11 +34,7 @@ pub nothing_known : (plans : List Plan) (x : OpId) → entry_known plans [] x �
 unfolding happened pairs partner
 nothing_known plans x = refl
 
-module _ (plans : List Plan) (h : List Act) (entries : List Entry) (matcher : PostsAndArrivals) (m : Represents plans h entries matcher) where
-  -- each operation has its entry
-  pub each_entry : (payload : List Entry) → payload ≡ entries → length payload ≡ length (operations plans)
-  each_entry payload e = ap length (e ∙ m.known) ∙ length-map (operations plans) (entry_known plans h)
-
+module _ (plans : List Plan) (h : List Act) (entries : List OpProgress) (matcher : PostsAndArrivals) (m : Represents plans h entries matcher) where
   module _ (a : Act) (may : may_act plans h a.class a.op ≡ true) where
     -- what the matcher asks of a post and of an arrival
     pub posts : a.class ≡ Post → IsReceive matcher.plans a.op
@@ -66,21 +59,21 @@ module _ (plans : List Plan) (h : List Act) (entries : List Entry) (matcher : Po
     partner_exists (Some y) e = partner_there plans h a (Some y) (met_after (Some y) e) y refl
 
     -- the fields after it
-    pub represents_after : (new_entries : List Entry) (new_matcher : PostsAndArrivals) (o : Option OpId) (entry : Entry) → entry ≡ entry_known plans h a.op → o ≡ met matcher.plans matcher.actions a.class a.op → new_matcher.plans ≡ matcher.plans → new_matcher.actions ≡ more_met matcher.actions a.class a.op → new_entries ≡ map (with_partner a.op o (with_entry a.op (with_class a.class entry) (entry_known plans h))) (operations plans) → Represents plans (a ∷ h) new_entries new_matcher
+    pub represents_after : (new_entries : List OpProgress) (new_matcher : PostsAndArrivals) (o : Option OpId) (entry : OpProgress) → entry ≡ entry_known plans h a.op → o ≡ met matcher.plans matcher.actions a.class a.op → new_matcher.plans ≡ matcher.plans → new_matcher.actions ≡ more_met matcher.actions a.class a.op → new_entries ≡ map (with_partner a.op o (with_entry a.op (with_class a.class entry) (entry_known plans h))) (operations plans) → Represents plans (a ∷ h) new_entries new_matcher
     represents_after new_entries new_matcher o entry was is same more told = record {
       accepted = m.accepted;
       allowed_each = (m.allowed_each, may);
-      known = told ∙ ap (λ (e : Entry). map (with_partner a.op o (with_entry a.op (with_class a.class e) (entry_known plans h))) (operations plans)) was ∙ table_known plans h a o (met_after o is);
+      known = told ∙ ap (λ (e : OpProgress). map (with_partner a.op o (with_entry a.op (with_class a.class e) (entry_known plans h))) (operations plans)) was ∙ table_known plans h a o (met_after o is);
       same_plans = same ∙ m.same_plans;
       events = more ∙ ap (λ (l : List Act). more_met l a.class a.op) m.events;
     }
 
 -- the same, as they lie
-pub performed : (plans : List Plan) (items : List Action) (entries : List Entry) (matcher : PostsAndArrivals) (m : Represents plans (acts items) entries matcher) (a : Action) (may : may_act plans (acts items) a.class a.op ≡ true)
-    (new_items : List Action) (payload written : List Entry) (new_matcher : PostsAndArrivals) (n : ℕ) (o : Option OpId) (entry done : Entry) → entry ≡ entry_known plans (acts items) a.op → done ≡ with_class a.class entry → new_items ≡ items ++ a ∷ [] → n ≡ length entries → payload ≡ entries → length written ≡ length payload → o ≡ met matcher.plans matcher.actions a.class a.op → new_matcher.plans ≡ matcher.plans → new_matcher.actions ≡ more_met matcher.actions a.class a.op → written ≡ map (with_partner a.op o (with_entry a.op done (entry_known plans (acts items)))) (operations plans) → Represents plans (acts new_items) (take n (written ++ drop (length written) entries)) new_matcher
+pub performed : (plans : List Plan) (items : List Action) (entries : List OpProgress) (matcher : PostsAndArrivals) (m : Represents plans (acts items) entries matcher) (a : Action) (may : may_act plans (acts items) a.class a.op ≡ true)
+    (new_items : List Action) (payload written : List OpProgress) (new_matcher : PostsAndArrivals) (n : ℕ) (o : Option OpId) (entry done : OpProgress) → entry ≡ entry_known plans (acts items) a.op → done ≡ with_class a.class entry → new_items ≡ items ++ a ∷ [] → n ≡ length entries → payload ≡ entries → length written ≡ length payload → o ≡ met matcher.plans matcher.actions a.class a.op → new_matcher.plans ≡ matcher.plans → new_matcher.actions ≡ more_met matcher.actions a.class a.op → written ≡ map (with_partner a.op o (with_entry a.op done (entry_known plans (acts items)))) (operations plans) → Represents plans (acts new_items) (take n (written ++ drop (length written) entries)) new_matcher
 performed plans items entries matcher m a may new_items payload written new_matcher n o entry done was is_done pushed count same kept is plans_same more told =
     let table : take n (written ++ drop (length written) entries) ≡ written = whole_back n written entries (kept ∙ ap length same) count in
     let list : act_of a ∷ acts items ≡ acts new_items = sym (ap acts pushed ∙ acts_push items a) in
-    let known = table ∙ told ∙ ap (λ (e : Entry). map (with_partner a.op o (with_entry a.op e (entry_known plans (acts items)))) (operations plans)) is_done in
+    let known = table ∙ told ∙ ap (λ (e : OpProgress). map (with_partner a.op o (with_entry a.op e (entry_known plans (acts items)))) (operations plans)) is_done in
     let after : Represents plans (act_of a ∷ acts items) (take n (written ++ drop (length written) entries)) new_matcher = represents_after plans (acts items) entries matcher m (act_of a) may _ new_matcher o entry was is plans_same more known in
     subst (λ (h : List Act). Represents plans h (take n (written ++ drop (length written) entries)) new_matcher) list after

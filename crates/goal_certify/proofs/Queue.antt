@@ -24,9 +24,6 @@ module _ (plans : List Plan) (h : List Act) where
   pub choice_none : (slot : ℕ) (x : OpId) (r : Option Class) → IsChoice plans h x r → r ≡ None → IsKeyOf plans h slot x None
   choice_none slot x r is e = subst (λ (o : Option Class). IsChoice plans h x o) e is
 
-  pub choice_some : (x : OpId) (r : Option Class) (c : Class) → IsChoice plans h x r → r ≡ Some c → may_act plans h c x ≡ true
-  choice_some x r c is e = subst (λ (o : Option Class). IsChoice plans h x o) e is
-
   pub put_key : (x : OpId) (known : List Plan) (slot : ℕ) (key : Option ℕ) (old new : List (Option ℕ)) → known ≡ plans → slice_get (operations known) slot ≡ Some x → IsKeyOf plans h slot x key → new ≡ slice_set old slot key → IsRefreshed plans h x old new
   put_key x known slot key old new same at is put = record {
     slot = slot;
@@ -154,8 +151,8 @@ module _ (plans : List Plan) (h : List Act) where
 
 -- one more action
 module _ (plans : List Plan) (h : List Act) (a : Act) (now : IsInterleaving plans no_send (a ∷ h)) where
-  stays : (c : Class) (x : OpId) → ¬ (x ≡ a.op) → may_act plans h c x ≡ true → may_act plans (a ∷ h) c x ≡ true
-  stays c x d e =
+  may_act_stays : (c : Class) (x : OpId) → ¬ (x ≡ a.op) → may_act plans h c x ≡ true → may_act plans (a ∷ h) c x ≡ true
+  may_act_stays c x d e =
       elim (cases_op a.op x) [ inl s ↦ absurd (d (sym s)) | inr o ↦ allowed_stays plans no_send a h c x (and_right _ (same_op a.op x) o) e ]
 
   -- the key of an operation stays, or the action moves it
@@ -169,7 +166,7 @@ module _ (plans : List Plan) (h : List Act) (a : Act) (now : IsInterleaving plan
     where
       go : (a.op ≡ x) ⊎ (same_op a.op x ≡ false) → IsKeyOf plans (a ∷ h) slot x (Some k) ⊎ IsMoved plans (a ∷ h) a.class a.op x
       go (inl s) = inr (inl (sym s))
-      go (inr o) = inl (b.0, (b.1.0, stays b.1.0 x (λ s. same_op_false a.op x o (sym s)) b.1.1))
+      go (inr o) = inl (b.0, (b.1.0, may_act_stays b.1.0 x (λ s. same_op_false a.op x o (sym s)) b.1.1))
 
   -- so after an action those are due that it moves
   pub queue_after : (keys : List (Option ℕ)) → IsQueue plans h keys → IsQueueBut plans (a ∷ h) (λ slot. IsMoved plans (a ∷ h) a.class a.op) keys

@@ -29,18 +29,18 @@ bit_or_cases a b i h =
           ]
     ]
 
-is_one : (a : ℕ) → eqb a 1 ≡ true → a ≡ 1
-is_one a h = ⊎_elim (λ e. e) (λ n. absurd (true≢false (sym h ∙ ne_eqb a 1 n))) (cases_eq a 1)
+equals_one : (a : ℕ) → eqb a 1 ≡ true → a ≡ 1
+equals_one a h = ⊎_elim (λ e. e) (λ n. absurd (true≢false (sym h ∙ ne_eqb a 1 n))) (cases_eq a 1)
 
 bit_or_left : (a b i : ℕ) → eqb (bit_at a i) 1 ≡ true → eqb (bit_at (bit_or a b) i) 1 ≡ true
 bit_or_left a b i h =
-    let x : bit_at a i ≡ 1 = is_one _ h in
+    let x : bit_at a i ≡ 1 = equals_one _ h in
     let y : bit_at b i < 2 = bit_at-lt b i in
     eq-eqb _ 1 (omega (arith, bit_at_or a b i))
 
 bit_or_right : (a b i : ℕ) → eqb (bit_at b i) 1 ≡ true → eqb (bit_at (bit_or a b) i) 1 ≡ true
 bit_or_right a b i h =
-    let x : bit_at b i ≡ 1 = is_one _ h in
+    let x : bit_at b i ≡ 1 = equals_one _ h in
     let y : bit_at a i < 2 = bit_at-lt a i in
     eq-eqb _ 1 (omega (arith, bit_at_or a b i))
 
@@ -158,9 +158,9 @@ module _ (old : List ℕ) (row number : ℕ) (inside : 32 * row + 32 ≤ length 
       ]
 
 -- a word is 0, and the others are the same
-pub cleared : (old : List ℕ) (row number : ℕ) → 32 * row + 32 ≤ length old → number < 2048 → (r k : ℕ) → k < 2048 → has (set old (32 * row + number / 64) 0) r k ≡ true → (has old r k ≡ true) × (r ≡ row → k ≢ number)
+pub cleared_word : (old : List ℕ) (row number : ℕ) → 32 * row + 32 ≤ length old → number < 2048 → (r k : ℕ) → k < 2048 → has (set old (32 * row + number / 64) 0) r k ≡ true → (has old r k ≡ true) × (r ≡ row → k ≢ number)
 unfolding has
-cleared old row number inside few r k small h =
+cleared_word old row number inside few r k small h =
     elim (cases_eq (32 * r + k / 64) (32 * row + number / 64)) [
       | inl same ↦
           let none : get_or (set old (32 * row + number / 64) 0) (32 * r + k / 64) 0 ≡ 0 = ap (λ (i : ℕ). get_or (set old (32 * row + number / 64) 0) i 0) same ∙ get_or-set_same old (32 * row + number / 64) 0 0 (omega arith) in
@@ -208,8 +208,8 @@ cleared_less old new row words most places all j r k small h =
     ]
 
 -- words of 0 past the end add nothing
-zeros : (n i : ℕ) → get_or {A = ℕ} (replicate n 0) i 0 ≡ 0
-zeros n i =
+zero_words : (n i : ℕ) → get_or {A = ℕ} (replicate n 0) i 0 ≡ 0
+zero_words n i =
     elim (cases_lt i n) [
       | inl inside ↦ get_or-replicate n i 0 0 inside
       | inr past ↦ get_or_past (replicate n 0) i 0 (omega (arith, length-replicate {A = ℕ} n 0))
@@ -218,13 +218,13 @@ zeros n i =
 pub has_zeros : (n r k : ℕ) → has (replicate n 0) r k ≡ false
 unfolding has
 has_zeros n r k =
-    ap (λ w. bit w k) (zeros n (32 * r + k / 64)) ∙ ap (λ b. eqb b 1) (bit_at-zero (k % 64))
+    ap (λ w. bit w k) (zero_words n (32 * r + k / 64)) ∙ ap (λ b. eqb b 1) (bit_at-zero (k % 64))
 
 more_zeros : (words : List ℕ) (n i : ℕ) → get_or (words ++ replicate n 0) i 0 ≡ get_or words i 0
 more_zeros words n i =
     elim (cases_lt i (length words)) [
       | inl inside ↦ get_or-append words (replicate n 0) 0 i inside
-      | inr past ↦ get_or-append_right words (replicate n 0) i 0 past ∙ zeros n (i - length words) ∙ sym (get_or_past words i 0 past)
+      | inr past ↦ get_or-append_right words (replicate n 0) i 0 past ∙ zero_words n (i - length words) ∙ sym (get_or_past words i 0 past)
     ]
 
 pub has_more_zeros : (words : List ℕ) (n r k : ℕ) → has (words ++ replicate n 0) r k ≡ has words r k
@@ -249,7 +249,7 @@ below_lowest word i fits low =
 pub none_beside : (these : List ℕ) (row : ℕ) (others : List ℕ) (other k : ℕ) → k < 2048 → get_or others (32 * other + k / 64) 0 < 2 ^ 64 → bit_at (bit_and (get_or these (32 * row + k / 64) 0) (bit_not w64 (get_or others (32 * other + k / 64) 0))) (k % 64) ≡ 0 → has these row k ≡ true → has others other k ≡ false → ⊥
 unfolding has
 none_beside these row others other k small fits none h alone =
-    let x : bit_at (get_or these (32 * row + k / 64) 0) (k % 64) ≡ 1 = is_one _ h in
+    let x : bit_at (get_or these (32 * row + k / 64) 0) (k % 64) ≡ 1 = equals_one _ h in
     let y : bit_at (get_or others (32 * other + k / 64) 0) (k % 64) ≢ 1 = λ e. true≢false (sym (eq-eqb _ 1 e) ∙ alone) in
     let z : bit_at (get_or others (32 * other + k / 64) 0) (k % 64) < 2 = bit_at-lt _ (k % 64) in
     let n : bit_at (bit_not w64 (get_or others (32 * other + k / 64) 0)) (k % 64) ≡ 1 - bit_at (get_or others (32 * other + k / 64) 0) (k % 64) = bit_at_not w64 _ (k % 64) fits (omega arith) in

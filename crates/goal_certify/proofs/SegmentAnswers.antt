@@ -16,7 +16,7 @@ use Rattle.goal_certify.specs.declared.segments.SegmentFault.{SegmentFault}
 use Rattle.goal_certify.specs.Stages.{HasNone, IsFree, IsStopped}
 use Rattle.goal_certify.specs.Segments.{IsSegmentFault}
 use Rattle.goal_certify.proofs.StageLemmas.{none_joined}
-use Rattle.goal_certify.proofs.Deciding.{certified, is_fault, IsToldFrom, told_stopped, told_sooner, told_later}
+use Rattle.goal_certify.proofs.Deciding.{certified, is_fault, IsFaultFrom, told_stopped, told_sooner, told_later}
 
 -- the slots of the block of that number
 pub block_fits : (width count block : ℕ) → count * width ≤ 2 ^ 32 → block < count → block * width + width ≤ 2 ^ 32
@@ -47,7 +47,7 @@ module _ (what : Collective) (width : ℕ) (plans : List Plan) where
       abbrev pub IsTold : SegmentFault → Type 0
       IsTold told = (told.fault ≡ NoMemory) ⊎ IsSegmentFault what width count plans told
 
-      pub told_there : (block : ℕ) (fault : CertFault) → block < count → ((k : ℕ) → k < block → IsCertifiedIn what width k plans) → IsToldFrom plans (start block) (wish block) 0 9 fault → IsTold (record { block = block; fault = fault })
+      pub told_there : (block : ℕ) (fault : CertFault) → block < count → ((k : ℕ) → k < block → IsCertifiedIn what width k plans) → IsFaultFrom plans (start block) (wish block) 0 9 fault → IsTold (record { block = block; fault = fault })
       told_there block fault low before (inl e) = inl e
       told_there block fault low before (inr is) =
           inr (record { block = low; fault = is_fault plans (start block) (wish block) faultless excludes one (λ ps first wanted c. certified_right ps first wanted c) accepted fault is; certified_before = before })
@@ -56,7 +56,7 @@ module _ (what : Collective) (width : ℕ) (plans : List Plan) where
       stopped_there fault some stopped =
           told_there 0 fault some (λ k low. absurd (omega (arith, low))) (told_sooner plans (start 0) (wish 0) 0 6 9 fault (omega arith) (told_stopped plans (start 0) (wish 0) 0 6 fault stopped))
 
-      pub walked_there : (block : ℕ) (fault : CertFault) → block < count → ((k : ℕ) → k < block → IsCertifiedIn what width k plans) → IsFree plans 0 6 → IsToldFrom plans (start block) (wish block) 6 9 fault → IsTold (record { block = block; fault = fault })
+      pub walked_there : (block : ℕ) (fault : CertFault) → block < count → ((k : ℕ) → k < block → IsCertifiedIn what width k plans) → IsFree plans 0 6 → IsFaultFrom plans (start block) (wish block) 6 9 fault → IsTold (record { block = block; fault = fault })
       walked_there block fault low before free told =
           told_there block fault low before (told_later plans (start block) (wish block) 0 6 9 fault (omega arith) (free (start block) (wish block)) told)
 

@@ -24,10 +24,10 @@ use Rattle.goal_values.specs.Summed.{Summed}
 use Rattle.goal_certify.specs.declared.walk.parcel.Parcel.{Parcel}
 use Rattle.goal_certify.specs.Stages.{HasNone, IsFirstOf}
 use Rattle.goal_certify.specs.Left.{IsLeft}
-use Rattle.goal_certify.specs.Carried.{Told, told_in, parcel_size, kept_of, IsKnown, IsCarrying, IsHolding, IsOver}
+use Rattle.goal_certify.specs.Carried.{ParcelValues, values_of_parcels, parcel_size, parcel_under_way, IsKnown, IsCarrying, IsHolding, IsOver}
 use Rattle.goal_certify.proofs.Carried.{carried_kept}
 use Rattle.goal_certify.proofs.Carrying.{weight_opened}
-use Rattle.goal_certify.proofs.Holding.{none_told}
+use Rattle.goal_certify.proofs.Holding.{no_parcel_values}
 use Rattle.goal_certify.proofs.ValueStage.{weight_first, values_none, wrong_first}
 
 module _ (plans : List Plan) (first : Store) where
@@ -39,10 +39,10 @@ module _ (plans : List Plan) (first : Store) where
   start_store = refl
 
   -- nothing is under way
-  kept_nothing : (m : OpId) → kept_of plans [] start m ≡ None
+  kept_nothing : (m : OpId) → parcel_under_way plans [] start m ≡ None
   kept_nothing m = rw (happened_none Data m) refl
 
-  kept_none : (xs : List OpId) → map (kept_of plans [] start) xs ≡ replicate (length xs) None
+  kept_none : (xs : List OpId) → map (parcel_under_way plans [] start) xs ≡ replicate (length xs) None
   kept_none [] = refl
   kept_none (x ∷ xs) = λ i. kept_nothing x i ∷ kept_none xs i
 
@@ -54,15 +54,15 @@ module _ (plans : List Plan) (first : Store) where
 
   start_carried : carried plans [] start ≡ 0
   start_carried =
-      carried_kept plans [] start ∙ ap (λ (ps : List (Option Told)). sum_by parcel_size ps) (kept_none (operations plans)) ∙ none_carried (length (operations plans))
+      carried_kept plans [] start ∙ ap (λ (ps : List (Option ParcelValues)). sum_by parcel_size ps) (kept_none (operations plans)) ∙ none_carried (length (operations plans))
 
   start_weight : weight plans [] start ≡ stored (length plans) first
   start_weight =
       let opened = weight_opened plans [] start in
       omega (arith, opened, start_carried, ap (stored (length plans)) start_store)
 
-  pub started : (s : Kept) (parcels : List (Option Told)) → values s ≡ first → s.ranks ≡ length plans → parcels ≡ replicate (length (operations plans)) None → stored (length plans) first ≤ 2 ^ 24 → IsCarrying plans first [] s parcels 0
-  started s parcels is ranks none light = record {
+  pub carrying_at_start : (s : Kept) (parcels : List (Option ParcelValues)) → values s ≡ first → s.ranks ≡ length plans → parcels ≡ replicate (length (operations plans)) None → stored (length plans) first ≤ 2 ^ 24 → IsCarrying plans first [] s parcels 0
+  carrying_at_start s parcels is ranks none light = record {
     values_are = is ∙ sym start_store;
     ranks = ranks;
     parcels_are = none ∙ sym (kept_none (operations plans));
@@ -84,7 +84,7 @@ wanted_inside what ranks r k v unwanted = go (nat_lt r ranks) refl unwanted
     go false e q = absurd (both_ways true q refl)
 
 -- the walk is at its end with these values
-pub left_at_end : (plans : List Plan) (first : Store) (w : List Act) (s : Kept) (parcels : List (Option Told)) (count : ℕ) → IsWalk plans w → IsCarrying plans first w s parcels count → IsLeft plans first s
+pub left_at_end : (plans : List Plan) (first : Store) (w : List Act) (s : Kept) (parcels : List (Option ParcelValues)) (count : ℕ) → IsWalk plans w → IsCarrying plans first w s parcels count → IsLeft plans first s
 left_at_end plans first w s parcels count is_walk so_far = record {
   walk = w;
   is_walk = is_walk;
@@ -104,18 +104,18 @@ module _ (plans : List Plan) (what : Collective) (width block : ℕ) (s : Kept) 
   w = left.walk
 
   -- what is read of the store is what the walk leaves
-  read : (rank slot : ℕ) → wanted_in what width block s.ranks rank slot (values s rank slot) ≡ wish rank slot (value plans no_send first w rank slot)
-  read rank slot =
+  wanted_at_end : (rank slot : ℕ) → wanted_in what width block s.ranks rank slot (values s rank slot) ≡ wish rank slot (value plans no_send first w rank slot)
+  wanted_at_end rank slot =
       ap (λ (n : ℕ). wanted_in what width block n rank slot (values s rank slot)) left.ranks ∙ ap (λ (v : Store). wish rank slot (v rank slot)) left.values_are
 
   pub ended_right : ((rank slot : ℕ) → wanted_in what width block s.ranks rank slot (values s rank slot) ≡ true) → HasNone plans first wish 7 9
   ended_right right =
-      values_none plans first wish w left.is_walk left.light (λ rank slot inside. sym (read rank slot) ∙ right rank slot)
+      values_none plans first wish w left.is_walk left.light (λ rank slot inside. sym (wanted_at_end rank slot) ∙ right rank slot)
 
   pub ended_wrong : (rank slot : ℕ) → IsLeast slot_key (λ (a : SlotAt). wanted_in what width block s.ranks a.rank a.slot (values s a.rank a.slot) ≡ false) (record { rank = rank; slot = slot }) → IsFirstOf plans first wish 7 9 (Wrong rank slot)
   ended_wrong rank slot least =
-      let unwanted = sym (read rank slot) ∙ least.holds in
-      wrong_first plans first wish w left.is_walk left.light rank slot (wanted_inside what (length plans) rank (exchange width block slot) _ unwanted) unwanted (λ other less inside. ⊎_elim (λ e. e) (λ e. absurd (least.none_less other less (read other.rank other.slot ∙ e))) (cases_Bool (wish other.rank other.slot (value plans no_send first w other.rank other.slot))))
+      let unwanted = sym (wanted_at_end rank slot) ∙ least.holds in
+      wrong_first plans first wish w left.is_walk left.light rank slot (wanted_inside what (length plans) rank (exchange width block slot) _ unwanted) unwanted (λ other less inside. ⊎_elim (λ e. e) (λ e. absurd (least.none_less other less (wanted_at_end other.rank other.slot ∙ e))) (cases_Bool (wish other.rank other.slot (value plans no_send first w other.rank other.slot))))
 
 -- what stopped the walk with its values is the first fault of the last two kinds, whatever is wanted
 pub stopped_over : (plans : List Plan) (first : Store) (h : List Act) (fault : CertFault) → IsInterleaving plans no_send h → TakesFirst plans h → IsOver (λ total. IsFirstTooHeavy plans first h total) fault → (fault ≡ NoMemory) ⊎ ((wanted : ℕ → ℕ → Value → Bool) → IsFirstOf plans first wanted 7 9 fault)
@@ -125,8 +125,8 @@ stopped_over plans store h fault run takes (inr over) =
 
 -- before the first step nothing is under way
 module _ (plans : List Plan) (first : Store) (s : Summed) (parcels : List (Option Parcel)) (is : values s.kept ≡ first) (ranks : s.kept.ranks ≡ length plans) (none : parcels ≡ replicate (length (operations plans)) None) (light : stored (length plans) first ≤ 2 ^ 24) where
-  pub begun : (h : List Act) → h ≡ [] → IsHolding plans first h s parcels 0
-  begun h start = record {
-    carrying = subst (λ (acts : List Act). IsCarrying plans first acts s.kept (told_in s.sums parcels) 0) (sym start) (started plans first s.kept (told_in s.sums parcels) is ranks (ap (told_in s.sums) none ∙ none_told s.sums (length (operations plans))) light);
+  pub holding_at_start : (h : List Act) → h ≡ [] → IsHolding plans first h s parcels 0
+  holding_at_start h start = record {
+    carrying = subst (λ (acts : List Act). IsCarrying plans first acts s.kept (values_of_parcels s.sums parcels) 0) (sym start) (carrying_at_start plans first s.kept (values_of_parcels s.sums parcels) is ranks (ap (values_of_parcels s.sums) none ∙ no_parcel_values s.sums (length (operations plans))) light);
     known = subst (All (IsKnown s.sums)) (sym none) (All-replicate (IsKnown s.sums) (length (operations plans)) None tt);
   }

@@ -62,6 +62,6 @@ pub walk_at : (old new : WalkSoFar) (r : Option Action) → is_some r ≡ false 
 walk_at old new (Some a) t walk same = absurd (cc)
 walk_at old new None t walk same = subst (λ (v : WalkSoFar). IsWalk v.plans v.history) (sym same) walk
 
-pub same_at : (old new : WalkSoFar) (r : Option Action) → is_some r ≡ false → IfNone r (new ≡ old) → new ≡ old
-same_at old new (Some a) t same = absurd (cc)
-same_at old new None t same = same
+pub unchanged_if_none : (old new : WalkSoFar) (r : Option Action) → is_some r ≡ false → IfNone r (new ≡ old) → new ≡ old
+unchanged_if_none old new (Some a) t same = absurd (cc)
+unchanged_if_none old new None t same = same

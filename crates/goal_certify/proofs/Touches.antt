@@ -64,7 +64,7 @@ moved_none op writes lo ts =
 
 pub moved_more : (old now : List Touch) (op : ℕ) (writes : Bool) (lo slot : ℕ) → lo ≤ slot → now ≡ old ++ moved op writes (slots_from lo (slot - lo)) → now ++ record { op = op; slot = slot; writes = writes } ∷ [] ≡ old ++ moved op writes (slots_from lo (slot + 1 - lo))
 unfolding moved
-moved_more old now op writes lo slot low e =
+moved_more old now op writes lo slot touch_is_low e =
     let t : ℕ → Touch = λ (s : ℕ). record { op = op; slot = s; writes = writes } in
     let n : ℕ = slot - lo in
     let long : slot + 1 - lo ≡ n + 1 = omega arith in
@@ -76,9 +76,9 @@ moved_more old now op writes lo slot low e =
     ∙ ap (λ (k : ℕ). map t (slots_from lo n) ++ t k ∷ []) last in
     ap (λ (ts : List Touch). ts ++ t slot ∷ []) e ∙ append_assoc old (map t (slots_from lo n)) (t slot ∷ []) ∙ ap (λ (ts : List Touch). old ++ ts) (sym more)
 
-is_there : {A B : Type 0} (f : A → B) (o : Option A) (y : B) → option_map f o ≡ Some y → (x : A) × (o ≡ Some x)
-is_there f None y e = absurd (cc e)
-is_there f (Some x) y e = (x, refl)
+some_before_map : {A B : Type 0} (f : A → B) (o : Option A) (y : B) → option_map f o ≡ Some y → (x : A) × (o ≡ Some x)
+some_before_map f None y e = absurd (cc e)
+some_before_map f (Some x) y e = (x, refl)
 
 module _ (plans : List Plan) (rank : ℕ) (p : Plan) (at : slice_get plans rank ≡ Some p) where
   notes_are : notes_at plans rank ≡ p.notes
@@ -141,26 +141,26 @@ module _ (plans : List Plan) (rank : ℕ) (p : Plan) (at : slice_get plans rank 
   abbrev Fits : Option Kind → Touch → Type 0
   Fits q t = Contains (touched_here q t.op) t.slot × (t.writes ≡ true → Contains (written_here q t.op) t.slot)
 
-  sound : (n : Note) (q : Option Kind) (t : Touch) → Contains p.notes n → Contains (touches_in q n) t → (noted n ≡ t.op) × Fits q t
+  noted_touch : (n : Note) (q : Option Kind) (t : Touch) → Contains p.notes n → Contains (touches_in q n) t → (noted n ≡ t.op) × Fits q t
   unfolding moved
-  sound (Moves op lo hi) (Some (Send bytes to tag)) t cn ct =
+  noted_touch (Moves op lo hi) (Some (Send bytes to tag)) t cn ct =
       let m = contains_source (λ (s : ℕ). record { op = op; slot = s; writes = false }) (slots_from lo (hi + 1 - lo)) t ct in
       subst (λ (u : Touch). (op ≡ u.op) × Fits (Some (Send bytes to tag)) u) m.2 (refl, (moves_there op lo hi m.0 cn m.1, λ e. absurd (cc e)))
-  sound (Moves op lo hi) (Some (Recv room from tag)) t cn ct =
+  noted_touch (Moves op lo hi) (Some (Recv room from tag)) t cn ct =
       let m = contains_source (λ (s : ℕ). record { op = op; slot = s; writes = true }) (slots_from lo (hi + 1 - lo)) t ct in
       subst (λ (u : Touch). (op ≡ u.op) × Fits (Some (Recv room from tag)) u) m.2 (refl, (moves_there op lo hi m.0 cn m.1, λ e. moves_there op lo hi m.0 cn m.1))
-  sound (Moves op lo hi) (Some (Calc nanos)) t cn ct = absurd (omega (arith, ct.1))
-  sound (Moves op lo hi) None t cn ct = absurd (omega (arith, ct.1))
-  sound (Adds op from to) (Some (Calc nanos)) t cn (zero, b, e) =
+  noted_touch (Moves op lo hi) (Some (Calc nanos)) t cn ct = absurd (omega (arith, ct.1))
+  noted_touch (Moves op lo hi) None t cn ct = absurd (omega (arith, ct.1))
+  noted_touch (Adds op from to) (Some (Calc nanos)) t cn (zero, b, e) =
       let a : Adding = record { from = from; to = to } in
       subst (λ (u : Touch). (op ≡ u.op) × Fits (Some (Calc nanos)) u) e (refl, (flat_map_in (λ (a : Adding). a.from ∷ a.to ∷ []) (flat_map (added_by op) p.notes) a from (adds_there op from to cn) (contains_first from (to ∷ []) from refl), λ e. absurd (cc e)))
-  sound (Adds op from to) (Some (Calc nanos)) t cn (suc zero, b, e) =
+  noted_touch (Adds op from to) (Some (Calc nanos)) t cn (suc zero, b, e) =
       let a : Adding = record { from = from; to = to } in
       subst (λ (u : Touch). (op ≡ u.op) × Fits (Some (Calc nanos)) u) e (refl, (flat_map_in (λ (a : Adding). a.from ∷ a.to ∷ []) (flat_map (added_by op) p.notes) a to (adds_there op from to cn) (contains_more from (to ∷ []) to (contains_first to [] to refl)), λ e. contains_mapped (λ (a : Adding). a.to) (flat_map (added_by op) p.notes) a (adds_there op from to cn)))
-  sound (Adds op from to) (Some (Calc nanos)) t cn (suc (suc k), b, e) = absurd (omega (arith, b))
-  sound (Adds op from to) (Some (Send bytes target tag)) t cn ct = absurd (omega (arith, ct.1))
-  sound (Adds op from to) (Some (Recv room source tag)) t cn ct = absurd (omega (arith, ct.1))
-  sound (Adds op from to) None t cn ct = absurd (omega (arith, ct.1))
+  noted_touch (Adds op from to) (Some (Calc nanos)) t cn (suc (suc k), b, e) = absurd (omega (arith, b))
+  noted_touch (Adds op from to) (Some (Send bytes target tag)) t cn ct = absurd (omega (arith, ct.1))
+  noted_touch (Adds op from to) (Some (Recv room source tag)) t cn ct = absurd (omega (arith, ct.1))
+  noted_touch (Adds op from to) None t cn ct = absurd (omega (arith, ct.1))
 
   abbrev all : List Touch
   all = flat_map (touches_of p.ops) p.notes
@@ -168,7 +168,7 @@ module _ (plans : List Plan) (rank : ℕ) (p : Plan) (at : slice_get plans rank 
   touch_fits : (t : Touch) → Contains all t → Fits (kind t.op) t
   touch_fits t c =
       let m = in_flat_map (touches_of p.ops) p.notes t c in
-      let s = sound m.0 (kind (noted m.0)) t m.1 m.2 in
+      let s = noted_touch m.0 (kind (noted m.0)) t m.1 m.2 in
       subst (λ (k : ℕ). Fits (kind k) t) s.0 s.1
 
   in_all : (n : Note) (t : Touch) → Contains p.notes n → Contains (touches_in (kind (noted n)) n) t → Contains all t
@@ -254,33 +254,33 @@ module _ (plans : List Plan) (rank : ℕ) (p : Plan) (at : slice_get plans rank 
           let b = both k nanos e m.0 m.1 in
           (record { op = k; slot = m.0.to; writes = true }, b.1, refl, m.2, refl)
 
-  below : (n : Note) (q : Option Kind) (t : Touch) → kind (noted n) ≡ q → Contains (touches_in q n) t → noted n < length p.ops
-  below n (Some kk) t e c =
-      let o = is_there (λ (o : Op). o.kind) (slice_get p.ops (noted n)) kk e in
+  noted_op_exists : (n : Note) (q : Option Kind) (t : Touch) → kind (noted n) ≡ q → Contains (touches_in q n) t → noted n < length p.ops
+  noted_op_exists n (Some kk) t e c =
+      let o = some_before_map (λ (o : Op). o.kind) (slice_get p.ops (noted n)) kk e in
       slice_get_within p.ops (noted n) o.0 o.1
-  below (Moves op lo hi) None t e c = absurd (omega (arith, c.1))
-  below (Adds op from to) None t e c = absurd (omega (arith, c.1))
+  noted_op_exists (Moves op lo hi) None t e c = absurd (omega (arith, c.1))
+  noted_op_exists (Adds op from to) None t e c = absurd (omega (arith, c.1))
 
-  low : (n : Note) (q : Option Kind) (t : Touch) → NamesLowSlots n → Contains (touches_in q n) t → t.slot ≤ 65535
+  touch_is_low : (n : Note) (q : Option Kind) (t : Touch) → NamesLowSlots n → Contains (touches_in q n) t → t.slot ≤ 65535
   unfolding moved
-  low (Moves op lo hi) (Some (Send bytes to tag)) t l c =
+  touch_is_low (Moves op lo hi) (Some (Send bytes to tag)) t l c =
       let m = contains_source (λ (s : ℕ). record { op = op; slot = s; writes = false }) (slots_from lo (hi + 1 - lo)) t c in
       let h : m.0 < lo + (hi + 1 - lo) = slots_high lo (hi + 1 - lo) m.0 m.1 in
       let f : m.0 ≡ t.slot = ap (λ (u : Touch). u.slot) m.2 in
       omega (arith, h, f, l.0, l.1)
-  low (Moves op lo hi) (Some (Recv room from tag)) t l c =
+  touch_is_low (Moves op lo hi) (Some (Recv room from tag)) t l c =
       let m = contains_source (λ (s : ℕ). record { op = op; slot = s; writes = true }) (slots_from lo (hi + 1 - lo)) t c in
       let h : m.0 < lo + (hi + 1 - lo) = slots_high lo (hi + 1 - lo) m.0 m.1 in
       let f : m.0 ≡ t.slot = ap (λ (u : Touch). u.slot) m.2 in
       omega (arith, h, f, l.0, l.1)
-  low (Moves op lo hi) (Some (Calc nanos)) t l c = absurd (omega (arith, c.1))
-  low (Adds op from to) (Some (Calc nanos)) t l (zero, b, e) = let f = ap (λ (u : Touch). u.slot) e in omega (arith, f, l.0)
-  low (Adds op from to) (Some (Calc nanos)) t l (suc zero, b, e) = let f = ap (λ (u : Touch). u.slot) e in omega (arith, f, l.1)
-  low (Adds op from to) (Some (Calc nanos)) t l (suc (suc i), b, e) = absurd (omega (arith, b))
-  low (Adds op from to) (Some (Send bytes target tag)) t l c = absurd (omega (arith, c.1))
-  low (Adds op from to) (Some (Recv room source tag)) t l c = absurd (omega (arith, c.1))
-  low (Moves op lo hi) None t l c = absurd (omega (arith, c.1))
-  low (Adds op from to) None t l c = absurd (omega (arith, c.1))
+  touch_is_low (Moves op lo hi) (Some (Calc nanos)) t l c = absurd (omega (arith, c.1))
+  touch_is_low (Adds op from to) (Some (Calc nanos)) t l (zero, b, e) = let f = ap (λ (u : Touch). u.slot) e in omega (arith, f, l.0)
+  touch_is_low (Adds op from to) (Some (Calc nanos)) t l (suc zero, b, e) = let f = ap (λ (u : Touch). u.slot) e in omega (arith, f, l.1)
+  touch_is_low (Adds op from to) (Some (Calc nanos)) t l (suc (suc i), b, e) = absurd (omega (arith, b))
+  touch_is_low (Adds op from to) (Some (Send bytes target tag)) t l c = absurd (omega (arith, c.1))
+  touch_is_low (Adds op from to) (Some (Recv room source tag)) t l c = absurd (omega (arith, c.1))
+  touch_is_low (Moves op lo hi) None t l c = absurd (omega (arith, c.1))
+  touch_is_low (Adds op from to) None t l c = absurd (omega (arith, c.1))
 
   pub are_touches : All NamesLowSlots p.notes → AreTouches plans rank all
   are_touches slots_low = record {
@@ -290,9 +290,9 @@ module _ (plans : List Plan) (rank : ℕ) (p : Plan) (at : slice_get plans rank 
     all_written = written_found;
     op_below = λ t c.
         let m = in_flat_map (touches_of p.ops) p.notes t c in
-        let s = sound m.0 (kind (noted m.0)) t m.1 m.2 in
-        subst (λ (os : List Op). t.op < length os) (sym ops_are) (subst (λ (k : ℕ). k < length p.ops) s.0 (below m.0 (kind (noted m.0)) t refl m.2));
+        let s = noted_touch m.0 (kind (noted m.0)) t m.1 m.2 in
+        subst (λ (os : List Op). t.op < length os) (sym ops_are) (subst (λ (k : ℕ). k < length p.ops) s.0 (noted_op_exists m.0 (kind (noted m.0)) t refl m.2));
     slot_low = λ t c.
         let m = in_flat_map (touches_of p.ops) p.notes t c in
-        low m.0 (kind (noted m.0)) t (All-contains NamesLowSlots p.notes m.0 slots_low m.1) m.2;
+        touch_is_low m.0 (kind (noted m.0)) t (All-contains NamesLowSlots p.notes m.0 slots_low m.1) m.2;
   }

@@ -56,9 +56,6 @@ module _ (old : List ℕ) (at : ℕ) (inside : at / 64 < length old) where
         | inr other ↦ ap (λ w. bit w k) (get_or-set_other old (at / 64) (k / 64) _ 0 other)
       ]
 
-  pub words_put : (w word : ℕ) → w ≢ at / 64 → get_or (set old (at / 64) word) w 0 ≡ get_or old w 0
-  words_put w word apart = get_or-set_other old (at / 64) w word 0 apart
-
 -- a word of 0 has no bit
 pub word_of_bit : (words : List ℕ) (k : ℕ) → is_on words k ≡ true → 0 < get_or words (k / 64) 0
 unfolding is_on
@@ -111,11 +108,11 @@ turn_at : (words : List ℕ) (count k : ℕ) (d : Option ℕ) → k < count → 
 unfolding turns_of
 turn_at words count k d inside = get_or-map-range_with_len (turn words) 0 count k k d inside (omega arith)
 
-pub there : (words : List ℕ) (count k : ℕ) → k < count → is_on words k ≡ true → key_at (turns_of words count) k ≡ Some k
-there words count k inside on = turn_at words count k None inside ∙ turn_on words k on
+pub turn_key : (words : List ℕ) (count k : ℕ) → k < count → is_on words k ≡ true → key_at (turns_of words count) k ≡ Some k
+turn_key words count k inside on = turn_at words count k None inside ∙ turn_on words k on
 
-pub not_there : (words : List ℕ) (count k : ℕ) → is_on words k ≡ false → key_at (turns_of words count) k ≡ None
-not_there words count k off =
+pub no_turn_key : (words : List ℕ) (count k : ℕ) → is_on words k ≡ false → key_at (turns_of words count) k ≡ None
+no_turn_key words count k off =
     elim (cases_lt k count) [
       | inl inside ↦ turn_at words count k None inside ∙ turn_off words k off
       | inr past ↦ get_or_past (turns_of words count) k None (omega (arith, length_turns words count))
@@ -128,10 +125,10 @@ place_there words count k p e = go (is_on words k) refl
     none_some f = cc
 
     go : (b : Bool) → is_on words k ≡ b → (is_on words k ≡ true) × (p ≡ k)
-    go false off = absurd (none_some (sym (not_there words count k off) ∙ e))
+    go false off = absurd (none_some (sym (no_turn_key words count k off) ∙ e))
     go true on =
         elim (cases_lt k count) [
-          | inl inside ↦ let same : Some k ≡ Some p = sym (there words count k inside on) ∙ e in (on, cc)
+          | inl inside ↦ let same : Some k ≡ Some p = sym (turn_key words count k inside on) ∙ e in (on, cc)
           | inr past ↦ absurd (none_some (sym (get_or_past (turns_of words count) k None (omega (arith, length_turns words count))) ∙ e))
         ]
 
@@ -222,7 +219,7 @@ no_bits n k = ap (λ w. bit w k) (zero_at n (k / 64)) ∙ ap (λ b. eqb b 1) (bi
 -- the lowest bit of the first word that the heads tell of is the lowest of all
 module _ (words heads : List ℕ) (count : ℕ) (was : AreTurns words heads count) where
   pub none_at_all : ((a : ℕ) → get_or heads a 0 ≡ 0) → IsEmptyMap (turns_of words count)
-  none_at_all none k = not_there words count k (go (is_on words k) refl)
+  none_at_all none k = no_turn_key words count k (go (is_on words k) refl)
     where
       go : (b : Bool) → is_on words k ≡ b → is_on words k ≡ false
       go false off = off
@@ -246,7 +243,7 @@ module _ (words heads : List ℕ) (count : ℕ) (was : AreTurns words heads coun
 
     pub is_least : IsLeast nat_lt (turns_of words count) place place
     is_least = record {
-      has = there words count place (was.low place place_on) place_on;
+      has = turn_key words count place (was.low place place_on) place_on;
       least = λ other k e.
           let o = place_there words count other k e in
           elim (cases_lt k place) [

@@ -22,16 +22,16 @@ use Rattle.goal_certify.specs.declared.walk.parcel.Holdings.{Holdings}
 use Rattle.goal_certify.specs.WalkSoFar.{WalkSoFar, act_of}
 
 -- a parcel in contracts: the values that are under way, and how many contributions these have
-pub record Told : Type 0 where
+pub record ParcelValues : Type 0 where
   pub payload : List Value
   pub size : ℕ
 
-abbrev pub told_of : List Value → Parcel → Told
-told_of sums p = record { payload = payload_values sums p.payload; size = p.size }
+abbrev pub values_of_parcel : List Value → Parcel → ParcelValues
+values_of_parcel sums p = record { payload = payload_values sums p.payload; size = p.size }
 
 -- the same for each parcel in a table
-abbrev pub told_in : List Value → List (Option Parcel) → List (Option Told)
-told_in sums parcels = map (option_map (told_of sums)) parcels
+abbrev pub values_of_parcels : List Value → List (Option Parcel) → List (Option ParcelValues)
+values_of_parcels sums parcels = map (option_map (values_of_parcel sums)) parcels
 
 -- the payload of the parcel refers to existing sums
 abbrev pub IsKnown : List Value → Option Parcel → Type 0
@@ -42,30 +42,30 @@ IsKnown sums (Some p) = IsPayload sums p.payload
 abbrev pub size_of : List Value → ℕ
 size_of vs = sum_by (λ (v : Value). length v) vs
 
-abbrev pub parcel_size : Option Told → ℕ
+abbrev pub parcel_size : Option ParcelValues → ℕ
 parcel_size None = 0
 parcel_size (Some p) = p.size
 
 -- the parcel of a send that has read these values
-abbrev pub parcel_of : List Value → Told
+abbrev pub parcel_of : List Value → ParcelValues
 parcel_of vs = record { payload = vs; size = size_of vs }
 
 -- the parcel of the send m, while it is under way
-abbrev pub kept_of : List Plan → List Act → Held → OpId → Option Told
-kept_of plans h held m = if is_under_way plans h m then Some (parcel_of (held.payload m)) else None
+abbrev pub parcel_under_way : List Plan → List Act → Held → OpId → Option ParcelValues
+parcel_under_way plans h held m = if is_under_way plans h m then Some (parcel_of (held.payload m)) else None
 
 -- There is a parcel for each send that is under way, in the order of all operations. There were never too many
 -- contributions held.
-pub record IsCarrying (plans : List Plan) (first : Store) (h : List Act) (s : Kept) (parcels : List (Option Told)) (count : ℕ) : Type 0 where
+pub record IsCarrying (plans : List Plan) (first : Store) (h : List Act) (s : Kept) (parcels : List (Option ParcelValues)) (count : ℕ) : Type 0 where
   pub values_are : values s ≡ (held_after plans no_send first h).store
   pub ranks : s.ranks ≡ length plans
-  pub parcels_are : parcels ≡ map (kept_of plans h (held_after plans no_send first h)) (operations plans)
+  pub parcels_are : parcels ≡ map (parcel_under_way plans h (held_after plans no_send first h)) (operations plans)
   pub counted : count ≡ carried plans h (held_after plans no_send first h)
   pub light : IsLight plans first h
 
 -- the same of values that are stored as sums
 pub record IsHolding (plans : List Plan) (first : Store) (h : List Act) (s : Summed) (parcels : List (Option Parcel)) (count : ℕ) : Type 0 where
-  pub carrying : IsCarrying plans first h s.kept (told_in s.sums parcels) count
+  pub carrying : IsCarrying plans first h s.kept (values_of_parcels s.sums parcels) count
   pub known : All (IsKnown s.sums) parcels
 
 -- memory ran out, or this number of contributions is too much

@@ -9,7 +9,7 @@ use Rattle.goal_graph.specs.Schedule.{Plan, kind_at}
 use Rattle.goal_graph.specs.Order.{IsBefore}
 use Rattle.goal_graph.specs.Keys.{op_cmp}
 use Rattle.goal_certify.specs.declared.ends.End.{End}
-use Rattle.goal_certify.specs.declared.ends.Entry.{Entry}
+use Rattle.goal_certify.specs.declared.ends.OpAtEnd.{OpAtEnd}
 
 -- the end of an operation x of this kind; a calc has none, and neither has a receive with a wildcard
 abbrev pub end_in : OpId → Option Kind → Option End
@@ -30,30 +30,30 @@ abbrev pub end_cmp : End → End → Ordering
 end_cmp d e =
     ordering_then (nat_cmp d.source e.source) (ordering_then (nat_cmp d.target e.target) (ordering_then (nat_cmp d.tag e.tag) (bool_cmp d.is_send e.is_send)))
 
-abbrev pub entry_cmp : Entry → Entry → Ordering
+abbrev pub entry_cmp : OpAtEnd → OpAtEnd → Ordering
 entry_cmp a b = ordering_then (end_cmp a.end b.end) (op_cmp a.op b.op)
 
 -- the entries are those of the operations at ends
-pub record AreEndsOf (plans : List Plan) (entries : List Entry) : Type 0 where
+pub record AreEndsOf (plans : List Plan) (entries : List OpAtEnd) : Type 0 where
   pub listed : (x : OpId) (e : End) → end_of plans x ≡ Some e → Contains entries (record { end = e; op = x })
-  pub right : All (λ (a : Entry). end_of plans a.op ≡ Some a.end) entries
+  pub right : All (λ (a : OpAtEnd). end_of plans a.op ≡ Some a.end) entries
 
 -- x is the least operation at this end
-pub record IsFirstAt (entries : List Entry) (e : End) (x : OpId) : Type 0 where
+pub record IsFirstAt (entries : List OpAtEnd) (e : End) (x : OpId) : Type 0 where
   pub listed : Contains entries (record { end = e; op = x })
   pub none_before : (y : OpId) → IsBefore y x → Contains entries (record { end = e; op = y }) → ⊥
 
 -- the ends rise from each entry to the next
-abbrev pub DoRise : List Entry → Type 0
-DoRise entries = (k : ℕ) (d : Entry) → k + 1 < length entries → is_lt (end_cmp (slice_index_or entries k d).end (slice_index_or entries (k + 1) d).end) ≡ true
+abbrev pub DoRise : List OpAtEnd → Type 0
+DoRise entries = (k : ℕ) (d : OpAtEnd) → k + 1 < length entries → is_lt (end_cmp (slice_index_or entries k d).end (slice_index_or entries (k + 1) d).end) ≡ true
 
 -- in each of the first `pairs` pairs of entries, there are a receive and a send of its channel
-pub record DoAlternate (entries : List Entry) (pairs : ℕ) : Type 0 where
-  pub same : (k : ℕ) (d : Entry) → k < pairs → (slice_index_or entries (2 * k + 1) d).end ≡ other_end (slice_index_or entries (2 * k) d).end
-  pub receives : (k : ℕ) (d : Entry) → k < pairs → (slice_index_or entries (2 * k) d).end.is_send ≡ false
+pub record DoAlternate (entries : List OpAtEnd) (pairs : ℕ) : Type 0 where
+  pub same : (k : ℕ) (d : OpAtEnd) → k < pairs → (slice_index_or entries (2 * k + 1) d).end ≡ other_end (slice_index_or entries (2 * k) d).end
+  pub receives : (k : ℕ) (d : OpAtEnd) → k < pairs → (slice_index_or entries (2 * k) d).end.is_send ≡ false
 
 -- so all entries are in pairs, and each end has one operation
-pub record ArePaired (entries : List Entry) (pairs : ℕ) : Type 0 where
+pub record ArePaired (entries : List OpAtEnd) (pairs : ℕ) : Type 0 where
   pub all : length entries ≡ 2 * pairs
   pub alternate : DoAlternate entries pairs
   pub single : (e : End) (x y : OpId) → Contains entries (record { end = e; op = x }) → Contains entries (record { end = e; op = y }) → x ≡ y

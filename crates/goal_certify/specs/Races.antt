@@ -3,7 +3,7 @@ use Rattle.std.specs.Prelude.{ℕ, ◌≡◌, ◌<◌, ◌≤◌, ◌⊎◌, ◌
 use Rattle.goal_graph.specs.Schedule.{Plan}
 use Rattle.goal_graph.specs.Order.{IsLess}
 use Rattle.goal_blocks.specs.Faults.{RaceAt, race_key, IsRace}
-use Rattle.goal_certify.specs.declared.races.search.Pair.{Pair}
+use Rattle.goal_certify.specs.declared.races.search.OpPair.{OpPair}
 use Rattle.goal_certify.specs.declared.races.RankRace.{RankRace}
 use Rattle.goal_certify.specs.declared.races.touches.Touch.{Touch}
 use Rattle.goal_certify.specs.Rows.{has}
@@ -29,13 +29,13 @@ IsNextOpen before shared x count (Some z) =
     (x < z) × (z < count) × (is_open before shared x z ≡ true) × ((y : ℕ) → x < y → y < z → is_open before shared x y ≡ true → ⊥)
 
 -- the least pair of the first `count` operations that is open
-abbrev pub IsFirstOpen : List ℕ → List ℕ → ℕ → Option Pair → Type 0
+abbrev pub IsFirstOpen : List ℕ → List ℕ → ℕ → Option OpPair → Type 0
 IsFirstOpen before shared count None = (x y : ℕ) → x < y → y < count → is_open before shared x y ≡ true → ⊥
 IsFirstOpen before shared count (Some p) =
     (p.first < p.second) × (p.second < count) × (is_open before shared p.first p.second ≡ true) × ((x y : ℕ) → x < y → y < count → (x < p.first) ⊎ ((x ≡ p.first) × (y < p.second)) → is_open before shared x y ≡ true → ⊥)
 
 -- the least slot at which a touch of the first operation meets one of the second
-abbrev pub IsLeastSlot : List ℕ → List ℕ → List Touch → Pair → Option ℕ → Type 0
+abbrev pub IsLeastSlot : List ℕ → List ℕ → List Touch → OpPair → Option ℕ → Type 0
 IsLeastSlot touchers writers touches p None =
     (t : Touch) → Contains touches t → t.op ≡ p.first → meets touchers writers t p.second ≡ true → ⊥
 IsLeastSlot touchers writers touches p (Some s) =
@@ -56,6 +56,6 @@ lesser None slot = slot
 lesser (Some other) slot = if nat_lt other slot then other else slot
 
 -- the same with another touch
-abbrev pub least_with : List ℕ → List ℕ → Pair → Option ℕ → Touch → Option ℕ
+abbrev pub least_with : List ℕ → List ℕ → OpPair → Option ℕ → Touch → Option ℕ
 least_with touchers writers p least t =
     if (t.op == p.first) && meets touchers writers t p.second then Some (lesser least t.slot) else least

@@ -12,7 +12,7 @@ use Rattle.goal_graph.specs.Interleaving.{IsInterleaving}
 use Rattle.goal_blocks.specs.Walk.{no_send}
 use Rattle.sim_match.specs.PostsAndArrivals.{PostsAndArrivals, is_post_or_arrival, is_post_or_arrival_class, send_for, receive_for}
 use Rattle.goal_certify.specs.declared.walk.action.Action.{Action}
-use Rattle.goal_certify.specs.declared.walk.entry.Entry.{Entry}
+use Rattle.goal_certify.specs.declared.walk.entry.OpProgress.{OpProgress}
 
 -- the plans of the schedule, and the actions so far, the newest first
 pub record WalkSoFar : Type 0 where
@@ -35,7 +35,7 @@ abbrev pub acts : List Action → List Act
 acts items = map act_of (reverse items)
 
 -- whether the action of this class has happened, by what is kept of its operation
-abbrev pub is_done : Entry → Class → Bool
+abbrev pub is_done : OpProgress → Class → Bool
 is_done e Arrive = e.arrived
 is_done e Serve = e.served
 is_done e Data = e.sent
@@ -43,7 +43,7 @@ is_done e Post = e.posted
 is_done e Begin = e.begun
 
 -- this action has happened too
-abbrev pub with_class : Class → Entry → Entry
+abbrev pub with_class : Class → OpProgress → OpProgress
 with_class Arrive e = record e { arrived = true }
 with_class Serve e = record e { served = true }
 with_class Data e = record e { sent = true }
@@ -51,11 +51,11 @@ with_class Post e = record e { posted = true }
 with_class Begin e = record e { begun = true }
 
 -- the entry of y says that it is paired with m, and the others are those of f
-abbrev pub with_pairing : OpId → OpId → (OpId → Entry) → OpId → Entry
+abbrev pub with_pairing : OpId → OpId → (OpId → OpProgress) → OpId → OpProgress
 with_pairing y m f = with_entry y (record (f y) { paired = Some m }) f
 
 -- if y has a partner, the entries of the two say that they are paired
-abbrev pub with_partner : OpId → Option OpId → (OpId → Entry) → OpId → Entry
+abbrev pub with_partner : OpId → Option OpId → (OpId → OpProgress) → OpId → OpProgress
 with_partner y None f = f
 with_partner y (Some m) f = with_pairing m y (with_pairing y m f)
 
@@ -73,7 +73,7 @@ more_met h class x = if is_post_or_arrival_class class then record { class = cla
 
 module _ (plans : List Plan) (h : List Act) where
   -- what is kept of x
-  abbrev pub entry_known : OpId → Entry
+  abbrev pub entry_known : OpId → OpProgress
   entry_known x = record {
     arrived = happened Arrive x h;
     served = happened Serve x h;
@@ -84,7 +84,7 @@ module _ (plans : List Plan) (h : List Act) where
   }
 
   -- there is an entry for each operation, in their order
-  pub record Represents (entries : List Entry) (matcher : PostsAndArrivals) : Type 0 where
+  pub record Represents (entries : List OpProgress) (matcher : PostsAndArrivals) : Type 0 where
     pub accepted : IsAccepted plans
     pub allowed_each : IsInterleaving plans no_send h
     pub known : entries ≡ map entry_known (operations plans)

@@ -1,7 +1,7 @@
 //! The ends of channels, sorted: which operations send into a channel, and which receive from it.
 ghost use Rattle.std.specs.Prelude.{◌≡◌, ◌+◌, ◌*◌, ◌<◌, ◌≤◌, false, length, slice_index_or, Contains, IfOk, IfSome, IfNone, IsTrue, Some};
 ghost use Rattle.goal_graph.specs.declared.action.OpId.{OpId};
-ghost use Rattle.goal_certify.specs.declared.ends.Entry.{Entry};
+ghost use Rattle.goal_certify.specs.declared.ends.OpAtEnd.{OpAtEnd};
 ghost use Rattle.goal_certify.specs.Ends.{end_in, other_end, AreEndsOf, IsFirstAt, DoRise, DoAlternate, ArePaired};
 
 use goal_graph::{Kind, OpId, Sched};
@@ -69,7 +69,7 @@ fn are_two_ends(receive: End, send: End) -> bool
 
 /// An operation and its end.
 #[derive(Clone, Copy, PartialEq, Eq, PartialOrd, Ord)]
-pub struct Entry {
+pub struct OpAtEnd {
     /// The end.
     pub end: End,
     /// The operation.
@@ -79,14 +79,14 @@ pub struct Entry {
 /// The operations at ends, sorted by end and then by rank and number. Contracts see a list of them.
 #[derive(Drop)]
 pub struct Ends {
-    sorted: Vec<Entry>,
+    sorted: Vec<OpAtEnd>,
 }
 
 impl Model for Ends {
     ghost use Rattle.std.specs.Prelude.{List};
-    ghost use Rattle.goal_certify.specs.declared.ends.Entry.{Entry};
+    ghost use Rattle.goal_certify.specs.declared.ends.OpAtEnd.{OpAtEnd};
 
-    ghost Value = { List Entry };
+    ghost Value = { List OpAtEnd };
 
     ghost view = { λ e. e.sorted.items };
 
@@ -104,7 +104,7 @@ impl Ends {
         let mut sorted = Vec::with_capacity(alloc, sched.count() as usize)?;
         for id in sched.operations() {
             match End::of(*id, sched.op(*id).kind) {
-                Some(end) => sorted.push(Entry { end, op: *id })?,
+                Some(end) => sorted.push(OpAtEnd { end, op: *id })?,
                 None => {}
             }
         }
@@ -168,8 +168,8 @@ impl Ends {
     /// Returns the two operations of the pair of this number, the receive first.
     pub fn pair(&self, number: usize) -> (OpId, OpId)
         requires { 2 * number + 1 < length self.now }
-        ensures receive { (d : Entry) → result.0 ≡ (slice_index_or self.now (2 * number) d).op }
-        ensures send { (d : Entry) → result.1 ≡ (slice_index_or self.now (2 * number + 1) d).op }
+        ensures receive { (d : OpAtEnd) → result.0 ≡ (slice_index_or self.now (2 * number) d).op }
+        ensures send { (d : OpAtEnd) → result.1 ≡ (slice_index_or self.now (2 * number + 1) d).op }
     {
         (self.sorted[2 * number].op, self.sorted[2 * number + 1].op)
     }

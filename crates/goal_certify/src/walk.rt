@@ -32,13 +32,13 @@ use cursor::{Cursor, at_first};
 use follow::{fill, follow, next};
 pub use outcome::{check_walk, find_stray};
 use progress::Progress;
-use state::State;
+use state::WalkState;
 use turns::Turns;
 
 /// Walks through a schedule. Contracts see it as the plans of the schedule and the history so far, newest first.
 pub struct Walker<'a> {
     // the history, and the state of each operation
-    state: State<'a>,
+    state: WalkState<'a>,
     // the operations that may act
     queue: Turns,
     // how many needs of each operation have been examined
@@ -73,7 +73,7 @@ impl<'a> Walker<'a> {
         ensures plans { IfOk result (λ w. w.plans ≡ sched.now) }
         ensures empty { IfOk result (λ w. w.history ≡ []) }
     {
-        let state = State::new(alloc, sched)?;
+        let state = WalkState::new(alloc, sched)?;
         let mut queue = Turns::new(alloc, sched.count())?;
         let cursors = at_first(alloc, sched)?;
         fill(&state, &mut queue);

@@ -9,7 +9,7 @@ use crate::races::touches::Touch;
 
 /// Two operations of a rank, the lesser first.
 #[derive(Clone, Copy)]
-pub(crate) struct Pair {
+pub(crate) struct OpPair {
     /// The lesser operation.
     pub first: u32,
     /// The greater operation.
@@ -18,7 +18,7 @@ pub(crate) struct Pair {
 
 /// Returns the least pair of operations that share a slot which one of them writes, and of which neither ends before
 /// the other starts.
-pub(crate) fn first_open(before: &[u64], shared: &[u64], count: u32) -> Option<Pair>
+pub(crate) fn first_open(before: &[u64], shared: &[u64], count: u32) -> Option<OpPair>
     requires few { count ≤ 2048 }
     requires before { 32 * count ≤ length before.now }
     requires shared { length shared.now ≡ 32 * count }
@@ -30,7 +30,7 @@ pub(crate) fn first_open(before: &[u64], shared: &[u64], count: u32) -> Option<P
     }
     for first in 0..count {
         if let Some(second) = next_open(before, shared, first, count) {
-            return Some(Pair { first, second });
+            return Some(OpPair { first, second });
         }
     }
     None
@@ -139,7 +139,7 @@ pub(crate) fn least_slot(
     touches: &[Touch],
     touchers: &[u64],
     writers: &[u64],
-    pair: Pair,
+    pair: OpPair,
 ) -> Option<u32>
     requires second { pair.second < 2048 }
     requires touchers { AreMarked false touches.now touchers.now }
@@ -159,7 +159,7 @@ fn least_with(
     touch: Touch,
     touchers: &[u64],
     writers: &[u64],
-    pair: Pair,
+    pair: OpPair,
 ) -> Option<u32>
     requires second { pair.second < 2048 }
     requires touchers { 32 * touch.slot + 32 ≤ length touchers.now }

@@ -3,14 +3,14 @@ ghost use Rattle.std.specs.Prelude.{◌≡◌, length, map, IfSome};
 ghost use Rattle.goal_graph.specs.declared.action.OpId.{OpId};
 ghost use Rattle.goal_graph.specs.Schedule.{operations};
 ghost use Rattle.goal_graph.specs.Fault.{IsOp};
-ghost use Rattle.goal_certify.specs.declared.walk.entry.Entry.{Entry};
+ghost use Rattle.goal_certify.specs.declared.walk.entry.OpProgress.{OpProgress};
 ghost use Rattle.goal_certify.specs.WalkSoFar.{is_done, with_class, with_entry, with_pairing, with_partner};
 
 use goal_graph::{Class, OpId, Sched, entry_of_mut};
 
 /// Which actions of an operation have happened, and its partner.
 #[derive(Clone, Copy)]
-pub struct Entry {
+pub struct OpProgress {
     /// Whether the send has arrived.
     pub arrived: bool,
     /// Whether the receive has taken its message.
@@ -26,7 +26,7 @@ pub struct Entry {
 }
 
 /// The entry of an operation that has done nothing.
-pub const BLANK: Entry = Entry {
+pub const BLANK: OpProgress = OpProgress {
     arrived: false,
     served: false,
     sent: false,
@@ -36,7 +36,7 @@ pub const BLANK: Entry = Entry {
 };
 
 /// Returns whether the action of this class has happened.
-pub fn is_done(entry: Entry, class: Class) -> bool
+pub fn is_done(entry: OpProgress, class: Class) -> bool
     ensures { result ≡ is_done entry class }
 {
     match class {
@@ -49,7 +49,7 @@ pub fn is_done(entry: Entry, class: Class) -> bool
 }
 
 /// Returns the entry after the action of this class.
-pub fn with_class(entry: Entry, class: Class) -> Entry
+pub fn with_class(entry: OpProgress, class: Class) -> OpProgress
     ensures { result ≡ with_class class entry }
 {
     let mut entry = entry;
@@ -64,11 +64,11 @@ pub fn with_class(entry: Entry, class: Class) -> Entry
 }
 
 // Writes that two operations are paired.
-fn pair(sched: &Sched, entries: &mut [Entry], id: OpId, with: OpId)
+fn pair(sched: &Sched, entries: &mut [OpProgress], id: OpId, with: OpId)
     requires exists { IsOp sched.now id }
     requires other { IsOp sched.now with }
     requires each { length entries.old ≡ length (operations sched.now) }
-    ensures { (f : OpId → Entry) → entries.old ≡ map f (operations sched.now) → entries.new ≡ map (with_pairing with id (with_pairing id with f)) (operations sched.now) }
+    ensures { (f : OpId → OpProgress) → entries.old ≡ map f (operations sched.now) → entries.new ≡ map (with_pairing with id (with_pairing id with f)) (operations sched.now) }
 {
     entry_of_mut(entries, sched, id).paired = Some(with);
     entry_of_mut(entries, sched, with).paired = Some(id);
@@ -77,15 +77,15 @@ fn pair(sched: &Sched, entries: &mut [Entry], id: OpId, with: OpId)
 /// Writes the entry of an operation and, if it has a partner, that the two are paired.
 pub fn write_met(
     sched: &Sched,
-    entries: &mut [Entry],
+    entries: &mut [OpProgress],
     id: OpId,
-    entry: Entry,
+    entry: OpProgress,
     partner: Option<OpId>,
 )
     requires exists { IsOp sched.now id }
     requires other { IfSome partner (IsOp sched.now) }
     requires each { length entries.old ≡ length (operations sched.now) }
-    ensures { (f : OpId → Entry) → entries.old ≡ map f (operations sched.now) → entries.new ≡ map (with_partner id partner (with_entry id entry f)) (operations sched.now) }
+    ensures { (f : OpId → OpProgress) → entries.old ≡ map f (operations sched.now) → entries.new ≡ map (with_partner id partner (with_entry id entry f)) (operations sched.now) }
 {
     *entry_of_mut(entries, sched, id) = entry;
     let Some(with) = partner else {

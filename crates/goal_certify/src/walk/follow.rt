@@ -13,12 +13,12 @@ ghost use Rattle.goal_certify.specs.WalkQueue.{may_act, IsChoice, IsQueue, IsQue
 
 use super::action::Action;
 use super::cursor::Cursor;
-use super::state::{State, is_moment};
+use super::state::{WalkState, is_moment};
 use super::turns::Turns;
 use goal_graph::{Class, OpId, entry_of_mut};
 
 /// Puts the key of each operation that may act before the first action: those without needs.
-pub fn fill(state: &State, queue: &mut Turns)
+pub fn fill(state: &WalkState, queue: &mut Turns)
     requires start { state.now.history ≡ [] }
     requires each { length queue.old ≡ length (operations state.now.plans) }
     ensures { IsQueue state.now.plans state.now.history queue.new }
@@ -29,7 +29,7 @@ pub fn fill(state: &State, queue: &mut Turns)
 }
 
 // Puts the key of an operation, before the first action.
-fn fill_one(state: &State, queue: &mut Turns, id: OpId)
+fn fill_one(state: &WalkState, queue: &mut Turns, id: OpId)
     requires exists { IsOp state.now.plans id }
     requires start { state.now.history ≡ [] }
     requires each { length queue.old ≡ length (operations state.now.plans) }
@@ -45,7 +45,7 @@ fn fill_one(state: &State, queue: &mut Turns, id: OpId)
 }
 
 /// Returns the action that happens next, or `None` if none may happen.
-pub fn next(state: &State, queue: &Turns) -> Option<Action>
+pub fn next(state: &WalkState, queue: &Turns) -> Option<Action>
     requires { IsQueue state.now.plans state.now.history queue.now }
     ensures may { IfSome result (λ a. may_act state.now.plans state.now.history a.class a.op ≡ true) }
     ensures first { IfSome result (λ a. (b : Act) → may_act state.now.plans state.now.history b.class b.op ≡ true → ComesFirst (act_of a) b) }
@@ -64,7 +64,7 @@ pub fn next(state: &State, queue: &Turns) -> Option<Action>
 
 /// Updates the keys of the operations whose next action may be another after this action, the last that has happened:
 /// its operation, the partner of this, and the operations that wait for it.
-pub fn follow(state: &State, queue: &mut Turns, cursors: &mut [Cursor], action: Action)
+pub fn follow(state: &WalkState, queue: &mut Turns, cursors: &mut [Cursor], action: Action)
     requires exists { IsOp state.now.plans action.op }
     requires newest { state.now.history ≡ act_of action ∷ drop 1 state.now.history }
     requires rest { IsQueueBut state.now.plans state.now.history (λ slot. IsMoved state.now.plans state.now.history action.class action.op) queue.old }
@@ -79,7 +79,7 @@ pub fn follow(state: &State, queue: &mut Turns, cursors: &mut [Cursor], action: 
 
 // Updates the key of the operation of an action, the last that has happened. Its needs are not tested, because it has
 // started.
-fn follow_own(state: &State, queue: &mut Turns, action: Action)
+fn follow_own(state: &WalkState, queue: &mut Turns, action: Action)
     requires exists { IsOp state.now.plans action.op }
     requires each { length queue.old ≡ length (operations state.now.plans) }
     requires newest { state.now.history ≡ act_of action ∷ drop 1 state.now.history }
@@ -104,7 +104,7 @@ fn moves_partner(class: Class) -> bool
 
 // Updates the key of the partner of an action's operation, if it has one and the action may let it act. The action is
 // the last that has happened.
-fn follow_partner(state: &State, queue: &mut Turns, action: Action)
+fn follow_partner(state: &WalkState, queue: &mut Turns, action: Action)
     requires exists { IsOp state.now.plans action.op }
     requires newest { state.now.history ≡ act_of action ∷ drop 1 state.now.history }
     requires rest { IsQueueBut state.now.plans state.now.history (λ slot y.
@@ -123,7 +123,7 @@ fn follow_partner(state: &State, queue: &mut Turns, action: Action)
 }
 
 // Updates the keys of the operations that wait for this action.
-fn follow_waiting(state: &State, queue: &mut Turns, cursors: &mut [Cursor], action: Action)
+fn follow_waiting(state: &WalkState, queue: &mut Turns, cursors: &mut [Cursor], action: Action)
     requires exists { IsOp state.now.plans action.op }
     requires rest { IsQueueBut state.now.plans state.now.history (λ slot. WaitsAt state.now.plans action.class action.op) queue.old }
     requires cursors { AreCursors state.now.plans state.now.history cursors.old }
@@ -144,7 +144,7 @@ fn follow_waiting(state: &State, queue: &mut Turns, cursors: &mut [Cursor], acti
 }
 
 // The class of the action of an operation that may happen, if one may. Its needs are tested from its cursor on.
-fn choice_from(state: &State, cursors: &mut [Cursor], id: OpId) -> Option<Class>
+fn choice_from(state: &WalkState, cursors: &mut [Cursor], id: OpId) -> Option<Class>
     requires exists { IsOp state.now.plans id }
     requires cursors { AreCursors state.now.plans state.now.history cursors.old }
     ensures choice { IsChoice state.now.plans state.now.history id result }
@@ -155,7 +155,7 @@ fn choice_from(state: &State, cursors: &mut [Cursor], id: OpId) -> Option<Class>
 }
 
 // Puts the key of an operation if it may act, and removes the key if it may not.
-fn refresh(state: &State, queue: &mut Turns, cursors: &mut [Cursor], id: OpId)
+fn refresh(state: &WalkState, queue: &mut Turns, cursors: &mut [Cursor], id: OpId)
     requires exists { IsOp state.now.plans id }
     requires each { length queue.old ≡ length (operations state.now.plans) }
     requires cursors { AreCursors state.now.plans state.now.history cursors.old }

@@ -15,7 +15,7 @@ ghost use Rattle.goal_certify.specs.WalkQueue.{may_act, class_at, IsChoice, IsCu
 
 use super::action::Action;
 use super::cursor::Cursor;
-use super::entry::{BLANK, Entry, is_done, with_class, write_met};
+use super::entry::{BLANK, OpProgress, is_done, with_class, write_met};
 use super::progress::Progress;
 use super::ready::is_ready_uncounted;
 use goal_graph::{Class, Kind, Need, OpId, Sched, When, entry_of};
@@ -27,20 +27,20 @@ use std::marker::Model;
 
 /// A schedule during its walk, in which no send is eager. Contracts see it as the plans of the schedule and the actions
 /// so far, the newest first.
-pub struct State<'a> {
+pub struct WalkState<'a> {
     sched: &'a Sched,
     // the actions so far, the oldest first
     history: Past<Action>,
     // what is known of each operation, in the order of all
-    entries: Vec<Entry>,
+    entries: Vec<OpProgress>,
     // the matcher
     matcher: Matcher<'a>,
 }
 
 // It is dropped by a call, as a walker is.
-impl Drop for State<'_> {
+impl Drop for WalkState<'_> {
     fn drop(self) {
-        let State {
+        let WalkState {
             sched: _,
             history: _history,
             entries: _entries,
@@ -49,7 +49,7 @@ impl Drop for State<'_> {
     }
 }
 
-impl<'a> Model for State<'a> {
+impl<'a> Model for WalkState<'a> {
     ghost use Rattle.goal_certify.specs.WalkSoFar.{WalkSoFar, acts, Represents};
 
     ghost Value = { WalkSoFar };
@@ -59,10 +59,10 @@ impl<'a> Model for State<'a> {
     ghost invariant = { λ s. Represents s.sched.now (acts s.history.items) s.entries.items s.matcher };
 }
 
-impl<'a> State<'a> {
+impl<'a> WalkState<'a> {
     /// Creates the state of a schedule before its first action. It allocates all memory of the walk; no later call
     /// allocates any. `Err` means out of memory.
-    pub fn new(alloc: Global, sched: &'a Sched) -> Result<State<'a>, NoMemory>
+    pub fn new(alloc: Global, sched: &'a Sched) -> Result<WalkState<'a>, NoMemory>
         ensures plans { IfOk result (λ s. s.plans ≡ sched.now) }
         ensures empty { IfOk result (λ s. s.history ≡ []) }
     {
@@ -70,7 +70,7 @@ impl<'a> State<'a> {
         let count = sched.count() as usize;
         let entries = vec![in alloc; BLANK; count]?;
         let matcher = Matcher::new(alloc, sched)?;
-        Ok(State {
+        Ok(WalkState {
             sched,
             history: Past::new(),
             entries,
@@ -94,7 +94,7 @@ impl<'a> State<'a> {
     }
 
     // What is known of an operation.
-    fn entry(&self, id: OpId) -> Entry
+    fn entry(&self, id: OpId) -> OpProgress
         requires { IsOp self.now.plans id }
         ensures { result ≡ entry_known self.now.plans self.now.history id }
     {
@@ -297,7 +297,7 @@ impl<'a> State<'a> {
     }
 }
 
-impl Progress for State<'_> {
+impl Progress for WalkState<'_> {
     ghost use Rattle.goal_blocks.specs.Walk.{no_send};
 
     ghost plans = { λ s. s.plans };

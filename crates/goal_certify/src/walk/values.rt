@@ -15,7 +15,7 @@ ghost use Rattle.goal_blocks.specs.Faults.{IsTooHeavy, IsFirstTooHeavy};
 ghost use Rattle.goal_values.specs.Kept.{values};
 ghost use Rattle.goal_values.specs.Sums.{HasGrown};
 ghost use Rattle.goal_values.specs.Summed.{payload_values, IsPayload};
-ghost use Rattle.goal_certify.specs.Carried.{size_of, told_of, parcel_of, IsOver, AddsOver, AddsWithin, Holds, FollowsOn, GrowsTooHeavy, IsTaken, HasEqualEnds};
+ghost use Rattle.goal_certify.specs.Carried.{size_of, values_of_parcel, parcel_of, IsOver, AddsOver, AddsWithin, Holds, FollowsOn, GrowsTooHeavy, IsTaken, HasEqualEnds};
 ghost use Rattle.goal_certify.specs.WalkSoFar.{act_of};
 
 use super::Walker;
@@ -68,7 +68,7 @@ pub fn hand_over(
     requires exists { IsOp table.now send }
     requires ranks { store.now.kept.ranks ≡ length table.now }
     requires light { stored store.now.kept.ranks (values store.now.kept) + others ≤ 2 ^ 24 }
-    ensures parcel { IfOk result (λ p. told_of store.now.sums p ≡ parcel_of (map (values store.now.kept send.rank) (slots table.now send))) }
+    ensures parcel { IfOk result (λ p. values_of_parcel store.now.sums p ≡ parcel_of (map (values store.now.kept send.rank) (slots table.now send))) }
     ensures payload { IfOk result (λ p. IsPayload store.now.sums p.payload) }
     ensures within { OnOk result (stored store.now.kept.ranks (values store.now.kept) + others + size_of (map (values store.now.kept send.rank) (slots table.now send)) ≤ 2 ^ 24) }
     ensures over { IfErr result (IsOver (λ total. (stored store.now.kept.ranks (values store.now.kept) + others + size_of (map (values store.now.kept send.rank) (slots table.now send)) ≡ total) × IsTooHeavy total)) }

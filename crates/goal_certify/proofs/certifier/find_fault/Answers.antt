@@ -2,7 +2,7 @@ use Rattle.std.proofs.Common.{length, arith}
 use Rattle.std.proofs.lemmas.Result.{err_from_is_err_and}
 use Rattle.goal_blocks.specs.Collectives.{initial, wanted}
 use Rattle.goal_certify.proofs.StageLemmas.{small_free, wildcard_free, lengths_free, free_within}
-use Rattle.goal_certify.proofs.FirstSegment.{first_free, first_told}
+use Rattle.goal_certify.proofs.FirstSegment.{first_free, fault_of_first_segment}
 use Rattle.goal_certify.proofs.Deciding.{told_stopped, told_sooner, answer_none, answer_told}
 use Rattle.goal_certify.proofs.certifier.find_fault.Goals as goal
 
@@ -44,4 +44,4 @@ returns-clause-fault c =
     let plans = c.args.sched.now in
     let first = initial c.args.what (length plans) in
     let wish = wanted c.args.what (length plans) in
-    answer_told plans first wish c.check_walk.result 0 6 9 (omega arith) (c.in_ok-check_plans.ensures.free first wish) (first_told c.args.what plans c.first.result c.first.ensures c.check_walk.result c.check_walk.ensures.fault)
+    answer_told plans first wish c.check_walk.result 0 6 9 (omega arith) (c.in_ok-check_plans.ensures.free first wish) (fault_of_first_segment c.args.what plans c.first.result c.first.ensures c.check_walk.result c.check_walk.ensures.fault)

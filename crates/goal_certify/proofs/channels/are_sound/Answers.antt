@@ -1,20 +1,20 @@
 -- The two of each pair have as many slots.
 use Rattle.std.proofs.Common.{◌+◌, ◌*◌, false, sym, ◌∙◌, arith}
-use Rattle.goal_certify.specs.declared.ends.Entry.{Entry}
-use Rattle.goal_certify.proofs.Pairs.{alike_more, standing, paired_free}
+use Rattle.goal_certify.specs.declared.ends.OpAtEnd.{OpAtEnd}
+use Rattle.goal_certify.proofs.Pairs.{alike_more, end_has_op, paired_free}
 use Rattle.goal_certify.proofs.Passes.{count_read}
 use Rattle.goal_certify.proofs.channels.are_sound.Goals as goal
 
-abbrev none : Entry
+abbrev none : OpAtEnd
 none = record { end = record { source = 0; target = 0; tag = 0; is_send = false }; op = record { rank = 0; op = 0 } }
 
 pub index-requires : goal.index-requires
 index-requires c =
-    standing c.args.sched.now c.args.ends.now c.requires.ends _ (2 * c.loop-number.number) none (c.pair.ensures.receive none) (omega (arith, c.in-Some.ensures.all, c.loop-number-test.true))
+    end_has_op c.args.sched.now c.args.ends.now c.requires.ends _ (2 * c.loop-number.number) none (c.pair.ensures.receive none) (omega (arith, c.in-Some.ensures.all, c.loop-number-test.true))
 
 pub index-requires-in-loop-number : goal.index-requires-in-loop-number
 index-requires-in-loop-number c =
-    standing c.args.sched.now c.args.ends.now c.requires.ends _ (2 * c.loop-number.number + 1) none (c.pair.ensures.send none) (omega (arith, c.in-Some.ensures.all, c.loop-number-test.true))
+    end_has_op c.args.sched.now c.args.ends.now c.requires.ends _ (2 * c.loop-number.number + 1) none (c.pair.ensures.send none) (omega (arith, c.in-Some.ensures.all, c.loop-number-test.true))
 
 pub loop-number-preserved : goal.loop-number-preserved
 loop-number-preserved c =

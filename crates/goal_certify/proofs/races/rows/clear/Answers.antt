@@ -1,5 +1,5 @@
-use Rattle.goal_certify.proofs.Rows.{cleared}
+use Rattle.goal_certify.proofs.Rows.{cleared_word}
 use Rattle.goal_certify.proofs.races.rows.clear.Goals as goal
 
 pub returns : goal.returns
-returns c = cleared c.args.rows.now c.args.row c.args.number c.requires.row c.requires.number
+returns c = cleared_word c.args.rows.now c.args.row c.args.number c.requires.row c.requires.number

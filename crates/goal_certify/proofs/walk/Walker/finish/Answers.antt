@@ -1,6 +1,6 @@
 use Rattle.std.proofs.Common.{[], refl, sym, ap, ◌∙◌, subst}
 use Rattle.goal_certify.specs.WalkSoFar.{WalkSoFar, IsLater}
-use Rattle.goal_certify.proofs.Steps.{fewer_left, later_after, plans_after, walk_at, same_at}
+use Rattle.goal_certify.proofs.Steps.{fewer_left, later_after, plans_after, walk_at, unchanged_if_none}
 use Rattle.goal_certify.proofs.walk.Walker.finish.Goals as goal
 
 pub steps-init : goal.steps-init
@@ -16,7 +16,7 @@ steps-preserved c =
 
 pub returns-clause-plans : goal.returns-clause-plans
 returns-clause-plans c =
-    ap (λ (v : WalkSoFar). v.plans) (same_at c.steps.self c.next.new.self c.next.result (sym c.is_some.ensures ∙ c.steps-test.false) c.next.ensures.same) ∙ c.steps.invariant.0
+    ap (λ (v : WalkSoFar). v.plans) (unchanged_if_none c.steps.self c.next.new.self c.next.result (sym c.is_some.ensures ∙ c.steps-test.false) c.next.ensures.same) ∙ c.steps.invariant.0
 
 pub returns-clause-walk : goal.returns-clause-walk
 returns-clause-walk c =
@@ -24,4 +24,4 @@ returns-clause-walk c =
 
 pub returns-clause-later : goal.returns-clause-later
 returns-clause-later c =
-    subst (λ (v : WalkSoFar). IsLater c.args.self.now.history v.history) (sym (same_at c.steps.self c.next.new.self c.next.result (sym c.is_some.ensures ∙ c.steps-test.false) c.next.ensures.same)) c.steps.invariant.1
+    subst (λ (v : WalkSoFar). IsLater c.args.self.now.history v.history) (sym (unchanged_if_none c.steps.self c.next.new.self c.next.result (sym c.is_some.ensures ∙ c.steps-test.false) c.next.ensures.same)) c.steps.invariant.1

@@ -8,9 +8,9 @@ use Rattle.goal_blocks.specs.Values.{Value}
 use Rattle.goal_blocks.specs.Walk.{IsWalk}
 use Rattle.goal_blocks.specs.Weight.{stored}
 use Rattle.goal_blocks.proofs.ForCallers.{stored_exchanged}
-use Rattle.goal_certify.specs.Carried.{told_in, IsCarrying}
+use Rattle.goal_certify.specs.Carried.{values_of_parcels, IsCarrying}
 use Rattle.goal_certify.specs.Stages.{IsFirstOf}
-use Rattle.goal_certify.proofs.Started.{begun, left_at_end, started_heavy, stopped_over}
+use Rattle.goal_certify.proofs.Started.{holding_at_start, left_at_end, started_heavy, stopped_over}
 use Rattle.goal_certify.proofs.walk.outcome.final_values.Goals as goal
 
 pub returns-then-held-gt-MOST_HELD-clause-fault : goal.returns-then-held-gt-MOST_HELD-clause-fault
@@ -32,7 +32,7 @@ carry-requires-clause-held c =
     let count = c.count.ensures.count ∙ ap (λ (ps : List Plan). length (operations ps)) c.sched-sched.ensures in
     let none = c.in_ok-parcels.ensures ∙ ap (λ (n : ℕ). replicate n None) count in
     let light = subst (λ (n : ℕ). n ≤ 2 ^ 24) size c.if-held-gt-MOST_HELD.false in
-    (first, begun plans first c.new-store.result c.in_ok-parcels.parcels.items values ranks none light c.args.walker.now.history c.requires.start)
+    (first, holding_at_start plans first c.new-store.result c.in_ok-parcels.parcels.items values ranks none light c.args.walker.now.history c.requires.start)
 
 pub returns-in-Err-clause-fault : goal.returns-in-Err-clause-fault
 returns-in-Err-clause-fault c =
@@ -46,7 +46,7 @@ returns-in-Err-clause-fault c =
     let count = c.count.ensures.count ∙ ap (λ (ps : List Plan). length (operations ps)) c.sched-sched.ensures in
     let none = c.in_ok-parcels.ensures ∙ ap (λ (n : ℕ). replicate n None) count in
     let light = subst (λ (n : ℕ). n ≤ 2 ^ 24) size c.if-held-gt-MOST_HELD.false in
-    let held = begun plans first c.new-store.result c.in_ok-parcels.parcels.items values ranks none light c.args.walker.now.history c.requires.start in
+    let held = holding_at_start plans first c.new-store.result c.in_ok-parcels.parcels.items values ranks none light c.args.walker.now.history c.requires.start in
     let w = c.carry.new.walker in
     let stopped = stopped_over w.plans first w.history c.in-Err.fault c.known.ensures.each c.known.ensures.first (c.in-Err.ensures.over first held) in
     subst (λ (ps : List Plan). (c.in-Err.fault ≡ NoMemory) ⊎ ((wanted : ℕ → ℕ → Value → Bool) → IsFirstOf ps first wanted 7 9 c.in-Err.fault)) c.carry.ensures.plans stopped
@@ -63,10 +63,10 @@ returns-clause-left c =
     let count = c.count.ensures.count ∙ ap (λ (ps : List Plan). length (operations ps)) c.sched-sched.ensures in
     let none = c.in_ok-parcels.ensures ∙ ap (λ (n : ℕ). replicate n None) count in
     let light = subst (λ (n : ℕ). n ≤ 2 ^ 24) size c.if-held-gt-MOST_HELD.false in
-    let held = begun plans first c.new-store.result c.in_ok-parcels.parcels.items values ranks none light c.args.walker.now.history c.requires.start in
+    let held = holding_at_start plans first c.new-store.result c.in_ok-parcels.parcels.items values ranks none light c.args.walker.now.history c.requires.start in
     let w = c.carry.new.walker in
     let store = c.carry.new.held.store in
-    let told = told_in store.sums c.carry.new.held.parcels.items in
+    let told = values_of_parcels store.sums c.carry.new.held.parcels.items in
     let holding = c.in-Ok-carry.ensures.held first held in
     let walk = subst (λ (ps : List Plan). IsWalk ps w.history) c.carry.ensures.plans c.in-Ok-carry.ensures.walk in
     let kept = subst (λ (ps : List Plan). IsCarrying ps first w.history store.kept told c.carry.new.held.carried) c.carry.ensures.plans holding.carrying in

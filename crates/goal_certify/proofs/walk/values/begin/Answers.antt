@@ -11,7 +11,7 @@ use Rattle.goal_blocks.specs.Values.{add_all}
 use Rattle.goal_values.specs.Kept.{values}
 use Rattle.goal_certify.specs.WalkSoFar.{act_of}
 use Rattle.goal_certify.proofs.Holding.{holding_grown}
-use Rattle.goal_certify.specs.Carried.{told_in, AddsOver, AddsWithin}
+use Rattle.goal_certify.specs.Carried.{values_of_parcels, AddsOver, AddsWithin}
 use Rattle.goal_certify.proofs.Applied.{both_ok, err_map, over_map, now, op_there, light_before, begun_calc, begun_over, begun_send}
 use Rattle.goal_certify.proofs.walk.values.begin.Goals as goal
 
@@ -21,7 +21,7 @@ op-requires c =
 
 pub add_notes-requires-clause-light : goal.add_notes-requires-clause-light
 add_notes-requires-clause-light c =
-    light_before _ _ (act_of c.args.action) c.requires.taken.newest c.known.ensures.each c.requires.taken.held.0 c.args.held.now.store.kept (told_in c.args.held.now.store.sums c.args.held.now.parcels.items) c.args.held.now.carried c.requires.taken.held.1.carrying
+    light_before _ _ (act_of c.args.action) c.requires.taken.newest c.known.ensures.each c.requires.taken.held.0 c.args.held.now.store.kept (values_of_parcels c.args.held.now.store.sums c.args.held.now.parcels.items) c.args.held.now.carried c.requires.taken.held.1.carrying
 
 pub unreachable-requires : goal.unreachable-requires
 unreachable-requires c =
@@ -40,7 +40,7 @@ returns-in-Calc-clause-follows c =
     let s = c.args.held.now.store in
     let is = sym (ap (λ (ps : List Plan). op_at ps x) c.sched.ensures) ∙ c.op.ensures.op in
     let calc : IsCalc plans x = record { nanos = c.in-Calc.nanos; kind = kind_from_op plans x c.op.result.now _ is c.in-Calc.is } in
-    both_ok _ _ _ c.add_notes.result (λ p q first so_far. holding_grown plans first c.args.walker.now.history c.args.held.now.parcels.items s c.add_notes.new.store (drop 1 c.args.walker.now.history) c.args.held.now.carried c.args.held.now.carried so_far c.add_notes.ensures.grown (begun_calc plans c.args.walker.now.history (act_of c.args.action) c.requires.taken.newest c.known.ensures.each first s.kept (told_in s.sums c.args.held.now.parcels.items) c.args.held.now.carried so_far.carrying c.requires.class calc c.add_notes.new.store.kept (p ∙ ap (λ (ps : List Plan). add_all x.rank (adds ps x) (values s.kept)) c.requires.taken.table_is) c.add_notes.ensures.ranks (subst (λ (ps : List Plan). AddsWithin s.kept.ranks x.rank (adds ps x) (values s.kept) c.args.held.now.carried) c.requires.taken.table_is q))) c.add_notes.ensures.added c.add_notes.ensures.within
+    both_ok _ _ _ c.add_notes.result (λ p q first so_far. holding_grown plans first c.args.walker.now.history c.args.held.now.parcels.items s c.add_notes.new.store (drop 1 c.args.walker.now.history) c.args.held.now.carried c.args.held.now.carried so_far c.add_notes.ensures.grown (begun_calc plans c.args.walker.now.history (act_of c.args.action) c.requires.taken.newest c.known.ensures.each first s.kept (values_of_parcels s.sums c.args.held.now.parcels.items) c.args.held.now.carried so_far.carrying c.requires.class calc c.add_notes.new.store.kept (p ∙ ap (λ (ps : List Plan). add_all x.rank (adds ps x) (values s.kept)) c.requires.taken.table_is) c.add_notes.ensures.ranks (subst (λ (ps : List Plan). AddsWithin s.kept.ranks x.rank (adds ps x) (values s.kept) c.args.held.now.carried) c.requires.taken.table_is q))) c.add_notes.ensures.added c.add_notes.ensures.within
 
 pub returns-in-Calc-clause-over : goal.returns-in-Calc-clause-over
 returns-in-Calc-clause-over c =
@@ -49,7 +49,7 @@ returns-in-Calc-clause-over c =
     let s = c.args.held.now.store in
     let is = sym (ap (λ (ps : List Plan). op_at ps x) c.sched.ensures) ∙ c.op.ensures.op in
     let calc : IsCalc plans x = record { nanos = c.in-Calc.nanos; kind = kind_from_op plans x c.op.result.now _ is c.in-Calc.is } in
-    err_map _ _ c.add_notes.result (λ fault over first so_far. over_map _ _ fault (λ total o. begun_over plans c.args.walker.now.history (act_of c.args.action) c.requires.taken.newest c.known.ensures.each first s.kept (told_in s.sums c.args.held.now.parcels.items) c.args.held.now.carried so_far.carrying calc total (subst (λ (ps : List Plan). AddsOver s.kept.ranks x.rank (adds ps x) (values s.kept) c.args.held.now.carried total) c.requires.taken.table_is o)) over) c.add_notes.ensures.over
+    err_map _ _ c.add_notes.result (λ fault over first so_far. over_map _ _ fault (λ total o. begun_over plans c.args.walker.now.history (act_of c.args.action) c.requires.taken.newest c.known.ensures.each first s.kept (values_of_parcels s.sums c.args.held.now.parcels.items) c.args.held.now.carried so_far.carrying calc total (subst (λ (ps : List Plan). AddsOver s.kept.ranks x.rank (adds ps x) (values s.kept) c.args.held.now.carried total) c.requires.taken.table_is o)) over) c.add_notes.ensures.over
 
 pub returns-in-Send-clause-follows : goal.returns-in-Send-clause-follows
 returns-in-Send-clause-follows c =
@@ -59,6 +59,6 @@ returns-in-Send-clause-follows c =
     let is = sym (ap (λ (ps : List Plan). op_at ps x) c.sched.ensures) ∙ c.op.ensures.op in
     let sends : IsSend plans x = record { bytes = c.in-Send.bytes; to = c.in-Send.to; tag = c.in-Send.tag; kind = kind_from_op plans x c.op.result.now _ is c.in-Send.is } in
     λ first so_far. record {
-      carrying = begun_send plans c.args.walker.now.history (act_of c.args.action) c.requires.taken.newest c.known.ensures.each first s.kept (told_in s.sums c.args.held.now.parcels.items) c.args.held.now.carried so_far.carrying c.requires.class sends;
+      carrying = begun_send plans c.args.walker.now.history (act_of c.args.action) c.requires.taken.newest c.known.ensures.each first s.kept (values_of_parcels s.sums c.args.held.now.parcels.items) c.args.held.now.carried so_far.carrying c.requires.class sends;
       known = so_far.known;
     }

@@ -10,8 +10,8 @@ use Rattle.goal_certify.specs.WalkSoFar.{act_of}
 use Rattle.std.proofs.Math.ListN.{length-map}
 use Rattle.goal_values.specs.Sums.{meaning}
 use Rattle.goal_values.specs.Summed.{payload_values}
-use Rattle.goal_certify.specs.Carried.{Told, told_of, told_in}
-use Rattle.goal_certify.proofs.Holding.{told_at, known_at, one_there, holding_set}
+use Rattle.goal_certify.specs.Carried.{ParcelValues, values_of_parcel, values_of_parcels}
+use Rattle.goal_certify.proofs.Holding.{parcel_values_at, parcel_known_at, parcel_with_values, holding_set}
 use Rattle.goal_certify.proofs.Applied.{there_within, op_there, light_before, partner_then, pair_from, as_many, parcel_is, parcel_known, size_within, size_told, received}
 use Rattle.goal_certify.proofs.walk.values.serve.Goals as goal
 use Rattle.goal_graph.proofs.ForCallers.{partner_exists}
@@ -34,14 +34,14 @@ unreachable-requires-in_default-take_out c =
     let hist = c.args.walker.now.history in
     let a = act_of c.args.action in
     let s = c.args.held.now.store in
-    let told = told_in s.sums c.args.held.now.parcels.items in
+    let told = values_of_parcels s.sums c.args.held.now.parcels.items in
     let j = c.index-place.result in
     let pair = pair_from plans hist a c.requires.taken.newest c.known.ensures.each c.requires.class c.in-Some.send (sym c.partner.ensures ∙ c.in-Some.is) in
     let at = ap (λ (ps : List Plan). slice_get (operations ps) j) (sym c.sched.ensures) ∙ c.index-place.ensures.index in
     let first = c.requires.taken.held.0 in
     let so_far = c.requires.taken.held.1 in
     let inside = there_within plans hist a c.requires.taken.newest c.known.ensures.each first s.kept told c.args.held.now.carried so_far.carrying j c.in-Some.send at in
-    let one = one_there s.sums c.args.held.now.parcels.items j inside _ (parcel_is plans hist a c.requires.taken.newest c.known.ensures.each c.requires.class c.in-Some.send pair first s.kept told c.args.held.now.carried so_far.carrying j at) in
+    let one = parcel_with_values s.sums c.args.held.now.parcels.items j inside _ (parcel_is plans hist a c.requires.taken.newest c.known.ensures.each c.requires.class c.in-Some.send pair first s.kept told c.args.held.now.carried so_far.carrying j at) in
     c.in_default-take_out.not-Some _ (c.take_out.ensures.taken ∙ one.1)
 
 pub take-requires-clause-exists : goal.take-requires-clause-exists
@@ -54,7 +54,7 @@ overflow_sub-held c =
     let hist = c.args.walker.now.history in
     let a = act_of c.args.action in
     let s = c.args.held.now.store in
-    let told = told_in s.sums c.args.held.now.parcels.items in
+    let told = values_of_parcels s.sums c.args.held.now.parcels.items in
     let j = c.index-place.result in
     let pair = pair_from plans hist a c.requires.taken.newest c.known.ensures.each c.requires.class c.in-Some.send (sym c.partner.ensures ∙ c.in-Some.is) in
     let at = ap (λ (ps : List Plan). slice_get (operations ps) j) (sym c.sched.ensures) ∙ c.index-place.ensures.index in
@@ -62,8 +62,8 @@ overflow_sub-held c =
     let so_far = c.requires.taken.held.1 in
     let inside = there_within plans hist a c.requires.taken.newest c.known.ensures.each first s.kept told c.args.held.now.carried so_far.carrying j c.in-Some.send at in
     let raw = sym c.take_out.ensures.taken ∙ c.in-Some-take_out.is in
-    let e = told_at s.sums c.args.held.now.parcels.items j inside c.in-Some-take_out.parcel raw in
-    size_within plans hist a c.requires.taken.newest c.known.ensures.each c.requires.class c.in-Some.send pair first s.kept told c.args.held.now.carried so_far.carrying j at (told_of s.sums c.in-Some-take_out.parcel) e
+    let e = parcel_values_at s.sums c.args.held.now.parcels.items j inside c.in-Some-take_out.parcel raw in
+    size_within plans hist a c.requires.taken.newest c.known.ensures.each c.requires.class c.in-Some.send pair first s.kept told c.args.held.now.carried so_far.carrying j at (values_of_parcel s.sums c.in-Some-take_out.parcel) e
 
 pub take-requires-clause-payload : goal.take-requires-clause-payload
 take-requires-clause-payload c =
@@ -71,7 +71,7 @@ take-requires-clause-payload c =
     let hist = c.args.walker.now.history in
     let a = act_of c.args.action in
     let s = c.args.held.now.store in
-    let told = told_in s.sums c.args.held.now.parcels.items in
+    let told = values_of_parcels s.sums c.args.held.now.parcels.items in
     let j = c.index-place.result in
     let pair = pair_from plans hist a c.requires.taken.newest c.known.ensures.each c.requires.class c.in-Some.send (sym c.partner.ensures ∙ c.in-Some.is) in
     let at = ap (λ (ps : List Plan). slice_get (operations ps) j) (sym c.sched.ensures) ∙ c.index-place.ensures.index in
@@ -79,7 +79,7 @@ take-requires-clause-payload c =
     let so_far = c.requires.taken.held.1 in
     let inside = there_within plans hist a c.requires.taken.newest c.known.ensures.each first s.kept told c.args.held.now.carried so_far.carrying j c.in-Some.send at in
     let raw = sym c.take_out.ensures.taken ∙ c.in-Some-take_out.is in
-    known_at s.sums c.args.held.now.parcels.items j inside so_far.known c.in-Some-take_out.parcel raw
+    parcel_known_at s.sums c.args.held.now.parcels.items j inside so_far.known c.in-Some-take_out.parcel raw
 
 pub take-requires-clause-lengths : goal.take-requires-clause-lengths
 take-requires-clause-lengths c =
@@ -87,7 +87,7 @@ take-requires-clause-lengths c =
     let hist = c.args.walker.now.history in
     let a = act_of c.args.action in
     let s = c.args.held.now.store in
-    let told = told_in s.sums c.args.held.now.parcels.items in
+    let told = values_of_parcels s.sums c.args.held.now.parcels.items in
     let j = c.index-place.result in
     let pair = pair_from plans hist a c.requires.taken.newest c.known.ensures.each c.requires.class c.in-Some.send (sym c.partner.ensures ∙ c.in-Some.is) in
     let at = ap (λ (ps : List Plan). slice_get (operations ps) j) (sym c.sched.ensures) ∙ c.index-place.ensures.index in
@@ -95,9 +95,9 @@ take-requires-clause-lengths c =
     let so_far = c.requires.taken.held.1 in
     let inside = there_within plans hist a c.requires.taken.newest c.known.ensures.each first s.kept told c.args.held.now.carried so_far.carrying j c.in-Some.send at in
     let raw = sym c.take_out.ensures.taken ∙ c.in-Some-take_out.is in
-    let e = told_at s.sums c.args.held.now.parcels.items j inside c.in-Some-take_out.parcel raw in
-    let known = parcel_known plans hist a c.requires.taken.newest c.known.ensures.each c.requires.class c.in-Some.send pair first s.kept told c.args.held.now.carried so_far.carrying j at (told_of s.sums c.in-Some-take_out.parcel) e in
-    ap (λ (ps : List Plan). length (slots ps c.args.action.op)) c.requires.taken.table_is ∙ as_many plans hist a c.requires.taken.newest c.known.ensures.each c.requires.class c.in-Some.send pair c.requires.ends.channels c.requires.ends.lengths first ∙ sym (ap (λ (q : Told). length q.payload) known) ∙ length-map c.in-Some-take_out.parcel.payload.terms.items (meaning s.sums)
+    let e = parcel_values_at s.sums c.args.held.now.parcels.items j inside c.in-Some-take_out.parcel raw in
+    let known = parcel_known plans hist a c.requires.taken.newest c.known.ensures.each c.requires.class c.in-Some.send pair first s.kept told c.args.held.now.carried so_far.carrying j at (values_of_parcel s.sums c.in-Some-take_out.parcel) e in
+    ap (λ (ps : List Plan). length (slots ps c.args.action.op)) c.requires.taken.table_is ∙ as_many plans hist a c.requires.taken.newest c.known.ensures.each c.requires.class c.in-Some.send pair c.requires.ends.channels c.requires.ends.lengths first ∙ sym (ap (λ (q : ParcelValues). length q.payload) known) ∙ length-map c.in-Some-take_out.parcel.payload.terms.items (meaning s.sums)
 
 pub take-requires-clause-light : goal.take-requires-clause-light
 take-requires-clause-light c =
@@ -105,7 +105,7 @@ take-requires-clause-light c =
     let hist = c.args.walker.now.history in
     let a = act_of c.args.action in
     let s = c.args.held.now.store in
-    let told = told_in s.sums c.args.held.now.parcels.items in
+    let told = values_of_parcels s.sums c.args.held.now.parcels.items in
     let j = c.index-place.result in
     let pair = pair_from plans hist a c.requires.taken.newest c.known.ensures.each c.requires.class c.in-Some.send (sym c.partner.ensures ∙ c.in-Some.is) in
     let at = ap (λ (ps : List Plan). slice_get (operations ps) j) (sym c.sched.ensures) ∙ c.index-place.ensures.index in
@@ -113,8 +113,8 @@ take-requires-clause-light c =
     let so_far = c.requires.taken.held.1 in
     let inside = there_within plans hist a c.requires.taken.newest c.known.ensures.each first s.kept told c.args.held.now.carried so_far.carrying j c.in-Some.send at in
     let raw = sym c.take_out.ensures.taken ∙ c.in-Some-take_out.is in
-    let e = told_at s.sums c.args.held.now.parcels.items j inside c.in-Some-take_out.parcel raw in
-    omega (arith, size_within plans hist a c.requires.taken.newest c.known.ensures.each c.requires.class c.in-Some.send pair first s.kept told c.args.held.now.carried so_far.carrying j at (told_of s.sums c.in-Some-take_out.parcel) e, size_told plans hist a c.requires.taken.newest c.known.ensures.each c.requires.class c.in-Some.send pair first s.kept told c.args.held.now.carried so_far.carrying j at (told_of s.sums c.in-Some-take_out.parcel) e, light_before plans hist a c.requires.taken.newest c.known.ensures.each first s.kept told c.args.held.now.carried so_far.carrying)
+    let e = parcel_values_at s.sums c.args.held.now.parcels.items j inside c.in-Some-take_out.parcel raw in
+    omega (arith, size_within plans hist a c.requires.taken.newest c.known.ensures.each c.requires.class c.in-Some.send pair first s.kept told c.args.held.now.carried so_far.carrying j at (values_of_parcel s.sums c.in-Some-take_out.parcel) e, size_told plans hist a c.requires.taken.newest c.known.ensures.each c.requires.class c.in-Some.send pair first s.kept told c.args.held.now.carried so_far.carrying j at (values_of_parcel s.sums c.in-Some-take_out.parcel) e, light_before plans hist a c.requires.taken.newest c.known.ensures.each first s.kept told c.args.held.now.carried so_far.carrying)
 
 pub returns-in-Ok-clause-follows : goal.returns-in-Ok-clause-follows
 returns-in-Ok-clause-follows c = λ first so_far.
@@ -122,15 +122,15 @@ returns-in-Ok-clause-follows c = λ first so_far.
     let hist = c.args.walker.now.history in
     let a = act_of c.args.action in
     let s = c.args.held.now.store in
-    let told = told_in s.sums c.args.held.now.parcels.items in
+    let told = values_of_parcels s.sums c.args.held.now.parcels.items in
     let j = c.index-place.result in
     let pair = pair_from plans hist a c.requires.taken.newest c.known.ensures.each c.requires.class c.in-Some.send (sym c.partner.ensures ∙ c.in-Some.is) in
     let at = ap (λ (ps : List Plan). slice_get (operations ps) j) (sym c.sched.ensures) ∙ c.index-place.ensures.index in
     let x = c.args.action.op in
     let inside = there_within plans hist a c.requires.taken.newest c.known.ensures.each first s.kept told c.args.held.now.carried so_far.carrying j c.in-Some.send at in
     let raw = sym c.take_out.ensures.taken ∙ c.in-Some-take_out.is in
-    let e = told_at s.sums c.args.held.now.parcels.items j inside c.in-Some-take_out.parcel raw in
+    let e = parcel_values_at s.sums c.args.held.now.parcels.items j inside c.in-Some-take_out.parcel raw in
     let there = op_there plans hist a c.requires.taken.newest c.known.ensures.each in
     let below : x.rank < s.kept.ranks = omega (arith, rank_below plans x there, so_far.carrying.ranks) in
     let put = c.in-Ok.ensures.written ∙ ap (λ (ps : List Plan). write x.rank (slots ps x) (payload_values s.sums c.in-Some-take_out.parcel.payload) (values s.kept)) c.requires.taken.table_is in
-    holding_set plans first hist c.args.held.now.parcels.items s c.take.new.store (drop 1 hist) c.args.held.now.carried _ j None _ c.take_out.ensures.after so_far c.take.ensures.sums tt (received plans hist a c.requires.taken.newest c.known.ensures.each c.requires.class c.in-Some.send pair first s.kept told c.args.held.now.carried so_far.carrying j at (told_of s.sums c.in-Some-take_out.parcel) e c.take.new.store.kept _ _ below (slots_low plans c.requires.taken.small x there) put c.take.ensures.ranks refl refl)
+    holding_set plans first hist c.args.held.now.parcels.items s c.take.new.store (drop 1 hist) c.args.held.now.carried _ j None _ c.take_out.ensures.after so_far c.take.ensures.sums tt (received plans hist a c.requires.taken.newest c.known.ensures.each c.requires.class c.in-Some.send pair first s.kept told c.args.held.now.carried so_far.carrying j at (values_of_parcel s.sums c.in-Some-take_out.parcel) e c.take.new.store.kept _ _ below (slots_low plans c.requires.taken.small x there) put c.take.ensures.ranks refl refl)
