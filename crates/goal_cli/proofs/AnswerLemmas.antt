@@ -7,7 +7,7 @@ use Rattle.goal_base.specs.Device.{HostState, SinkState, Files, Later, KeepsFile
 use Rattle.goal_base.proofs.ForCallers.{kept_then}
 use Rattle.goal_graph.specs.Schedule.{Plan}
 use Rattle.sim_params.specs.Costs.{Numbers, CostModel, log_gops}
-use Rattle.sim_classes.specs.Machine.{Known, costs_of}
+use Rattle.sim_classes.specs.Machine.{MachineModel, costs_of}
 use Rattle.goal_input.specs.Input.{IfFile}
 use Rattle.goal_words.specs.declared.sentence.View.{View}
 use Rattle.goal_words.specs.declared.sentence.View.TheVariants as view
@@ -517,12 +517,12 @@ module _ (old new : Devices) where
       (written_by (Sim name p) err err' a s (rw is at cause) told tells input file sched had (reads, tt) writes)
 
   -- the same on a machine
-  printed_on : (name text : List ℕ) (m : Known) (input : Input) (sched : List Plan) (s : Status) → HasRunOn m input.schedule input.machine sched
+  printed_on : (name text : List ℕ) (m : MachineModel) (input : Input) (sched : List Plan) (s : Status) → HasRunOn m input.schedule input.machine sched
       → AnswersWhole old new s (Nodes name text) input → PrintsRun s old.out new.out (costs_of m) sched
   printed_on name text m input sched s has (inr e) = inr e
   printed_on name text m input sched s has (inl (ends, e, (output, made, got))) =
       let costed = made.has.costed in
-      let costs = costed.2 ∙ ap (λ (k : Known). Some (costs_of k)) (one_machine input.machine costed.0 m costed.1.said has.1.said) in
+      let costs = costed.2 ∙ ap (λ (k : MachineModel). Some (costs_of k)) (one_machine input.machine costed.0 m costed.1.said has.1.said) in
       prints (costs_of m) sched made.sched output ends s (same_schedule input.schedule made.sched sched made.has.from has.0.read) e
       (run_seen Printed made.has.costs (costs_of m) made.sched output ends costs made.shown) got
 
@@ -531,7 +531,7 @@ module _ (old new : Devices) where
       → (name machine : List ℕ) → command ≡ Some (Nodes name machine)
       → IfFile old.host name
       (λ schedule. IfFile old.host machine
-      (λ text. (sched : List Plan) (m : Known) → HasRunOn m schedule text sched → ReadsHeld old.host new.host
+      (λ text. (sched : List Plan) (m : MachineModel) → HasRunOn m schedule text sched → ReadsHeld old.host new.host
       → Held old.out.stops old.out.count new.out.count → PrintsRun s old.out new.out (costs_of m) sched))
   run_printed_on command err err' a s cause told name machine is =
       λ tells schedule file tells_too text other sched m has reads writes.

@@ -3,9 +3,9 @@ use Rattle.std.proofs.Common.{◌≡◌, ℕ, ◌<◌, List, length, Option, Som
 use Rattle.std.specs.declared.result.Result.TheVariants.{Ok}
 use Rattle.goal_graph.specs.Schedule.{Plan}
 use Rattle.sim_params.specs.Costs.{Numbers, CostModel, log_gops}
-use Rattle.sim_classes.specs.Machine.{Known, numbers_of, costs_of}
+use Rattle.sim_classes.specs.Machine.{MachineModel, numbers_of, costs_of}
 use Rattle.sim_classes.specs.Form as form
-use Rattle.sim_classes.specs.Laws.{SaidIsWhole, AlikeIsLogGops}
+use Rattle.sim_classes.specs.Laws.{ReadIsWhole, AlikeIsLogGops}
 use Rattle.goal_limits.specs.declared.collective.Collective.{Collective}
 use Rattle.goal_blocks.specs.Laws.{FaultExcludesCertified, OneFirstFault}
 use Rattle.goal_words.specs.declared.sentence.View.{View}
@@ -26,7 +26,7 @@ same_costing : (p : Pricing) (text again : List ℕ) (sched : List Plan) (k j : 
     → IsCosted p text sched k → IsCosted p again sched j → k ≡ j
 same_costing (ByNumbers numbers) text again sched k j same a b = a ∙ sym b
 same_costing (ByMachine name) text again sched k j same a b =
-    a.2 ∙ ap (λ (m : Known). Some (costs_of m)) (one_machine text _ _ a.1.said (same ∙ b.1.said)) ∙ sym b.2
+    a.2 ∙ ap (λ (m : MachineModel). Some (costs_of m)) (one_machine text _ _ a.1.said (same ∙ b.1.said)) ∙ sym b.2
 same_costing Unpriced text again sched k j same a b = a ∙ sym b
 
 -- a schedule has one verdict
@@ -73,13 +73,13 @@ compiled_again name out input output e sched read is =
     subst (λ (ps : List Plan). IsReadAs output ps) (same_schedule input.schedule is.sched sched is.has.from read) is.shown.0.again
 
 -- on a machine whose classes are alike the output is that of `sim`
-module _ (whole : SaidIsWhole) (alike : AlikeIsLogGops) where
-  alike_costs : (text : List ℕ) (k m : Known) (p : Numbers) → form.machine text ≡ Ok k → form.machine text ≡ Ok m
+module _ (whole : ReadIsWhole) (alike : AlikeIsLogGops) where
+  alike_costs : (text : List ℕ) (k m : MachineModel) (p : Numbers) → form.machine text ≡ Ok k → form.machine text ≡ Ok m
       → ((class : ℕ) → class < length m.classes → numbers_of m class ≡ p) → costs_of k ≡ log_gops p
   alike_costs text k m p a b same =
       ap costs_of (one_machine text k m a b) ∙ alike m p (whole text m b) same
 
-  pub as_sim : (name text : List ℕ) (input : Input) (m : Known) (p : Numbers) (output : List ℕ) (e : Ending)
+  pub as_sim : (name text : List ℕ) (input : Input) (m : MachineModel) (p : Numbers) (output : List ℕ) (e : Ending)
       → form.machine input.machine ≡ Ok m → ((class : ℕ) → class < length m.classes → numbers_of m class ≡ p)
       → IsOutput (Nodes name text) input output e → IsOutput (Sim name p) input output e
   as_sim name text input m p output e said same a =

@@ -8,7 +8,7 @@ use Rattle.goal_binary.specs.declared.fault.FileFault.{FileFault}
 use Rattle.goal_graph.specs.Schedule.{Plan}
 use Rattle.sim_params.specs.Costs.{CostModel}
 use Rattle.sim_params.specs.Budget.{budget}
-use Rattle.sim_classes.specs.Machine.{Known, costs_of}
+use Rattle.sim_classes.specs.Machine.{MachineModel, costs_of}
 use Rattle.sim_classes.specs.Form as form
 use Rattle.sim_classes.specs.declared.fault.MachineFault.{MachineFault}
 use Rattle.goal_limits.specs.declared.collective.Collective.{Collective}
@@ -27,11 +27,11 @@ use Rattle.goal_cli.specs.Output.{Input, named_by, machine_named, HasInput, HasM
 use Rattle.goal_input.proofs.ForCallers.{same_schedule, same_text_fault, same_file_fault, not_both, no_text_fault, no_file_fault}
 
 -- a text has at most one machine
-pub one_machine : (text : List ℕ) (k m : Known) → form.machine text ≡ Ok k → form.machine text ≡ Ok m → k ≡ m
-one_machine text k m a b = let e : ◌≡◌ {A = Result Known MachineFault} (Ok k) (Ok m) = sym a ∙ b in cc
+pub one_machine : (text : List ℕ) (k m : MachineModel) → form.machine text ≡ Ok k → form.machine text ≡ Ok m → k ≡ m
+one_machine text k m a b = let e : ◌≡◌ {A = Result MachineModel MachineFault} (Ok k) (Ok m) = sym a ∙ b in cc
 
-no_machine : (text : List ℕ) (m : Known) (f : MachineFault) → form.machine text ≡ Ok m → form.machine text ≡ Err f → ⊥
-no_machine text m f a b = let e : ◌≡◌ {A = Result Known MachineFault} (Ok m) (Err f) = sym a ∙ b in cc
+no_machine : (text : List ℕ) (m : MachineModel) (f : MachineFault) → form.machine text ≡ Ok m → form.machine text ≡ Err f → ⊥
+no_machine text m f a b = let e : ◌≡◌ {A = Result MachineModel MachineFault} (Ok m) (Err f) = sym a ∙ b in cc
 
 -- the number of ranks is not both within the limit and above it
 too_many : (what : Collective) (ranks : ℕ) → (ranks ≡ 0) ⊎ (most_ranks what < ranks) → AreRanksWithin what ranks → ⊥
@@ -96,7 +96,7 @@ one_reason (source.Drawn rounds seed) f g a b = absurd a
 
 -- THE COSTS: a machine that is used fits the schedule
 costs_machine : (p : Pricing) (text : List ℕ) (sched : List Plan) (costs : Option CostModel) → IsCosted p text sched costs
-    → is_some (machine_named p) ≡ true → (m : Known) × IsMachineFor text sched m
+    → is_some (machine_named p) ≡ true → (m : MachineModel) × IsMachineFor text sched m
 costs_machine (ByNumbers numbers) text sched costs a has = cc
 costs_machine (ByMachine name) text sched costs a has = (a.0, a.1)
 costs_machine Unpriced text sched costs a has = cc
@@ -105,7 +105,7 @@ costs_machine Unpriced text sched costs a has = cc
 one_costing : (p : Pricing) (text : List ℕ) (sched : List Plan) (k j : Option CostModel) → IsCosted p text sched k → IsCosted p text sched j → k ≡ j
 one_costing (ByNumbers numbers) text sched k j a b = a ∙ sym b
 one_costing (ByMachine name) text sched k j a b =
-    a.2 ∙ ap (λ (m : Known). Some (costs_of m)) (one_machine text _ _ a.1.said b.1.said) ∙ sym b.2
+    a.2 ∙ ap (λ (m : MachineModel). Some (costs_of m)) (one_machine text _ _ a.1.said b.1.said) ∙ sym b.2
 one_costing Unpriced text sched k j a b = a ∙ sym b
 
 -- the costs of two commands over budget, or of one and of an output
@@ -189,10 +189,10 @@ made_later c input f r later a b =
     no_source c.source input.schedule k.0 f k.1 a.1
 
 -- a budget on a machine has one that fits
-other_ranks_read : (c : Command) (input : Input) (sched : List Plan) (m : Known) (p : ℕ) → IsFrom c.source input.schedule sched
+other_ranks_read : (c : Command) (input : Input) (sched : List Plan) (m : MachineModel) (p : ℕ) → IsFrom c.source input.schedule sched
     → IsMachineFor input.machine sched m → IsForOtherRanks c input p → ⊥
 other_ranks_read c input sched m p from a b =
-    b.other (b.ranks_are ∙ ap (λ (k : Known). length k.nodes) (one_machine input.machine _ _ b.said a.said) ∙ a.ranks ∙ ap length (one_schedule c.source input.schedule _ _ from b.from))
+    b.other (b.ranks_are ∙ ap (λ (k : MachineModel). length k.nodes) (one_machine input.machine _ _ b.said a.said) ∙ a.ranks ∙ ap length (one_schedule c.source input.schedule _ _ from b.from))
 
 machine_budget : (c : Command) (input : Input) (f : MachineFault) (s : ℕ) → IsRefused c input (Machine f) → IsOverBudget c input s → ⊥
 machine_budget c input f s a b =
@@ -205,11 +205,11 @@ ranks_budget c input p s a b =
     other_ranks_read c input b.sched k.0 p b.from k.1 a.1
 
 same_fault : (c : Command) (input : Input) (f g : MachineFault) → IsMachineFault c input f → IsMachineFault c input g → f ≡ g
-same_fault c input f g a b = let e : ◌≡◌ {A = Result Known MachineFault} (Err f) (Err g) = sym a.first ∙ b.first in cc
+same_fault c input f g a b = let e : ◌≡◌ {A = Result MachineModel MachineFault} (Err f) (Err g) = sym a.first ∙ b.first in cc
 
 same_ranks : (c : Command) (input : Input) (p q : ℕ) → IsForOtherRanks c input p → IsForOtherRanks c input q → p ≡ q
 same_ranks c input p q a b =
-    a.ranks_are ∙ ap (λ (k : Known). length k.nodes) (one_machine input.machine _ _ a.said b.said) ∙ sym b.ranks_are
+    a.ranks_are ∙ ap (λ (k : MachineModel). length k.nodes) (one_machine input.machine _ _ a.said b.said) ∙ sym b.ranks_are
 
 pub same_refusal : (c : Command) (input : Input) (r q : Refusal) → IsRefused c input r → IsRefused c input q → r ≡ q
 same_refusal c input TooLong TooLong a b = refl

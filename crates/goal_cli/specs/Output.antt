@@ -5,7 +5,7 @@ use Rattle.goal_limits.specs.Limits.{input_limit}
 use Rattle.goal_graph.specs.Schedule.{Plan}
 use Rattle.sim_params.specs.Costs.{Numbers, CostModel, log_gops}
 use Rattle.sim_params.specs.Budget.{budget}
-use Rattle.sim_classes.specs.Machine.{Known, costs_of}
+use Rattle.sim_classes.specs.Machine.{MachineModel, costs_of}
 use Rattle.sim_classes.specs.Form as form
 use Rattle.sim_classes.specs.declared.fault.MachineFault.{MachineFault}
 use Rattle.sim_classes.specs.declared.fault.MachineFault.TheVariants as sayings
@@ -76,7 +76,7 @@ IsFrom (source.Made what ranks bytes) text sched = IsMade what ranks bytes sched
 IsFrom (source.Drawn rounds seed) text sched = sched ≡ probed rounds seed
 
 -- the text describes a machine with a node for each rank of the schedule
-pub record IsMachineFor (text : List ℕ) (sched : List Plan) (m : Known) : Type 0 where
+pub record IsMachineFor (text : List ℕ) (sched : List Plan) (m : MachineModel) : Type 0 where
   pub short : length text ≤ input_limit
   pub said : form.machine text ≡ Ok m
   pub ranks : length m.nodes ≡ length sched
@@ -84,7 +84,7 @@ pub record IsMachineFor (text : List ℕ) (sched : List Plan) (m : Known) : Type
 -- the costs of its actions, with this text of the machine; None if it is not run
 abbrev pub IsCosted : Pricing → List ℕ → List Plan → Option CostModel → Type 0
 IsCosted (ByNumbers numbers) text sched costs = costs ≡ Some (log_gops numbers)
-IsCosted (ByMachine name) text sched costs = (m : Known) × IsMachineFor text sched m × (costs ≡ Some (costs_of m))
+IsCosted (ByMachine name) text sched costs = (m : MachineModel) × IsMachineFor text sched m × (costs ≡ Some (costs_of m))
 IsCosted Unpriced text sched costs = costs ≡ None
 
 -- A command has an output: there is a schedule with its costs, and if it is run, its time budget is at most
@@ -104,7 +104,7 @@ pub record CanRun (costs : CostModel) (input : List ℕ) (sched : List Plan) : T
 abbrev pub HasRun : Numbers → List ℕ → List Plan → Type 0
 HasRun numbers input sched = CanRun (log_gops numbers) input sched
 
-abbrev pub HasRunOn : Known → List ℕ → List ℕ → List Plan → Type 0
+abbrev pub HasRunOn : MachineModel → List ℕ → List ℕ → List Plan → Type 0
 HasRunOn m schedule machine sched = CanRun (costs_of m) schedule sched × IsMachineFor machine sched m
 
 -- how a command ends by its run
@@ -173,7 +173,7 @@ pub record IsMachineFault (c : Command) (input : Input) (fault : MachineFault) :
 -- or the machine has a node for each of `ranks` ranks, which is not the schedule's number of ranks
 pub record IsForOtherRanks (c : Command) (input : Input) (ranks : ℕ) : Type 0 where
   pub sched : List Plan
-  pub known : Known
+  pub known : MachineModel
   pub from : IsFrom c.source input.schedule sched
   pub short : length input.machine ≤ input_limit
   pub said : form.machine input.machine ≡ Ok known

@@ -3,7 +3,7 @@ use Rattle.std.specs.Prelude.{ℕ, ◌≡◌, ◌≢◌, ◌<◌, ◌≤◌, ◌
 use Rattle.goal_graph.specs.Schedule.{Plan}
 use Rattle.sim_params.specs.Costs.{CostModel}
 use Rattle.sim_params.specs.Budget.{budget}
-use Rattle.sim_classes.specs.Machine.{Known}
+use Rattle.sim_classes.specs.Machine.{MachineModel}
 use Rattle.sim_classes.specs.Form as form
 use Rattle.sim_classes.specs.declared.fault.MachineFault.TheVariants as sayings
 use Rattle.sim_state.specs.declared.fault.EngineFault.{EngineFault}
@@ -38,7 +38,7 @@ abbrev pub IsUnpaid : Pricing → List ℕ → List Plan → Stop → Type 0
 IsUnpaid p text sched (Refused (refusal.Machine fault)) =
     (is_some (machine_named p) ≡ true) × (fault ≢ sayings.NoMemory) × (form.machine text ≡ Err fault)
 IsUnpaid p text sched (Refused (refusal.MachineRanks ranks)) =
-    (is_some (machine_named p) ≡ true) × ((m : Known) × (form.machine text ≡ Ok m) × (ranks ≡ length m.nodes)) × (ranks ≢ length sched)
+    (is_some (machine_named p) ≡ true) × ((m : MachineModel) × (form.machine text ≡ Ok m) × (ranks ≡ length m.nodes)) × (ranks ≢ length sched)
 IsUnpaid p text sched (Refused (refusal.Budget sum)) =
     (costs : CostModel) × IsCosted p text sched (Some costs) × (sum ≡ budget sched costs) × (2 ^ 63 ≤ sum)
 IsUnpaid p text sched (Refused _) = ⊥

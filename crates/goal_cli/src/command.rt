@@ -5,7 +5,7 @@ ghost use Rattle.goal_limits.specs.declared.limits.TheConstants.{MAX_INPUT};
 ghost use Rattle.goal_graph.specs.Schedule.{Plan};
 ghost use Rattle.sim_params.specs.Costs.{Numbers, log_gops};
 ghost use Rattle.goal_input.specs.Input.{IfFile};
-ghost use Rattle.sim_classes.specs.Machine.{Known, costs_of};
+ghost use Rattle.sim_classes.specs.Machine.{MachineModel, costs_of};
 ghost use Rattle.goal_words.specs.Words.{Sim, Nodes, command_in};
 ghost use Rattle.goal_words.specs.Sentences.{said, IsSized, IsPriced};
 ghost use Rattle.goal_cli.specs.Answer.{IfInput, ForRead, GrowsByPart, IsReadOut, ReadsHeld, InputHeld, goes_to, target_of, Gets, GetsPart, Elsewhere, WritesRose, WritesHeld, WritesSame, AnswersWhole, PrintsRun, IsCauseOf, IsCause, AnswersWith, Says, IsCutShort, Answered, IsTaken};
@@ -70,7 +70,7 @@ pub fn goal<H: Host, W: Sink, E: Sink>(
 
     // The same with the costs of a machine: each message has the parameters of its class.
     ensures headline_on_a_machine { (name machine : List ℕ) → command_in words.now ≡ Some (Nodes name machine)
-        → IfFile (H.state host.old) name (λ schedule. IfFile (H.state host.old) machine (λ text. (sched : List Plan) (m : Known)
+        → IfFile (H.state host.old) name (λ schedule. IfFile (H.state host.old) machine (λ text. (sched : List Plan) (m : MachineModel)
         → HasRunOn m schedule text sched
         → ReadsHeld (H.state host.old) (H.state host.new)
         → Held (W.state out.old).stops (W.state out.old).count (W.state out.new).count

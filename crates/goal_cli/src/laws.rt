@@ -3,7 +3,7 @@ ghost use Rattle.std.specs.Prelude.{◌≡◌, ◌⊎◌, ◌<◌, ℕ, Bool, tr
 ghost use Rattle.goal_base.specs.Device.{file_of};
 ghost use Rattle.goal_graph.specs.Schedule.{Plan};
 ghost use Rattle.sim_params.specs.Costs.{Numbers, CostModel};
-ghost use Rattle.sim_classes.specs.Machine.{Known, numbers_of};
+ghost use Rattle.sim_classes.specs.Machine.{MachineModel, numbers_of};
 ghost use Rattle.sim_classes.specs.Form.{machine};
 ghost use Rattle.goal_words.specs.Words.{Command, Sim, Nodes, Compile};
 ghost use Rattle.goal_input.specs.Input.{IsReadAs};
@@ -38,7 +38,7 @@ pub fn laws_of_outputs()
         → IsOutput c input one e → IsOutput c again other d → (one ≡ other) × (e ≡ d) }
     ensures compiled_again { (name out : List ℕ) (input : Input) (output : List ℕ) (e : Ending) (sched : List Plan)
         → IsReadAs input.schedule sched → IsOutput (Compile name out) input output e → IsReadAs output sched }
-    ensures alike { (name text : List ℕ) (input : Input) (m : Known) (p : Numbers) (output : List ℕ) (e : Ending)
+    ensures alike { (name text : List ℕ) (input : Input) (m : MachineModel) (p : Numbers) (output : List ℕ) (e : Ending)
         → machine input.machine ≡ Ok m → ((class : ℕ) → class < length m.classes → numbers_of m class ≡ p)
         → IsOutput (Nodes name text) input output e → IsOutput (Sim name p) input output e }
 {

@@ -3,7 +3,7 @@ ghost use Rattle.std.specs.Prelude.{ℕ, ◌≡◌, ◌≢◌, ◌<◌, ◌≤�
 ghost use Rattle.goal_limits.specs.declared.limits.TheConstants.{MAX_INPUT};
 ghost use Rattle.sim_params.specs.Costs.{CostModel};
 ghost use Rattle.sim_params.specs.Numbers.{numbers};
-ghost use Rattle.sim_classes.specs.Known.{known};
+ghost use Rattle.sim_classes.specs.MachineModels.{machine_model};
 ghost use Rattle.goal_binary.specs.File.{file};
 ghost use Rattle.goal_words.specs.Words.{ByNumbers, ByMachine};
 ghost use Rattle.goal_words.specs.Sentences.{pricing, said, IsPriced, IsRun};
@@ -72,7 +72,7 @@ fn ending_if(stuck: bool) -> Ending
 // Reads the machine in a text, for a schedule.
 fn machine_for(alloc: Global, sched: &Sched, text: &[u8]) -> Result<Machine, Stop>
     requires short { length text.now ≤ MAX_INPUT }
-    ensures machine { IfOk result (λ machine. IsMachineFor text.now sched.now (known machine)) }
+    ensures machine { IfOk result (λ machine. IsMachineFor text.now sched.now (machine_model machine)) }
     ensures stop { IfErr result (λ stop. (name : List ℕ) → IsUnpaid (ByMachine name) text.now sched.now stop) }
 {
     let machine = match read_machine(alloc, text) {

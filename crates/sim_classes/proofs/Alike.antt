@@ -32,12 +32,12 @@ from_overhead m n = m.overhead == n.overhead && from_gap m n
 abbrev pub alike : Numbers → Numbers → Bool
 alike m n = m.latency == n.latency && from_overhead m n
 
-same : (m : ℕ) → (m == m) ≡ true
-same m = eq-eqb m m refl
+nat_eq_reflexive : (m : ℕ) → (m == m) ≡ true
+nat_eq_reflexive m = eq-eqb m m refl
 
-itself : (n : Numbers) → alike n n ≡ true
-itself n =
-    λ i. same n.latency i && (same n.overhead i && (same n.gap i && (same n.gap_per_byte i && (same n.gap_picos i && (same n.overhead_per_byte i && (same n.overhead_picos i && same n.sync i))))))
+alike_reflexive : (n : Numbers) → alike n n ≡ true
+alike_reflexive n =
+    λ i. nat_eq_reflexive n.latency i && (nat_eq_reflexive n.overhead i && (nat_eq_reflexive n.gap i && (nat_eq_reflexive n.gap_per_byte i && (nat_eq_reflexive n.gap_picos i && (nat_eq_reflexive n.overhead_per_byte i && (nat_eq_reflexive n.overhead_picos i && nat_eq_reflexive n.sync i))))))
 
 pub alike_same : (m n : Numbers) → alike m n ≡ true → m ≡ n
 alike_same m n e =
@@ -60,7 +60,7 @@ alike_same m n e =
     }
 
 pub not_alike : (m n : Numbers) → alike m n ≡ false → m ≢ n
-not_alike m n e is = both_ways (alike m n) e (subst (λ (k : Numbers). alike m k ≡ true) is (itself m))
+not_alike m n e is = both_ways (alike m n) e (subst (λ (k : Numbers). alike m k ≡ true) is (alike_reflexive m))
 
 none_below : (i : ℕ) → i < 0 → ⊥
 none_below i low = omega (arith, low)
@@ -71,13 +71,13 @@ numbers_at [] i d low = absurd (none_below i low)
 numbers_at (p ∷ ps) zero d low = refl
 numbers_at (p ∷ ps) (suc i) d low = numbers_at ps i d (omega (arith, low))
 
-pub not_true : (b : Bool) → not b ≡ true → b ≡ false
-not_true true e = cc
-not_true false e = refl
+pub negation_true : (b : Bool) → not b ≡ true → b ≡ false
+negation_true true e = cc
+negation_true false e = refl
 
-pub not_false : (b : Bool) → not b ≡ false → b ≡ true
-not_false true e = refl
-not_false false e = cc
+pub negation_false : (b : Bool) → not b ≡ false → b ≡ true
+negation_false true e = refl
+negation_false false e = cc
 
 pub mapped_length : (ps : List Params) → length (map numbers ps) ≡ length ps
 mapped_length ps = length-map ps numbers

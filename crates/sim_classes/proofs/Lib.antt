@@ -1,5 +1,5 @@
 pub mod WordLemmas
-pub mod Said
+pub mod FormRead
 pub mod Parts
 pub mod Keys
 pub mod RowLemmas

@@ -1,9 +1,9 @@
 -- The parts of a machine text, step by step.
 use Rattle.std.proofs.Common.{ℕ, zero, suc, List, [], ◌∷◌, ◌++◌, ◌≡◌, ◌+◌, ◌-◌, ◌<◌, codes, ap, arith, add-one}
 use Rattle.sim_params.specs.Costs.{Numbers}
-use Rattle.sim_classes.specs.Machine.{Known, machine_with}
+use Rattle.sim_classes.specs.Machine.{MachineModel, machine_with}
 use Rattle.sim_classes.specs.declared.machine.TheConstants.{MAX_NODE}
-use Rattle.sim_classes.specs.Form.{Fixed, Value, End, between, class_number, new_target, telling, triples, triples_part, nodes_part, classes_part, class_part, places_part}
+use Rattle.sim_classes.specs.Form.{Fixed, Value, End, between, class_number, new_target, with_pair_class, triples, triples_part, nodes_part, classes_part, class_part, places_part}
 
 -- before a step one more is left than after it
 one_less : (n i : ℕ) → i < n → n - i ≡ suc (n - (i + 1))
@@ -28,10 +28,10 @@ pub no_nodes : (n i : ℕ) (classes : List Numbers) (inside usual : ℕ) (nodes 
 unfolding nodes_part
 no_nodes n i classes inside usual nodes e = ap (λ (k : ℕ). nodes_part k classes inside usual nodes) (none_over n i e)
 
-pub more_pairs : (n i : ℕ) (m : Known) → i < n → triples (n - i) m ≡ Value (between 0 MAX_NODE) (λ a. Value (new_target m a) (λ b. Value (class_number m.classes) (λ class. triples (n - (i + 1)) (machine_with m.classes m.inside m.usual m.nodes (telling m.told a b class)))))
+pub more_pairs : (n i : ℕ) (m : MachineModel) → i < n → triples (n - i) m ≡ Value (between 0 MAX_NODE) (λ a. Value (new_target m a) (λ b. Value (class_number m.classes) (λ class. triples (n - (i + 1)) (machine_with m.classes m.inside m.usual m.nodes (with_pair_class m.pair_classes a b class)))))
 unfolding triples
 more_pairs n i m low = ap (λ (k : ℕ). triples k m) (one_less n i low)
 
-pub no_pairs : (n i : ℕ) (m : Known) → i ≡ n → triples (n - i) m ≡ End m
+pub no_pairs : (n i : ℕ) (m : MachineModel) → i ≡ n → triples (n - i) m ≡ End m
 unfolding triples
 no_pairs n i m e = ap (λ (k : ℕ). triples k m) (none_over n i e)

@@ -13,12 +13,12 @@ use Rattle.std.proofs.lemmas.List.Sorted.{searchable_from_sorted}
 use Rattle.std.proofs.lemmas.Map.Entries.{lookup_from_place, place_from_lookup}
 use Rattle.std.proofs.lemmas.Map.Keys.{Less-from_sorted, IsDistinct-from_sorted, non_decreasing_from_sorted}
 use Rattle.goal_graph.proofs.ForCallers.{alike_numbers}
-use Rattle.sim_classes.specs.Parts.{pair_key, told_by}
+use Rattle.sim_classes.specs.Parts.{pair_key, pair_class_by}
 use Rattle.sim_classes.specs.Rows.{node_of, IsStart, AreStarts, IsRow}
 
 -- the class that entries give for a node in range is the value at the key
-told_at : (es : List (ℕ × ℕ)) (a b : ℕ) → b < 4294967296 → told_by es a b ≡ lookup (is_at (nat_cmp (pair_key a b))) es
-told_at es a b low = rw (lt-ltb b 4294967296 low) refl
+pair_class_at : (es : List (ℕ × ℕ)) (a b : ℕ) → b < 4294967296 → pair_class_by es a b ≡ lookup (is_at (nat_cmp (pair_key a b))) es
+pair_class_at es a b low = rw (lt-ltb b 4294967296 low) refl
 
 -- the key of a pair belongs to its first node
 node_of_key : (a b : ℕ) → b < 4294967296 → node_of (pair_key a b) ≡ a
@@ -35,8 +35,8 @@ module _ (es : List (ℕ × ℕ)) (sorted : IsStrictlySortedBy nat_cmp (keys_of 
   keys_length = length-map es (λ (x : ℕ × ℕ). x.0)
 
   -- an entry is the value at its key
-  pub stands : (key i : ℕ) (e : ℕ × ℕ) → slice_get es i ≡ Some e → e.0 ≡ key → lookup (is_at (nat_cmp key)) es ≡ Some e.1
-  stands key i e at same = subst (λ (k : ℕ). lookup (is_at (nat_cmp k)) es ≡ Some e.1) same (lookup_from_place (eq_by_cmp_equiv nat_cmp_total) es i e.0 e.1 (IsDistinct-from_sorted nat_cmp (keys_of es) sorted) at)
+  pub entry_is_found : (key i : ℕ) (e : ℕ × ℕ) → slice_get es i ≡ Some e → e.0 ≡ key → lookup (is_at (nat_cmp key)) es ≡ Some e.1
+  entry_is_found key i e at same = subst (λ (k : ℕ). lookup (is_at (nat_cmp k)) es ≡ Some e.1) same (lookup_from_place (eq_by_cmp_equiv nat_cmp_total) es i e.0 e.1 (IsDistinct-from_sorted nat_cmp (keys_of es) sorted) at)
 
   -- nodes are in ascending order
   pub nodes_rise : (n : ℕ) → IsNonDecreasingBy (λ (e : ℕ × ℕ). node_of e.0) es
@@ -71,7 +71,7 @@ module _ (es : List (ℕ × ℕ)) (sorted : IsStrictlySortedBy nat_cmp (keys_of 
         let here = part_at i (0, 0) inside in
         let same = same_number (get_or part i (0, 0)).0 key (ap is_eq (equal (0, 0))) in
         let within : start + i < length es = omega (arith, inside, part_length, row.order, row.within) in
-        stands key (start + i) (get_or part i (0, 0)) (slice_get-get_or es (start + i) (0, 0) within ∙ ap (λ (e : ℕ × ℕ). Some e) (sym here)) same
+        entry_is_found key (start + i) (get_or part i (0, 0)) (slice_get-get_or es (start + i) (0, 0) within ∙ ap (λ (e : ℕ × ℕ). Some e) (sym here)) same
     found (Err i) inside split = go (lookup (is_at (nat_cmp key)) es) refl
       where
         nowhere : (k : ℕ) (e : ℕ × ℕ) → slice_get es k ≡ Some e → e.0 ≡ key → ⊥
@@ -94,11 +94,11 @@ module _ (es : List (ℕ × ℕ)) (sorted : IsStrictlySortedBy nat_cmp (keys_of 
             absurd (nowhere at.0 (at.1, class) at.2 (sym (same_number key at.1 at.3)))
 
 -- what a binary search found in the row of a node is the class given for it and another
-pub told_in_row : (es : List (ℕ × ℕ)) → IsStrictlySortedBy nat_cmp (keys_of es) → (a b : ℕ) → b < 4294967296 → (start end : ℕ) → IsRow es a start end
+pub pair_class_in_row : (es : List (ℕ × ℕ)) → IsStrictlySortedBy nat_cmp (keys_of es) → (a b : ℕ) → b < 4294967296 → (start end : ℕ) → IsRow es a start end
     → (r : Result ℕ ℕ) → IsSearchInRange r (length (take (end - start) (drop start es))) → IsBinarySearchResult (λ (e : ℕ × ℕ). nat_cmp e.0 (pair_key a b)) (take (end - start) (drop start es)) r
-    → MatchResult r (λ i. told_by es a b ≡ Some (get_or (take (end - start) (drop start es)) i (0, 0)).1) (λ i. told_by es a b ≡ None)
-told_in_row es sorted a b low start end row r inside is =
-    subst (λ (o : Option ℕ). MatchResult r (λ i. o ≡ Some (get_or (take (end - start) (drop start es)) i (0, 0)).1) (λ i. o ≡ None)) (sym (told_at es a b low))
+    → MatchResult r (λ i. pair_class_by es a b ≡ Some (get_or (take (end - start) (drop start es)) i (0, 0)).1) (λ i. pair_class_by es a b ≡ None)
+pair_class_in_row es sorted a b low start end row r inside is =
+    subst (λ (o : Option ℕ). MatchResult r (λ i. o ≡ Some (get_or (take (end - start) (drop start es)) i (0, 0)).1) (λ i. o ≡ None)) (sym (pair_class_at es a b low))
     (found es sorted (pair_key a b) start end (subst (λ (n : ℕ). IsRow es n start end) (sym (node_of_key a b low)) row) r inside is)
 
 -- where the nodes are no longer less, those from the node begin

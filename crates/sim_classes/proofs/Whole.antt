@@ -8,69 +8,69 @@ use Rattle.sim_params.specs.Numbers.{asked}
 use Rattle.goal_base.specs.Numerals.{is_numeral}
 use Rattle.sim_classes.specs.declared.fault.MachineFault.{MachineFault}
 use Rattle.sim_classes.specs.declared.fault.MachineFault.TheVariants.{Syntax, Number}
-use Rattle.sim_classes.specs.Machine.{Known, machine_with}
+use Rattle.sim_classes.specs.Machine.{MachineModel, machine_with}
 use Rattle.sim_classes.specs.Parts.{IsWhole}
-use Rattle.sim_classes.specs.Form.{Form, Fixed, Value, End, said, or_fault, words, class_number, telling, triples, nodes_part, classes_part, machine_form, machine}
+use Rattle.sim_classes.specs.Form.{Form, Fixed, Value, End, read_by_form, or_fault, words, class_number, with_pair_class, triples, nodes_part, classes_part, machine_form, machine}
 
 -- a property of each machine that words of a form may give
-abbrev Ends : (Known → Type 0) → Form → Type 0
+abbrev Ends : (MachineModel → Type 0) → Form → Type 0
 Ends P (Fixed word rest) = Ends P rest
 Ends P (Value test rest) = (n : ℕ) → test n ≡ None → Ends P (rest n)
 Ends P (End m) = P m
 
-module _ (P : Known → Type 0) (m : Known) where
-  fixed_step : (b : Bool) (next : Result Known MachineFault) (fault : MachineFault) → (next ≡ Ok m → P m)
+module _ (P : MachineModel → Type 0) (m : MachineModel) where
+  fixed_step : (b : Bool) (next : Result MachineModel MachineFault) (fault : MachineFault) → (next ≡ Ok m → P m)
       → (if b then next else Err fault) ≡ Ok m → P m
   fixed_step true next fault step is = step is
   fixed_step false next fault step is = cc
 
-  value_step : (b : Bool) (o : Option (ℕ → MachineFault)) (place : ℕ) (next : Result Known MachineFault)
+  value_step : (b : Bool) (o : Option (ℕ → MachineFault)) (place : ℕ) (next : Result MachineModel MachineFault)
       → (o ≡ None → next ≡ Ok m → P m) → (if b then or_fault o place next else Err (Syntax place)) ≡ Ok m → P m
   value_step true None place next step is = step refl is
   value_step true (Some fault) place next step is = cc
   value_step false o place next step is = cc
 
-  said_ends : (form : Form) (place : ℕ) (ws : List (List ℕ)) → Ends P form → said form place ws ≡ Ok m → P m
-  unfolding said
+  said_ends : (form : Form) (place : ℕ) (ws : List (List ℕ)) → Ends P form → read_by_form form place ws ≡ Ok m → P m
+  unfolding read_by_form
   said_ends (Fixed word rest) place [] ends is = cc
   said_ends (Fixed word rest) place (w ∷ ws) ends is =
-      fixed_step (bytes_eq w word) (said rest (place + 1) ws) (Syntax place) (said_ends rest (place + 1) ws ends) is
+      fixed_step (bytes_eq w word) (read_by_form rest (place + 1) ws) (Syntax place) (said_ends rest (place + 1) ws ends) is
   said_ends (Value test rest) place [] ends is = cc
   said_ends (Value test rest) place (w ∷ ws) ends is =
       let n = digits_value 10 w in
-      value_step (is_numeral w) (test n) place (said (rest n) (place + 1) ws)
-      (λ passed. said_ends (rest n) (place + 1) ws (ends n passed)) is
+      value_step (is_numeral w) (test n) place (read_by_form (rest n) (place + 1) ws)
+      (λ class_exists. said_ends (rest n) (place + 1) ws (ends n class_exists)) is
   said_ends (End known) place [] ends is = let same : known ≡ m = cc in subst P same ends
   said_ends (End known) place (w ∷ ws) ends is = cc
 
 -- a number that passes belongs to an existing class
-passed : (classes : List Numbers) (n : ℕ) → class_number classes n ≡ None → n < length classes
-passed classes n is = by (nat_lt n (length classes)) refl is
+class_exists : (classes : List Numbers) (n : ℕ) → class_number classes n ≡ None → n < length classes
+class_exists classes n is = by (nat_lt n (length classes)) refl is
   where
     by : (b : Bool) → nat_lt n (length classes) ≡ b → ◌≡◌ {A = Option (ℕ → MachineFault)} (if b then None else Some Number) None → n < length classes
     by true e h = ltb-true n (length classes) e
     by false e h = cc
 
 -- another pair of nodes
-one_told : (m : Known) (a b class : ℕ) → IsWhole m → class < length m.classes
-    → IsWhole (machine_with m.classes m.inside m.usual m.nodes (telling m.told a b class))
-one_told m a b class whole there = record {
+one_pair_class : (m : MachineModel) (a b class : ℕ) → IsWhole m → class < length m.classes
+    → IsWhole (machine_with m.classes m.inside m.usual m.nodes (with_pair_class m.pair_classes a b class))
+one_pair_class m a b class whole there = record {
   inside = whole.inside;
   usual = whole.usual;
-  told = λ x y c is. by ((x == a) && (y == b)) x y c is;
+  pair_classes = λ x y c is. by ((x == a) && (y == b)) x y c is;
 }
   where
-    by : (t : Bool) (x y c : ℕ) → (if t then Some class else m.told x y) ≡ Some c → c < length m.classes
+    by : (t : Bool) (x y c : ℕ) → (if t then Some class else m.pair_classes x y) ≡ Some c → c < length m.classes
     by true x y c is = let same : class ≡ c = cc in subst (λ (k : ℕ). k < length m.classes) same there
-    by false x y c is = whole.told x y c is
+    by false x y c is = whole.pair_classes x y c is
 
-triples_whole : (k : ℕ) (m : Known) → IsWhole m → Ends IsWhole (triples k m)
+triples_whole : (k : ℕ) (m : MachineModel) → IsWhole m → Ends IsWhole (triples k m)
 unfolding triples
 triples_whole zero m whole = whole
 triples_whole (suc k) m whole =
     λ a one b other class there.
-    triples_whole k (machine_with m.classes m.inside m.usual m.nodes (telling m.told a b class))
-    (one_told m a b class whole (passed m.classes class there))
+    triples_whole k (machine_with m.classes m.inside m.usual m.nodes (with_pair_class m.pair_classes a b class))
+    (one_pair_class m a b class whole (class_exists m.classes class there))
 
 nodes_whole : (k : ℕ) (classes : List Numbers) (inside usual : ℕ) (nodes : List ℕ) → inside < length classes → usual < length classes
     → Ends IsWhole (nodes_part k classes inside usual nodes)
@@ -78,7 +78,7 @@ unfolding nodes_part
 nodes_whole zero classes inside usual nodes first second =
     λ k pairs.
     triples_whole k (machine_with classes inside usual nodes (λ a b. None))
-    (record { inside = first; usual = second; told = λ a b c is. cc })
+    (record { inside = first; usual = second; pair_classes = λ a b c is. cc })
 nodes_whole (suc k) classes inside usual nodes first second =
     λ node within. nodes_whole k classes inside usual (nodes ++ node ∷ []) first second
 
@@ -86,10 +86,10 @@ classes_whole : (k : ℕ) (classes : List Numbers) → Ends IsWhole (classes_par
 unfolding classes_part
 classes_whole zero classes =
     λ inside first usual second ranks many.
-    nodes_whole ranks classes inside usual [] (passed classes inside first) (passed classes usual second)
+    nodes_whole ranks classes inside usual [] (class_exists classes inside first) (class_exists classes usual second)
 classes_whole (suc k) classes =
     λ l _ o _ g _ gb _ gp _ ob _ op _ s _. classes_whole k (classes ++ asked l o g gb gp ob op s ∷ [])
 
-pub machine_whole : (text : List ℕ) (m : Known) → machine text ≡ Ok m → IsWhole m
+pub machine_whole : (text : List ℕ) (m : MachineModel) → machine text ≡ Ok m → IsWhole m
 unfolding machine
 machine_whole text m is = said_ends IsWhole m machine_form 0 (words text) (λ k many. classes_whole k []) is

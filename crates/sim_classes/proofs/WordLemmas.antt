@@ -7,8 +7,8 @@ use Rattle.std.specs.Prelude.{nat_lt}
 use Rattle.std.specs.List.{slice_split, onto_first, prefix_len}
 use Rattle.sim_classes.specs.Form.{is_blank, words}
 
-one_more : (n : ℕ) → 1 + n ≡ suc n
-one_more n = omega arith ∙ add-one n
+one_plus : (n : ℕ) → 1 + n ≡ suc n
+one_plus n = omega arith ∙ add-one n
 
 -- a part that is a word
 abbrev full : List ℕ → Bool
@@ -33,7 +33,7 @@ split_is (x ∷ xs) = go (is_blank x) (split_is xs)
   where
     go : (b : Bool) → slice_split is_blank xs ≡ take (first_len xs) xs ∷ rest_of (drop (first_len xs) xs) → cond b ([] ∷ slice_split is_blank xs) (onto_first x (slice_split is_blank xs)) ≡ take (cond (not b) (1 + first_len xs) 0) (x ∷ xs) ∷ rest_of (drop (cond (not b) (1 + first_len xs) 0) (x ∷ xs))
     go true e = refl
-    go false e = rw (one_more (first_len xs)) (ap (onto_first x) e)
+    go false e = rw (one_plus (first_len xs)) (ap (onto_first x) e)
 
 rest_words : (xs : List ℕ) → filter full (rest_of (drop (first_len xs) xs)) ≡ filter full (slice_split is_blank (drop (first_len xs) xs))
 unfolding rest_of
@@ -42,16 +42,16 @@ rest_words (x ∷ xs) = go (is_blank x) refl (rest_words xs)
   where
     go : (b : Bool) → is_blank x ≡ b → filter full (rest_of (drop (first_len xs) xs)) ≡ filter full (slice_split is_blank (drop (first_len xs) xs)) → filter full (rest_of (drop (cond (not b) (1 + first_len xs) 0) (x ∷ xs))) ≡ filter full (slice_split is_blank (drop (cond (not b) (1 + first_len xs) 0) (x ∷ xs)))
     go true e h = rw e refl
-    go false e h = rw (one_more (first_len xs)) h
+    go false e h = rw (one_plus (first_len xs)) h
 
 -- blanks at the front are no part of a word
-pub skip : (xs : List ℕ) → words xs ≡ words (drop (prefix_len is_blank xs) xs)
+pub words_after_blanks : (xs : List ℕ) → words xs ≡ words (drop (prefix_len is_blank xs) xs)
 unfolding words
-skip [] = refl
-skip (x ∷ xs) = skip_by x xs (is_blank x) refl (skip xs)
+words_after_blanks [] = refl
+words_after_blanks (x ∷ xs) = skip_by x xs (is_blank x) refl (words_after_blanks xs)
   where
     skip_by : (x : ℕ) (xs : List ℕ) (b : Bool) → is_blank x ≡ b → filter full (slice_split is_blank xs) ≡ filter full (slice_split is_blank (drop (prefix_len is_blank xs) xs)) → filter full (cond b ([] ∷ slice_split is_blank xs) (onto_first x (slice_split is_blank xs))) ≡ filter full (slice_split is_blank (drop (cond b (1 + prefix_len is_blank xs) 0) (x ∷ xs)))
-    skip_by x xs true e h = rw (one_more (prefix_len is_blank xs)) h
+    skip_by x xs true e h = rw (one_plus (prefix_len is_blank xs)) h
     skip_by x xs false e h = rw e refl
 
 pub no_words : words [] ≡ []
@@ -64,7 +64,7 @@ has_word [] some = omega (arith, some)
 has_word (x ∷ xs) some = go (is_blank x) refl some (has_word xs)
   where
     go : (b : Bool) → is_blank x ≡ b → 0 < length (drop (cond b (1 + prefix_len is_blank xs) 0) (x ∷ xs)) → (0 < length (drop (prefix_len is_blank xs) xs) → 0 < first_len (drop (prefix_len is_blank xs) xs)) → 0 < first_len (drop (cond b (1 + prefix_len is_blank xs) 0) (x ∷ xs))
-    go true e some h = rw (one_more (prefix_len is_blank xs)) (h (rw (one_more (prefix_len is_blank xs)) at some))
+    go true e some h = rw (one_plus (prefix_len is_blank xs)) (h (rw (one_plus (prefix_len is_blank xs)) at some))
     go false e some h = rw e (omega arith)
 
 -- a part that is not empty is the first word
@@ -85,13 +85,13 @@ module _ (xs : List ℕ) (n : ℕ) (front : n ≡ prefix_len is_blank xs) where
   tail_is = take_all (length xs - n) (drop n xs) (omega (arith, length-drop n xs)) ∙ ap (λ (k : ℕ). drop k xs) front
 
   pub none_left : length tail ≡ 0 → words xs ≡ []
-  none_left none = skip xs ∙ ap words (sym tail_is ∙ nil_from_length _ none) ∙ no_words
+  none_left none = words_after_blanks xs ∙ ap words (sym tail_is ∙ nil_from_length _ none) ∙ no_words
 
   pub next_left : (k : ℕ) → k ≡ first_len tail → 0 < length tail → words xs ≡ take k tail ∷ words (drop k tail)
   next_left k is some =
-      skip xs ∙ ap words (sym tail_is)
+      words_after_blanks xs ∙ ap words (sym tail_is)
       ∙ first_word tail (subst (λ (ys : List ℕ). 0 < first_len ys) (sym tail_is) (has_word xs (omega (arith, ap length tail_is, some))))
       ∙ ap (λ (j : ℕ). take j tail ∷ words (drop j tail)) (sym is)
 
-pub positive : (n : ℕ) → n ≢ 0 → 0 < n
-positive n h = omega (arith, h)
+pub not_zero_is_positive : (n : ℕ) → n ≢ 0 → 0 < n
+not_zero_is_positive n h = omega (arith, h)

@@ -7,7 +7,7 @@ use Rattle.sim_params.specs.Bounded.{IsBounded}
 use Rattle.sim_params.specs.declared.params.Params.{Params}
 use Rattle.sim_classes.specs.declared.machine.Machine.{Machine}
 use Rattle.sim_classes.specs.Machine.{costs_of, costs_between, class_of}
-use Rattle.sim_classes.specs.Known.{known}
+use Rattle.sim_classes.specs.MachineModels.{machine_model}
 use Rattle.std.proofs.Common.{arith}
 
 -- each cost of a class is at most 2^61, also that of a class that does not exist
@@ -22,7 +22,7 @@ bounded_at (p ∷ ps) zero = log_gops_bounded p
 bounded_at (p ∷ ps) (suc class) = bounded_at ps class
 
 -- each number of a machine's costs is at most 2^61
-pub machine_bounded : (m : Machine) → IsBounded (costs_of (known m))
+pub machine_bounded : (m : Machine) → IsBounded (costs_of (machine_model m))
 unfolding costs_of
 machine_bounded m = record {
   over = λ from to bytes small. (each from to).over from to bytes small;
@@ -31,5 +31,5 @@ machine_bounded m = record {
   latency = λ from to. (each from to).latency from to;
 }
   where
-    each : (from to : ℕ) → IsBounded (costs_between (known m) from to)
-    each from to = bounded_at m.classes.items (class_of (known m) from to)
+    each : (from to : ℕ) → IsBounded (costs_between (machine_model m) from to)
+    each from to = bounded_at m.classes.items (class_of (machine_model m) from to)

@@ -10,7 +10,7 @@ use Rattle.sim_params.specs.Numbers.{asked}
 use Rattle.sim_classes.specs.declared.fault.MachineFault.{MachineFault}
 use Rattle.sim_classes.specs.declared.fault.MachineFault.TheVariants.{Syntax, Number, Repeat}
 use Rattle.sim_classes.specs.Limits.{class_limit, pair_limit, node_limit}
-use Rattle.sim_classes.specs.Machine.{Known, machine_with}
+use Rattle.sim_classes.specs.Machine.{MachineModel, machine_with}
 
 -- a space, a tab, a carriage return or a line feed
 abbrev pub is_blank : ℕ → Bool
@@ -29,23 +29,23 @@ Test = ℕ → Option (ℕ → MachineFault)
 pub data Form : Type 0 where
   Fixed : List ℕ → Form → Form
   Value : Test → (ℕ → Form) → Form
-  End : Known → Form
+  End : MachineModel → Form
 
 -- the fault of a failed test, or otherwise what the rest gives
-abbrev pub or_fault : Option (ℕ → MachineFault) → ℕ → Result Known MachineFault → Result Known MachineFault
+abbrev pub or_fault : Option (ℕ → MachineFault) → ℕ → Result MachineModel MachineFault → Result MachineModel MachineFault
 or_fault None place rest = rest
 or_fault (Some fault) place rest = Err (fault place)
 
 -- The machine given by words of this form, or the fault of the first word that fails. `place` is the number of the
 -- first word, and the end counts as a word.
-unfoldable pub said : Form → ℕ → List (List ℕ) → Result Known MachineFault
-said (Fixed word rest) place [] = Err (Syntax place)
-said (Fixed word rest) place (w ∷ ws) = if bytes_eq w word then said rest (place + 1) ws else Err (Syntax place)
-said (Value test rest) place [] = Err (Syntax place)
-said (Value test rest) place (w ∷ ws) =
-    if is_numeral w then or_fault (test (digits_value 10 w)) place (said (rest (digits_value 10 w)) (place + 1) ws) else Err (Syntax place)
-said (End m) place [] = Ok m
-said (End m) place (w ∷ ws) = Err (Syntax place)
+unfoldable pub read_by_form : Form → ℕ → List (List ℕ) → Result MachineModel MachineFault
+read_by_form (Fixed word rest) place [] = Err (Syntax place)
+read_by_form (Fixed word rest) place (w ∷ ws) = if bytes_eq w word then read_by_form rest (place + 1) ws else Err (Syntax place)
+read_by_form (Value test rest) place [] = Err (Syntax place)
+read_by_form (Value test rest) place (w ∷ ws) =
+    if is_numeral w then or_fault (test (digits_value 10 w)) place (read_by_form (rest (digits_value 10 w)) (place + 1) ws) else Err (Syntax place)
+read_by_form (End m) place [] = Ok m
+read_by_form (End m) place (w ∷ ws) = Err (Syntax place)
 
 -- a number from `least` to `most`
 abbrev pub between : ℕ → ℕ → Test
@@ -56,18 +56,18 @@ abbrev pub class_number : List Numbers → Test
 class_number classes n = if nat_lt n (length classes) then None else Some Number
 
 -- a node for which the class from node a is not yet given
-abbrev pub new_target : Known → ℕ → Test
-new_target m a n = if nat_le n node_limit then (if is_some (m.told a n) then Some Repeat else None) else Some Number
+abbrev pub new_target : MachineModel → ℕ → Test
+new_target m a n = if nat_le n node_limit then (if is_some (m.pair_classes a n) then Some Repeat else None) else Some Number
 
 -- the class from node a to node b is given
-abbrev pub telling : (ℕ → ℕ → Option ℕ) → ℕ → ℕ → ℕ → ℕ → ℕ → Option ℕ
-telling told a b class x y = if (x == a) && (y == b) then Some class else told x y
+abbrev pub with_pair_class : (ℕ → ℕ → Option ℕ) → ℕ → ℕ → ℕ → ℕ → ℕ → Option ℕ
+with_pair_class pair_classes a b class x y = if (x == a) && (y == b) then Some class else pair_classes x y
 
 -- k triples: a node, another node, and the class from the first to the second
-unfoldable pub triples : ℕ → Known → Form
+unfoldable pub triples : ℕ → MachineModel → Form
 triples zero m = End m
 triples (suc k) m =
-    Value (between 0 node_limit) (λ a. Value (new_target m a) (λ b. Value (class_number m.classes) (λ class. triples k (machine_with m.classes m.inside m.usual m.nodes (telling m.told a b class)))))
+    Value (between 0 node_limit) (λ a. Value (new_target m a) (λ b. Value (class_number m.classes) (λ class. triples k (machine_with m.classes m.inside m.usual m.nodes (with_pair_class m.pair_classes a b class)))))
 
 abbrev pub triples_part : List Numbers → ℕ → ℕ → List ℕ → Form
 triples_part classes inside usual nodes =
@@ -102,5 +102,5 @@ abbrev pub machine_form : Form
 machine_form = Fixed (codes "classes") (Value (between 1 class_limit) (λ k. classes_part k []))
 
 -- the machine of a text, or the fault of the first of its words that fails
-unfoldable pub machine : List ℕ → Result Known MachineFault
-machine text = said machine_form 0 (words text)
+unfoldable pub machine : List ℕ → Result MachineModel MachineFault
+machine text = read_by_form machine_form 0 (words text)

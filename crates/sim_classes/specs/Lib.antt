@@ -4,7 +4,7 @@ pub mod Machine
 pub mod Form
 -- What only the code keeps.
 pub mod Parts
-pub mod Known
+pub mod MachineModels
 pub mod Left
 pub mod Rows
 pub mod Bounds

@@ -1,7 +1,7 @@
 //! The laws of machines. The function does nothing: a proof cites a law by a call.
 ghost use Rattle.std.specs.Prelude.{◌≡◌};
 ghost use Rattle.sim_classes.specs.Limits.{class_limit, pair_limit, node_limit};
-ghost use Rattle.sim_classes.specs.Laws.{ClassesAreThere, AlikeIsLogGops, OwnIsInside, OneNodeIsInside, SaidIsWhole};
+ghost use Rattle.sim_classes.specs.Laws.{ClassesAreThere, AlikeIsLogGops, OwnIsInside, OneNodeIsInside, ReadIsWhole};
 
 use crate::machine::{MAX_CLASSES, MAX_NODE, MAX_PAIRS};
 
@@ -20,7 +20,7 @@ pub fn laws_of_machines()
     ensures alike { AlikeIsLogGops }
     ensures own { OwnIsInside }
     ensures one_node { OneNodeIsInside }
-    ensures whole { SaidIsWhole }
+    ensures whole { ReadIsWhole }
     ensures classes { MAX_CLASSES ≡ class_limit }
     ensures pairs { MAX_PAIRS ≡ pair_limit }
     ensures node { MAX_NODE ≡ node_limit }

@@ -9,8 +9,8 @@ mod fault;
 mod laws;
 mod machine;
 mod messages;
+mod pair_classes;
 mod reading;
-mod told;
 mod words;
 
 pub use fault::MachineFault;

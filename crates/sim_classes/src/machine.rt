@@ -1,8 +1,8 @@
 //! Machines.
 ghost use Rattle.std.specs.Prelude.{◌≡◌, ◌≤◌, length};
-ghost use Rattle.sim_classes.specs.Parts.{known_of, IsWhole};
+ghost use Rattle.sim_classes.specs.Parts.{machine_of_parts, IsWhole};
 
-use crate::told::Told;
+use crate::pair_classes::PairClasses;
 use sim_params::Params;
 
 /// The most classes of a machine.
@@ -22,7 +22,7 @@ pub struct Machine {
     pub(crate) inside: u32,
     pub(crate) usual: u32,
     pub(crate) nodes: Vec<u32>,
-    pub(crate) told: Told,
+    pub(crate) pair_classes: PairClasses,
     pub(crate) ghost few: { length nodes.items ≤ 65536 },
-    pub(crate) ghost whole: { IsWhole (known_of classes.items inside usual nodes.items told) },
+    pub(crate) ghost whole: { IsWhole (machine_of_parts classes.items inside usual nodes.items pair_classes) },
 }

@@ -3,7 +3,7 @@ ghost use Rattle.std.specs.Prelude.{ℕ, ◌≡◌, ◌≢◌, ◌<◌, length, 
 ghost use Rattle.sim_params.specs.Costs.{log_gops};
 ghost use Rattle.sim_params.specs.Numbers.{numbers};
 ghost use Rattle.sim_classes.specs.Machine.{class_of, class_between, numbers_of, costs_between};
-ghost use Rattle.sim_classes.specs.Known.{known};
+ghost use Rattle.sim_classes.specs.MachineModels.{machine_model};
 
 use crate::machine::Machine;
 use sim_params::{Costs, LogGops, Params, Spans};
@@ -11,7 +11,7 @@ use sim_params::{Costs, LogGops, Params, Spans};
 impl Machine {
     /// Returns the number of ranks that have a node.
     pub fn ranks(&self) -> u32
-        ensures { result ≡ length (known self.now).nodes }
+        ensures { result ≡ length (machine_model self.now).nodes }
     {
         self.nodes.len() as u32
     }
@@ -19,8 +19,8 @@ impl Machine {
     /// Returns the number of the class of a message, by sending and receiving rank. A rank that the machine does not
     /// have is on its own node.
     pub fn class_of(&self, from: u32, to: u32) -> u32
-        ensures class { result ≡ class_of (known self.now) from to }
-        ensures within { result < length (known self.now).classes }
+        ensures class { result ≡ class_of (machine_model self.now) from to }
+        ensures within { result < length (machine_model self.now).classes }
     {
         match self.nodes.get(from as usize) {
             Some(a) => match self.nodes.get(to as usize) {
@@ -33,21 +33,21 @@ impl Machine {
 
     // The class of a message, one of whose ranks is on its own node.
     fn class_apart(&self, one: bool) -> u32
-        ensures class { result ≡ (if one then (known self.now).inside else (known self.now).usual) }
-        ensures within { result < length (known self.now).classes }
+        ensures class { result ≡ (if one then (machine_model self.now).inside else (machine_model self.now).usual) }
+        ensures within { result < length (machine_model self.now).classes }
     {
         if one { self.inside } else { self.usual }
     }
 
     // The class between two nodes.
     fn class_between(&self, a: u32, b: u32) -> u32
-        ensures class { result ≡ class_between (known self.now) a b }
-        ensures within { result < length (known self.now).classes }
+        ensures class { result ≡ class_between (machine_model self.now) a b }
+        ensures within { result < length (machine_model self.now).classes }
     {
         if a == b {
             return self.inside;
         }
-        match self.told.class(a, b) {
+        match self.pair_classes.class(a, b) {
             Some(class) => class,
             None => self.usual,
         }
@@ -55,10 +55,10 @@ impl Machine {
 
     /// Returns the parameters that all classes have, or `None` if two classes differ.
     pub fn uniform(&self) -> Option<Params>
-        ensures same { IfSome result (λ p. (class : ℕ) → class < length (known self.now).classes
-            → numbers_of (known self.now) class ≡ numbers p) }
-        ensures differ { IfNone result ((i : ℕ) × (j : ℕ) × (i < length (known self.now).classes)
-            × (j < length (known self.now).classes) × (numbers_of (known self.now) i ≢ numbers_of (known self.now) j)) }
+        ensures same { IfSome result (λ p. (class : ℕ) → class < length (machine_model self.now).classes
+            → numbers_of (machine_model self.now) class ≡ numbers p) }
+        ensures differ { IfNone result ((i : ℕ) × (j : ℕ) × (i < length (machine_model self.now).classes)
+            × (j < length (machine_model self.now).classes) × (numbers_of (machine_model self.now) i ≢ numbers_of (machine_model self.now) j)) }
     {
         let first = self.classes[0];
         for params in &self.classes {
@@ -73,7 +73,7 @@ impl Machine {
     // that they use.
     #[inline(always)]
     fn costs(&self, from: u32, to: u32) -> LogGops
-        ensures { log_gops (numbers result.params) ≡ costs_between (known self.now) from to }
+        ensures { log_gops (numbers result.params) ≡ costs_between (machine_model self.now) from to }
     {
         LogGops {
             params: self.classes[self.class_of(from, to) as usize],
@@ -85,10 +85,10 @@ impl Costs for Machine {
     ghost use Rattle.std.specs.Prelude.{◌≡◌, ◌<◌, ◌^◌};
     ghost use Rattle.sim_params.specs.Costs.{CostModel};
     ghost use Rattle.sim_classes.specs.Machine.{costs_of};
-    ghost use Rattle.sim_classes.specs.Known.{known};
+    ghost use Rattle.sim_classes.specs.MachineModels.{machine_model};
     ghost use Rattle.sim_classes.specs.Bounds.{machine_bounded};
 
-    ghost model = { λ m. costs_of (known m) };
+    ghost model = { λ m. costs_of (machine_model m) };
 
     ghost bounded = { λ m. machine_bounded m };
 

@@ -1,8 +1,8 @@
 //! The words of a machine text, one after another.
 ghost use Rattle.std.specs.Prelude.{ℕ, List, Err, ◌≡◌, ◌≢◌, ◌+◌, ◌<◌, ◌≤◌, ◌^◌, [], ◌∷◌, length, not, IfOk, IfErr, IfSome, IfNone};
 ghost use Rattle.std.specs.List.{prefix_len};
-ghost use Rattle.sim_classes.specs.Form.{Form, Fixed, Value, End, Test, words, is_blank, or_fault, said, between, class_number};
-ghost use Rattle.sim_classes.specs.Machine.{Known};
+ghost use Rattle.sim_classes.specs.Form.{Form, Fixed, Value, End, Test, words, is_blank, or_fault, read_by_form, between, class_number};
+ghost use Rattle.sim_classes.specs.Machine.{MachineModel};
 ghost use Rattle.sim_params.specs.Costs.{Numbers};
 
 use crate::fault::MachineFault;
@@ -87,9 +87,9 @@ impl<'a> Words<'a> {
     /// Takes a fixed word.
     pub fn fixed(&mut self, word: &str) -> Result<(), MachineFault>
         ensures next { IfOk result (λ _. (rest : Form)
-            → said (Fixed word.now rest) self.old.place self.old.words ≡ said rest self.new.place self.new.words) }
+            → read_by_form (Fixed word.now rest) self.old.place self.old.words ≡ read_by_form rest self.new.place self.new.words) }
         ensures fault { IfErr result (λ fault. (rest : Form)
-            → said (Fixed word.now rest) self.old.place self.old.words ≡ Err fault) }
+            → read_by_form (Fixed word.now rest) self.old.place self.old.words ≡ Err fault) }
     {
         let at = self.place;
         match self.take() {
@@ -107,10 +107,10 @@ impl<'a> Words<'a> {
     /// Takes a number, and returns its place and its value.
     pub fn number(&mut self) -> Result<(u64, u128), MachineFault>
         ensures next { IfOk result (λ p. (test : Test) (rest : ℕ → Form)
-            → said (Value test rest) self.old.place self.old.words
-            ≡ or_fault (test p.1) p.0 (said (rest p.1) self.new.place self.new.words)) }
+            → read_by_form (Value test rest) self.old.place self.old.words
+            ≡ or_fault (test p.1) p.0 (read_by_form (rest p.1) self.new.place self.new.words)) }
         ensures fault { IfErr result (λ fault. (test : Test) (rest : ℕ → Form)
-            → said (Value test rest) self.old.place self.old.words ≡ Err fault) }
+            → read_by_form (Value test rest) self.old.place self.old.words ≡ Err fault) }
     {
         let at = self.place;
         match self.take() {
@@ -125,10 +125,10 @@ impl<'a> Words<'a> {
     /// Takes a number from `least` to `most`.
     pub fn number_from(&mut self, least: u64, most: u64) -> Result<u64, MachineFault>
         ensures next { IfOk result (λ n. (rest : ℕ → Form)
-            → said (Value (between least most) rest) self.old.place self.old.words ≡ said (rest n) self.new.place self.new.words) }
+            → read_by_form (Value (between least most) rest) self.old.place self.old.words ≡ read_by_form (rest n) self.new.place self.new.words) }
         ensures within { IfOk result (λ n. (least ≤ n) × (n ≤ most)) }
         ensures fault { IfErr result (λ fault. (rest : ℕ → Form)
-            → said (Value (between least most) rest) self.old.place self.old.words ≡ Err fault) }
+            → read_by_form (Value (between least most) rest) self.old.place self.old.words ≡ Err fault) }
     {
         let (at, value) = self.number()?;
         if value < u128::from(least) || u128::from(most) < value {
@@ -140,10 +140,10 @@ impl<'a> Words<'a> {
     /// Takes the number of a class, of which there are `count`.
     pub fn class_number(&mut self, count: u64) -> Result<u64, MachineFault>
         ensures next { IfOk result (λ n. (classes : List Numbers) (rest : ℕ → Form) → length classes ≡ count
-            → said (Value (class_number classes) rest) self.old.place self.old.words ≡ said (rest n) self.new.place self.new.words) }
+            → read_by_form (Value (class_number classes) rest) self.old.place self.old.words ≡ read_by_form (rest n) self.new.place self.new.words) }
         ensures within { IfOk result (λ n. n < count) }
         ensures fault { IfErr result (λ fault. (classes : List Numbers) (rest : ℕ → Form) → length classes ≡ count
-            → said (Value (class_number classes) rest) self.old.place self.old.words ≡ Err fault) }
+            → read_by_form (Value (class_number classes) rest) self.old.place self.old.words ≡ Err fault) }
     {
         let (at, value) = self.number()?;
         if value >= u128::from(count) {
@@ -155,7 +155,7 @@ impl<'a> Words<'a> {
     /// Checks that no word is left.
     pub fn end(&mut self) -> Result<(), MachineFault>
         ensures next { IfOk result (λ _. self.old.words ≡ []) }
-        ensures fault { IfErr result (λ fault. (m : Known) → said (End m) self.old.place self.old.words ≡ Err fault) }
+        ensures fault { IfErr result (λ fault. (m : MachineModel) → read_by_form (End m) self.old.place self.old.words ≡ Err fault) }
     {
         let at = self.place;
         match self.take() {

@@ -1,6 +1,6 @@
 use Rattle.std.proofs.Common.{◌<◌, length, sym, ap, ◌∙◌, arith}
 use Rattle.sim_params.specs.Numbers.{numbers}
-use Rattle.sim_classes.proofs.Alike.{alike_same, not_alike, numbers_at, not_true, not_false, next_alike, mapped_length}
+use Rattle.sim_classes.proofs.Alike.{alike_same, not_alike, numbers_at, negation_true, negation_false, next_alike, mapped_length}
 use Rattle.sim_classes.proofs.machine.Machine.uniform.Goals as goal
 
 pub returns-then-ne-clause-differ : goal.returns-then-ne-clause-differ
@@ -9,7 +9,7 @@ returns-then-ne-clause-differ c =
     let some : 0 < length items = omega (arith, mapped_length items, c.args.self.now.whole.inside) in
     let low : c.loop-params.params-index < length items = rw c.deref-params-items.ensures.value at c.loop-params-test.true in
     let here = rw c.deref-params-items.ensures.value at c.params-item.is in
-    let other = not_alike (numbers c.params-item.result) (numbers c.index.result.now) (not_true _ (sym c.ne.ensures ∙ c.if-ne.true)) in (
+    let other = not_alike (numbers c.params-item.result) (numbers c.index.result.now) (negation_true _ (sym c.ne.ensures ∙ c.if-ne.true)) in (
       c.loop-params.params-index,
       0,
       omega (arith, mapped_length items, low),
@@ -22,7 +22,7 @@ loop-params-preserved c =
     let items = c.args.self.now.classes.items in
     let low : c.loop-params.params-index < length items = rw c.deref-params-items.ensures.value at c.loop-params-test.true in
     let here = rw c.deref-params-items.ensures.value at c.params-item.is in
-    let one = alike_same (numbers c.params-item.result) (numbers c.index.result.now) (not_false _ (sym c.ne.ensures ∙ c.if-ne.false)) in
+    let one = alike_same (numbers c.params-item.result) (numbers c.index.result.now) (negation_false _ (sym c.ne.ensures ∙ c.if-ne.false)) in
     next_alike items c.loop-params.params-index c.index.result.now (numbers c.index.result.now) c.loop-params.invariant
     (sym (numbers_at items c.loop-params.params-index c.index.result.now low) ∙ numbers_at items c.loop-params.params-index c.params-item.result low ∙ ap numbers (sym here) ∙ one)
 

@@ -1,5 +1,5 @@
 use Rattle.std.proofs.Common.{◌≡◌, ◌++◌}
-use Rattle.sim_classes.proofs.told.Told.of.Given as goal
+use Rattle.sim_classes.proofs.pair_classes.PairClasses.of.Given as goal
 
 -- the entries so far, followed by the remaining ones
 abbrev pub invariant-loop-entry : goal.invariant-loop-entry

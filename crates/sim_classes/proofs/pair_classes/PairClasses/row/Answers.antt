@@ -1,7 +1,7 @@
 use Rattle.std.proofs.Common.{length, ◌+◌, arith, refl}
 use Rattle.std.proofs.lemmas.Option.{slice_get_read}
 use Rattle.sim_classes.proofs.RowLemmas.{row_between, row_of_all}
-use Rattle.sim_classes.proofs.told.Told.row.Goals as goal
+use Rattle.sim_classes.proofs.pair_classes.PairClasses.row.Goals as goal
 
 pub returns-then-node-len : goal.returns-then-node-len
 returns-then-node-len c =

@@ -3,7 +3,7 @@ use Rattle.std.proofs.lemmas.Option.{none-some}
 use Rattle.std.proofs.lemmas.List.Sorted.{IsPartitionPoint-from_clause, IsPartitionedBy-ltb}
 use Rattle.sim_classes.specs.Rows.{node_of, AreStarts, IsStart}
 use Rattle.sim_classes.proofs.RowLemmas.{starts_more, start_at, nodes_rise}
-use Rattle.sim_classes.proofs.told.starts_of.Goals as goal
+use Rattle.sim_classes.proofs.pair_classes.starts_of.Goals as goal
 
 pub loop-node-init : goal.loop-node-init
 loop-node-init c = (

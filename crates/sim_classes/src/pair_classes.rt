@@ -4,7 +4,7 @@ ghost use Rattle.std.specs.Ordering.{nat_cmp};
 ghost use Rattle.std.specs.List.Sorted.{IsStrictlySortedBy};
 ghost use Rattle.std.specs.Map.{keys_of, lookup};
 ghost use Rattle.std.specs.BTreeMap.{is_at};
-ghost use Rattle.sim_classes.specs.Parts.{pair_key, told_by};
+ghost use Rattle.sim_classes.specs.Parts.{pair_key, pair_class_by};
 ghost use Rattle.sim_classes.specs.Rows.{AreStarts, IsRow};
 
 use std::alloc::{AllocError, Global};
@@ -14,13 +14,13 @@ use std::marker::Model;
 /// The classes given for pairs of nodes, each at the key of its pair, in the order of the keys. Contracts see this
 /// list.
 #[derive(Drop)]
-pub(crate) struct Told {
+pub(crate) struct PairClasses {
     entries: Vec<(u64, u32)>,
     // the start of the entries from each node, and last the end of all
     starts: Vec<usize>,
 }
 
-impl Model for Told {
+impl Model for PairClasses {
     ghost use Rattle.std.specs.Prelude.{List, ℕ};
 
     ghost Value = { List (ℕ × ℕ) };
@@ -55,17 +55,17 @@ fn starts_of(alloc: Global, entries: &[(u64, u32)]) -> Result<Vec<usize>, AllocE
     Ok(starts)
 }
 
-impl Told {
+impl PairClasses {
     /// Builds the table of a map. `Err` means out of memory.
-    pub(crate) fn of(alloc: Global, map: BTreeMap<u64, u32>) -> Result<Told, AllocError>
-        ensures { IfOk result (λ told. told ≡ map.entries) }
+    pub(crate) fn of(alloc: Global, map: BTreeMap<u64, u32>) -> Result<PairClasses, AllocError>
+        ensures { IfOk result (λ pair_classes. pair_classes ≡ map.entries) }
     {
         let mut entries = Vec::with_capacity(alloc, map.len())?;
         for entry in map {
             entries.push(entry)?;
         }
         let starts = starts_of(alloc, &entries)?;
-        Ok(Told { entries, starts })
+        Ok(PairClasses { entries, starts })
     }
 
     // Returns the places of all entries from a node: the first, and the one after the last.
@@ -104,7 +104,7 @@ impl Told {
 
     // Returns the class given for two nodes by binary search in the row of the first.
     fn search(&self, a: u32, b: u32) -> Option<u32>
-        ensures { result ≡ told_by self.now a b }
+        ensures { result ≡ pair_class_by self.now a b }
     {
         let (start, end) = self.row(a);
         let row = &self.entries[start..end];
@@ -117,7 +117,7 @@ impl Told {
     /// Returns the class given for two nodes, if any. It is found at once if the first node has entries for all nodes
     /// from its first entry on, with or without itself.
     pub(crate) fn class(&self, a: u32, b: u32) -> Option<u32>
-        ensures { result ≡ told_by self.now a b }
+        ensures { result ≡ pair_class_by self.now a b }
     {
         let key = pair_key(a, b);
         let guess = self.guess(a, b);
