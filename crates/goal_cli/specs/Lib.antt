@@ -18,7 +18,7 @@ pub use Rattle.goal_binary.specs.File
 pub use Rattle.goal_blocks.specs.Collectives
 pub use Rattle.goal_graph.specs.Schedule
 pub use Rattle.goal_input.specs.Input
-pub use Rattle.goal_input.specs.Unread
+pub use Rattle.goal_input.specs.InputFaults
 pub use Rattle.goal_print.specs.Canonical
 pub use Rattle.goal_views.specs.Views
 pub use Rattle.goal_words.specs.Words

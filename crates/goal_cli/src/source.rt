@@ -17,7 +17,7 @@ use goal_base::{Host, ReadAll, read_all};
 use goal_blocks::Collective;
 use goal_collectives::{GenFault, generate, probe_plan};
 use goal_graph::Sched;
-use goal_input::{Unread, read_schedule};
+use goal_input::{InputFault, read_schedule};
 use goal_limits::{MAX_BYTES, MAX_ROUNDS, NoMemory};
 use goal_rooted::generate_rooted;
 use goal_words::{Costing, Sentence, Source};
@@ -65,7 +65,7 @@ fn draw(alloc: Global, rounds: u32, seed: u64) -> Result<Sched, Answer>
 // Reads the schedule in the file of that name.
 fn read_input<H: Host>(alloc: Global, host: &mut H, name: &str) -> Result<Sched, Answer>
     ensures read { IfOk result (λ sched. ForFile (H.state host.old) name.now (λ input. IsReadAs input sched)) }
-    ensures unread { IfErr result (λ answer. (c : Command) → input_of c ≡ Some name.now
+    ensures input_fault { IfErr result (λ answer. (c : Command) → input_of c ≡ Some name.now
         → IsUnmade (H.state host.old) (H.state host.new) c answer) }
     ensures counts { OnOk result (SameReadCounts (H.state host.old) (H.state host.new)) }
     ensures kept { KeepsFiles (H.state host.old) (H.state host.new) }
@@ -74,11 +74,11 @@ fn read_input<H: Host>(alloc: Global, host: &mut H, name: &str) -> Result<Sched,
 {
     match read_schedule(alloc, host, name) {
         Ok(sched) => Ok(sched),
-        Err(Unread::Fault) => Err(Answer::ReadFault),
-        Err(Unread::TooLong) => Err(Answer::Refused(Refusal::TooLong)),
-        Err(Unread::Text(fault)) => Err(Answer::Refused(Refusal::Text(fault))),
-        Err(Unread::File(fault)) => Err(Answer::Refused(Refusal::File(fault))),
-        Err(Unread::NoMemory) => Err(Answer::NoMemory),
+        Err(InputFault::Fault) => Err(Answer::ReadFault),
+        Err(InputFault::TooLong) => Err(Answer::Refused(Refusal::TooLong)),
+        Err(InputFault::Text(fault)) => Err(Answer::Refused(Refusal::Text(fault))),
+        Err(InputFault::File(fault)) => Err(Answer::Refused(Refusal::File(fault))),
+        Err(InputFault::NoMemory) => Err(Answer::NoMemory),
     }
 }
 

@@ -5,12 +5,12 @@ use Rattle.goal_base.specs.Device.{HostState}
 use Rattle.goal_base.specs.DeviceCalls.{Takes}
 use Rattle.goal_parser.specs.declared.faults.TextFault.TheVariants as text
 use Rattle.goal_binary.specs.declared.fault.FileFault.TheVariants as file
-use Rattle.goal_input.specs.declared.unread.Unread.{Unread}
-use Rattle.goal_input.specs.declared.unread.Unread.TheVariants as unread
+use Rattle.goal_input.specs.declared.input_fault.InputFault.{InputFault}
+use Rattle.goal_input.specs.declared.input_fault.InputFault.TheVariants as input_fault
 use Rattle.goal_input.specs.declared.intake.Intake.{Intake}
 use Rattle.goal_input.specs.declared.intake.Intake.TheVariants as intake
 use Rattle.goal_input.specs.Input.{IsTextFault, IsFaultOfFile}
-use Rattle.goal_input.specs.Unread.{IsFaultIn}
+use Rattle.goal_input.specs.InputFaults.{IsFaultIn}
 use Rattle.goal_input.specs.Follows.{Follows}
 
 -- the input has a first byte, and `compiled` says whether it is that of a compiled file
@@ -35,10 +35,10 @@ pub record HasTaken (old new : HostState) (kept : Intake) (count : ℕ) : Type 0
   pub stands : Stands kept input
   pub takes : Takes old new input
 
--- the rest of the open input gives no schedule for this reason; `IsUnread` says the same of a file
-abbrev pub IsUnreadRest : HostState → Unread → Type 0
-IsUnreadRest host unread.Fault = Unit {0}
-IsUnreadRest host unread.TooLong = host.tells ≡ true → IsFaultIn host.rest unread.TooLong
-IsUnreadRest host (unread.Text fault) = (fault ≢ text.NoMemory) × (host.tells ≡ true → IsTextFault host.rest fault)
-IsUnreadRest host (unread.File fault) = (fault ≢ file.NoMemory) × (host.tells ≡ true → IsFaultOfFile host.rest fault)
-IsUnreadRest host unread.NoMemory = Unit {0}
+-- the rest of the open input gives no schedule for this reason; `IsInputFault` says the same of a file
+abbrev pub IsRestFault : HostState → InputFault → Type 0
+IsRestFault host input_fault.Fault = Unit {0}
+IsRestFault host input_fault.TooLong = host.tells ≡ true → IsFaultIn host.rest input_fault.TooLong
+IsRestFault host (input_fault.Text fault) = (fault ≢ text.NoMemory) × (host.tells ≡ true → IsTextFault host.rest fault)
+IsRestFault host (input_fault.File fault) = (fault ≢ file.NoMemory) × (host.tells ≡ true → IsFaultOfFile host.rest fault)
+IsRestFault host input_fault.NoMemory = Unit {0}

@@ -1,7 +1,7 @@
 -- What a reader must believe.
 pub mod Input
 -- What only the code keeps.
-pub mod Unread
+pub mod InputFaults
 pub mod Follows
 pub mod Intake
 -- What the clauses cite of lower crates.

@@ -2,10 +2,10 @@
 ghost use Rattle.std.specs.Prelude.{◌≡◌, ◌<◌, ◌≤◌, ℕ, ◌+◌, ◌^◌, List, [], ◌++◌, length, true, false, IfOk, IfErr, OnOk};
 ghost use Rattle.goal_limits.specs.declared.limits.TheConstants.{MAX_INPUT};
 ghost use Rattle.goal_input.specs.Input.{is_compiled, IsReadAs};
-ghost use Rattle.goal_input.specs.Unread.{IsFaultIn};
+ghost use Rattle.goal_input.specs.InputFaults.{IsFaultIn};
 ghost use Rattle.goal_input.specs.Follows.{Follows};
 
-use crate::unread::Unread;
+use crate::input_fault::InputFault;
 use goal_binary::{FileFault, MAGIC, decode};
 use goal_graph::Sched;
 use goal_limits::NoMemory;
@@ -47,26 +47,26 @@ fn feed(reader: &mut TextReader, piece: &[u8]) -> Result<(), NoMemory>
 }
 
 /// Returns the schedule of a text, which ends here.
-fn finish_text(reader: TextReader) -> Result<Sched, Unread>
+fn finish_text(reader: TextReader) -> Result<Sched, InputFault>
     ensures read { IfOk result (λ sched. (input : List ℕ) → length input ≤ MAX_INPUT → is_compiled input ≡ false → Follows reader input → IsReadAs input sched) }
-    ensures unread { IfErr result (λ unread. (input : List ℕ) → length input ≤ MAX_INPUT → is_compiled input ≡ false → Follows reader input → IsFaultIn input unread) }
+    ensures input_fault { IfErr result (λ input_fault. (input : List ℕ) → length input ≤ MAX_INPUT → is_compiled input ≡ false → Follows reader input → IsFaultIn input input_fault) }
 {
     match reader.finish() {
         Ok(sched) => Ok(sched),
-        Err(TextFault::NoMemory) => Err(Unread::NoMemory),
-        Err(fault) => Err(Unread::Text(fault)),
+        Err(TextFault::NoMemory) => Err(InputFault::NoMemory),
+        Err(fault) => Err(InputFault::Text(fault)),
     }
 }
 
 /// Returns the schedule of a compiled file.
-fn finish_file(alloc: Global, input: &[u8]) -> Result<Sched, Unread>
+fn finish_file(alloc: Global, input: &[u8]) -> Result<Sched, InputFault>
     ensures read { IfOk result (λ sched. length input.now ≤ MAX_INPUT → is_compiled input.now ≡ true → IsReadAs input.now sched) }
-    ensures unread { IfErr result (λ unread. length input.now ≤ MAX_INPUT → is_compiled input.now ≡ true → IsFaultIn input.now unread) }
+    ensures input_fault { IfErr result (λ input_fault. length input.now ≤ MAX_INPUT → is_compiled input.now ≡ true → IsFaultIn input.now input_fault) }
 {
     match decode(alloc, input) {
         Ok(sched) => Ok(sched),
-        Err(FileFault::NoMemory) => Err(Unread::NoMemory),
-        Err(fault) => Err(Unread::File(fault)),
+        Err(FileFault::NoMemory) => Err(InputFault::NoMemory),
+        Err(fault) => Err(InputFault::File(fault)),
     }
 }
 
@@ -109,9 +109,9 @@ impl Intake {
     }
 
     /// Ends the input, and returns its schedule or why it gives none.
-    pub fn finish(self, alloc: Global) -> Result<Sched, Unread>
+    pub fn finish(self, alloc: Global) -> Result<Sched, InputFault>
         ensures read { IfOk result (λ sched. (input : List ℕ) → length input ≤ MAX_INPUT → Stands self input → IsReadAs input sched) }
-        ensures unread { IfErr result (λ unread. (input : List ℕ) → length input ≤ MAX_INPUT → Stands self input → IsFaultIn input unread) }
+        ensures input_fault { IfErr result (λ input_fault. (input : List ℕ) → length input ≤ MAX_INPUT → Stands self input → IsFaultIn input input_fault) }
     {
         match self {
             Intake::Nothing => finish_text(TextReader::new(alloc)),

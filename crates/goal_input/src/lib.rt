@@ -1,13 +1,13 @@
 //! Reading a schedule from a file of a host: a text, or a compiled file.
 //!
-//! `specs/Input` defines the meaning of the bytes of an input, and `specs/Unread` why a file gives no schedule.
+//! `specs/Input` defines the meaning of the bytes of an input, and `specs/InputFault` why a file gives no schedule.
 #![tactic(auto)]
 
+mod input_fault;
 mod intake;
 mod laws;
 mod read;
-mod unread;
 
+pub use input_fault::InputFault;
 pub use laws::laws_of_inputs;
 pub use read::read_schedule;
-pub use unread::Unread;

@@ -4,11 +4,11 @@ ghost use Rattle.goal_limits.specs.declared.limits.TheConstants.{MAX_INPUT};
 ghost use Rattle.goal_base.specs.Device.{Rose, SameRest, ReadsAtMost, ReadFaulted};
 ghost use Rattle.goal_base.specs.DeviceCalls.{Takes};
 ghost use Rattle.goal_input.specs.Input.{IsReadAs, ForFile};
-ghost use Rattle.goal_input.specs.Intake.{IsUnreadRest};
-ghost use Rattle.goal_input.specs.Unread.{IsUnread, ReadsSchedule};
+ghost use Rattle.goal_input.specs.Intake.{IsRestFault};
+ghost use Rattle.goal_input.specs.InputFaults.{IsInputFault, ReadsSchedule};
 
+use crate::input_fault::InputFault;
 use crate::intake::Intake;
-use crate::unread::Unread;
 use goal_base::{Host, IoFault, OpenFault};
 use goal_graph::Sched;
 use goal_limits::MAX_INPUT;
@@ -25,12 +25,12 @@ const PIECE: usize = 65_536;
 ///
 /// The first of these that applies: `Fault` if the host failed, `TooLong`, or the first fault of the text or the
 /// compiled file. So a file with such a fault was read to its end. `NoMemory` may come at any time.
-pub fn read_schedule<H: Host>(alloc: Global, host: &mut H, name: &str) -> Result<Sched, Unread>
+pub fn read_schedule<H: Host>(alloc: Global, host: &mut H, name: &str) -> Result<Sched, InputFault>
     // The schedule is that of the file.
     ensures read { IfOk result (λ sched. ForFile (H.state host.old) name.now (λ input. IsReadAs input sched)) }
 
     // The file is too long, or has this fault.
-    ensures unread { IfErr result (λ unread. IsUnread (H.state host.old) name.now unread) }
+    ensures input_fault { IfErr result (λ input_fault. IsInputFault (H.state host.old) name.now input_fault) }
 
     // `Fault` comes only where the read count rose, or the absent count rose and no known file has that name. Any other
     // result leaves both counts unchanged. No file and no output changes.
@@ -43,18 +43,18 @@ pub fn read_schedule<H: Host>(alloc: Global, host: &mut H, name: &str) -> Result
 {
     match host.open(name) {
         Ok(()) => read_rest(alloc, host),
-        Err(OpenFault::NoMemory) => Err(Unread::NoMemory),
-        Err(OpenFault::Absent) => Err(Unread::Fault),
-        Err(OpenFault::Failed) => Err(Unread::Fault),
+        Err(OpenFault::NoMemory) => Err(InputFault::NoMemory),
+        Err(OpenFault::Absent) => Err(InputFault::Fault),
+        Err(OpenFault::Failed) => Err(InputFault::Fault),
     }
 }
 
 // Reads the open input to its end, or to 2^27+1 bytes, and returns its schedule.
-fn read_rest<H: Host>(alloc: Global, host: &mut H) -> Result<Sched, Unread>
+fn read_rest<H: Host>(alloc: Global, host: &mut H) -> Result<Sched, InputFault>
     requires open { (H.state host.old).reading ≡ true }
 
     ensures read { IfOk result (λ sched. (H.state host.old).tells ≡ true → IsReadAs (H.state host.old).rest sched) }
-    ensures unread { IfErr result (λ unread. IsUnreadRest (H.state host.old) unread) }
+    ensures input_fault { IfErr result (λ input_fault. IsRestFault (H.state host.old) input_fault) }
     ensures call { ReadsSchedule result (H.state host.old) (H.state host.new)
         (Rose (H.state host.old).stops (H.state host.old).read_count (H.state host.new).read_count) }
     ensures taken { (bytes : List ℕ) × (length bytes ≤ MAX_INPUT + 1)
@@ -62,17 +62,17 @@ fn read_rest<H: Host>(alloc: Global, host: &mut H) -> Result<Sched, Unread>
 {
     match vec![in alloc; 0u8; PIECE] {
         Ok(mut buffer) => read_pieces(alloc, host, buffer.as_mut_slice()),
-        Err(_) => Err(Unread::NoMemory),
+        Err(_) => Err(InputFault::NoMemory),
     }
 }
 
 // The same, through a buffer of one piece.
-fn read_pieces<H: Host>(alloc: Global, host: &mut H, buffer: &mut [u8]) -> Result<Sched, Unread>
+fn read_pieces<H: Host>(alloc: Global, host: &mut H, buffer: &mut [u8]) -> Result<Sched, InputFault>
     requires open { (H.state host.old).reading ≡ true }
     requires piece { length buffer.old ≡ PIECE }
 
     ensures read { IfOk result (λ sched. (H.state host.old).tells ≡ true → IsReadAs (H.state host.old).rest sched) }
-    ensures unread { IfErr result (λ unread. IsUnreadRest (H.state host.old) unread) }
+    ensures input_fault { IfErr result (λ input_fault. IsRestFault (H.state host.old) input_fault) }
     ensures call { ReadsSchedule result (H.state host.old) (H.state host.new)
         (Rose (H.state host.old).stops (H.state host.old).read_count (H.state host.new).read_count) }
     ensures taken { (bytes : List ℕ) × (length bytes ≤ MAX_INPUT + 1)
@@ -84,8 +84,8 @@ fn read_pieces<H: Host>(alloc: Global, host: &mut H, buffer: &mut [u8]) -> Resul
         let room = PIECE.min(MAX_INPUT + 1 - taken);
         let count = match host.read(&mut buffer[..room]) {
             Ok(count) => count,
-            Err(IoFault::Failed) => return Err(Unread::Fault),
-            Err(IoFault::NoMemory) => return Err(Unread::NoMemory),
+            Err(IoFault::Failed) => return Err(InputFault::Fault),
+            Err(IoFault::NoMemory) => return Err(InputFault::NoMemory),
         };
         if count == 0 {
             return intake.finish(alloc);
@@ -93,5 +93,5 @@ fn read_pieces<H: Host>(alloc: Global, host: &mut H, buffer: &mut [u8]) -> Resul
         intake = intake.take(alloc, &buffer[..count])?;
         taken += count;
     }
-    Err(Unread::TooLong)
+    Err(InputFault::TooLong)
 }

@@ -7,7 +7,7 @@ use crate::same::{same, same_list};
 use goal_base::MemHost;
 use goal_binary::FileFault;
 use goal_graph::PlanFault;
-use goal_input::{Unread, read_schedule};
+use goal_input::{InputFault, read_schedule};
 use goal_parser::TextFault;
 use goal_print::print_text;
 use std::alloc::Global;
@@ -25,7 +25,7 @@ const CYCLE: &[u8] = b"num_ranks 2 rank 1 { calc 5 l1: calc 5 l1 requires l1 }";
 #[derive(Clone, Copy)]
 struct Row<'a> {
     input: &'a [u8],
-    printed: Result<&'a [u8], Unread>,
+    printed: Result<&'a [u8], InputFault>,
 }
 
 const ROWS: [Row<'static>; 7] = [
@@ -39,23 +39,23 @@ const ROWS: [Row<'static>; 7] = [
     },
     Row {
         input: b"",
-        printed: Err(Unread::Text(TextFault::Syntax { at: 0 })),
+        printed: Err(InputFault::Text(TextFault::Syntax { at: 0 })),
     },
     Row {
         input: TWO_FAULTS,
-        printed: Err(Unread::Text(TextFault::Lex { at: 26 })),
+        printed: Err(InputFault::Text(TextFault::Lex { at: 26 })),
     },
     Row {
         input: REPEATED,
-        printed: Err(Unread::Text(TextFault::Repeat { at: 42 })),
+        printed: Err(InputFault::Text(TextFault::Repeat { at: 42 })),
     },
     Row {
         input: CYCLE,
-        printed: Err(Unread::Text(TextFault::Plan(PlanFault::Cycle { rank: 1, op: 1 }))),
+        printed: Err(InputFault::Text(TextFault::Plan(PlanFault::Cycle { rank: 1, op: 1 }))),
     },
     Row {
         input: b"\x89GOAL",
-        printed: Err(Unread::File(FileFault::Short { at: 5 })),
+        printed: Err(InputFault::File(FileFault::Short { at: 5 })),
     },
 ];
 
@@ -66,19 +66,23 @@ fn print_by(
     input: &[u8],
     most: usize,
     fails: &[u64],
-) -> Result<Result<Vec<u8>, Unread>, Fail>
+) -> Result<Result<Vec<u8>, InputFault>, Fail>
     requires { 0 < most }
 {
     let mut host = MemHost::new(alloc, most, fails)?;
     host.add("a", input)?;
     match read_schedule(alloc, &mut host, "a") {
         Ok(sched) => Ok(Ok(print_text(alloc, &sched)?)),
-        Err(unread) => Ok(Err(unread)),
+        Err(input_fault) => Ok(Err(input_fault)),
     }
 }
 
 // Checks what was printed, or why there is no schedule.
-fn is_printed(rt: &impl Abort, found: Result<Vec<u8>, Unread>, wanted: Result<&[u8], Unread>) {
+fn is_printed(
+    rt: &impl Abort,
+    found: Result<Vec<u8>, InputFault>,
+    wanted: Result<&[u8], InputFault>,
+) {
     match (found, wanted) {
         (Ok(found), Ok(wanted)) => same_list(rt, found.as_slice(), wanted),
         (found, wanted) => same(rt, &found.err(), &wanted.err()),
@@ -100,8 +104,8 @@ fn cut_at_each_place(rt: HostRuntime) -> Result<(), Fail> {
 #[test]
 fn failure_before_fault(rt: HostRuntime) -> Result<(), Fail> {
     let found = print_by(rt.alloc(), TWO_FAULTS, 1, &[40])?;
-    is_printed(&rt, found, Err(Unread::Fault));
+    is_printed(&rt, found, Err(InputFault::Fault));
     let found = print_by(rt.alloc(), TWO_FAULTS, 1, &[80])?;
-    is_printed(&rt, found, Err(Unread::Text(TextFault::Lex { at: 26 })));
+    is_printed(&rt, found, Err(InputFault::Text(TextFault::Lex { at: 26 })));
     Ok(())
 }

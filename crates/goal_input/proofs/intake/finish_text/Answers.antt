@@ -8,7 +8,7 @@ returns-in-Err c =
     let told : c.in-Err.fault ≢ text.NoMemory = search rules in
     record {
       read = tt;
-      unread = λ input short form follows. record {
+      input_fault = λ input short form follows. record {
         short = short;
         form = form;
         told = told;

@@ -76,7 +76,7 @@ returns-then-count-eq0-clause-call g c =
     record {
       counts = counts_at_end c.finish.result old now _ c.pieces.intake c.pieces.invariant.has.input
           (counts_then old was now c.pieces.invariant.counts record { read_count = c.in-Ok.ensures.call.count; absent_count = c.read.ensures.call.absent_count })
-          c.finish.ensures.unread (omega (arith, c.pieces.invariant.has.counted)) c.pieces.invariant.has.stands;
+          c.finish.ensures.input_fault (omega (arith, c.pieces.invariant.has.counted)) c.pieces.invariant.has.stands;
       kept = kept_then old was now c.pieces.invariant.later c.pieces.invariant.kept c.read.ensures.call.kept;
       later = later_then old was now c.pieces.invariant.later c.read.ensures.call.later;
     }
@@ -91,8 +91,8 @@ returns-in-Err-NoMemory-clause-taken g c =
     let has = c.pieces.invariant.has in
     (has.input, omega (arith, has.counted), takes_same _ _ _ _ has.takes c.pieces.invariant.later.tells (search rules))
 
-pub returns-clause-unread : goal.returns-clause-unread
-returns-clause-unread g c =
+pub returns-clause-input_fault : goal.returns-clause-input_fault
+returns-clause-input_fault g c =
     let has = c.pieces.invariant.has in
     too_long (g.H.Host.state c.args.host.now) (g.H.Host.state c.pieces.host) has.input has.takes (omega (arith, has.counted))
 

@@ -1,6 +1,6 @@
 //! Why a file gives no schedule.
 ghost use Rattle.std.specs.Prelude.{◌≡◌};
-ghost use Rattle.goal_input.specs.declared.unread.Unread.TheVariants.{NoMemory};
+ghost use Rattle.goal_input.specs.declared.input_fault.InputFault.TheVariants.{NoMemory};
 
 use goal_binary::FileFault;
 use goal_limits::NoMemory;
@@ -9,7 +9,7 @@ use goal_parser::TextFault;
 /// Why a file gives no schedule: the first of these that applies. Out of memory is always `NoMemory`, never a fault of
 /// a text or of a compiled file.
 #[derive(Clone, Copy, Debug, PartialEq, Eq)]
-pub enum Unread {
+pub enum InputFault {
     /// The host failed, or no file has that name. It counts both.
     Fault,
     /// The file has more than 2^27 bytes.
@@ -22,10 +22,10 @@ pub enum Unread {
     NoMemory,
 }
 
-impl From<NoMemory> for Unread {
-    ghost from_gives = { λ _ unread. unread ≡ NoMemory };
+impl From<NoMemory> for InputFault {
+    ghost from_gives = { λ _ input_fault. input_fault ≡ NoMemory };
 
     fn from(_: NoMemory) -> Self {
-        Unread::NoMemory
+        InputFault::NoMemory
     }
 }
