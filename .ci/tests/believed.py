@@ -157,12 +157,12 @@ class Believed(unittest.TestCase):
         self.assertIn("`laws_of_lines` has no clause `options_join`", said)
 
     def test_a_row_apart_from_its_table_is_told(self) -> None:
-        self.change("docs/PROVED.md", "\n| `Sentence::of` |", "\n\n| `Sentence::of` |")
+        self.change("docs/PROVED.md", "\n| `Request::of` |", "\n\n| `Request::of` |")
         self.assertRegex(self.called()[1], r"docs/PROVED.md:\d+: this row has no table")
 
     def test_a_row_for_a_contract_without_names_is_told_where_it_has_them(self) -> None:
-        self.change("docs/PROVED.md", "| `Sentence::of` | `sentence`, `priced` |", "| `Sentence::of` | — |")
-        self.assertIn("`Sentence::of` has no clause without a name", self.called()[1])
+        self.change("docs/PROVED.md", "| `Request::of` | `request`, `priced` |", "| `Request::of` | — |")
+        self.assertIn("`Request::of` has no clause without a name", self.called()[1])
 
     def test_a_mutant_that_no_clause_of_this_name_refuses_is_told(self) -> None:
         self.change("docs/PROVED.md", "| `said` of `say` |", "| `read` of `say` |")

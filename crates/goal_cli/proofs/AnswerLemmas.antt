@@ -9,10 +9,10 @@ use Rattle.goal_graph.specs.Schedule.{Plan}
 use Rattle.sim_params.specs.Costs.{Numbers, CostModel, log_gops}
 use Rattle.sim_classes.specs.Machine.{MachineModel, costs_of}
 use Rattle.goal_input.specs.Input.{IfFile}
-use Rattle.goal_words.specs.declared.sentence.View.{View}
-use Rattle.goal_words.specs.declared.sentence.View.TheVariants as view
-use Rattle.goal_words.specs.declared.sentence.RunView.{RunView}
-use Rattle.goal_words.specs.declared.sentence.RunView.TheVariants.{Printed}
+use Rattle.goal_words.specs.declared.request.View.{View}
+use Rattle.goal_words.specs.declared.request.View.TheVariants as view
+use Rattle.goal_words.specs.declared.request.RunView.{RunView}
+use Rattle.goal_words.specs.declared.request.RunView.TheVariants.{Printed}
 use Rattle.goal_words.specs.Words.{Command, Sim, Nodes}
 use Rattle.goal_cli.specs.declared.answer.Answer.{Answer}
 use Rattle.goal_cli.specs.declared.answer.Answer.TheVariants as answer

@@ -8,9 +8,9 @@ use Rattle.sim_classes.specs.Form as form
 use Rattle.sim_classes.specs.Laws.{ReadIsWhole, AlikeIsLogGops}
 use Rattle.goal_limits.specs.declared.collective.Collective.{Collective}
 use Rattle.goal_blocks.specs.Laws.{FaultExcludesCertified, OneFirstFault}
-use Rattle.goal_words.specs.declared.sentence.View.{View}
-use Rattle.goal_words.specs.declared.sentence.View.TheVariants as view
-use Rattle.goal_words.specs.declared.sentence.RunView.{RunView}
+use Rattle.goal_words.specs.declared.request.View.{View}
+use Rattle.goal_words.specs.declared.request.View.TheVariants as view
+use Rattle.goal_words.specs.declared.request.RunView.{RunView}
 use Rattle.goal_words.specs.Words.{Command, Sim, Nodes, Compile, Pricing, ByNumbers, ByMachine, Unpriced}
 use Rattle.goal_views.proofs.ForCallers.{one_shown}
 use Rattle.goal_cli.specs.Verdict.{faulty_text, IsVerdictOn}

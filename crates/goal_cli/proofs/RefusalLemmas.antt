@@ -17,8 +17,8 @@ use Rattle.goal_blocks.specs.Generated.{IsPossible}
 use Rattle.goal_blocks.specs.declared.gen_fault.GenFault.{GenFault}
 use Rattle.goal_blocks.specs.declared.gen_fault.GenFault.TheVariants as gen
 use Rattle.goal_blocks.specs.GenFaults.{AreRanksWithin}
-use Rattle.goal_words.specs.declared.sentence.Source.{Source}
-use Rattle.goal_words.specs.declared.sentence.Source.TheVariants as source
+use Rattle.goal_words.specs.declared.request.Source.{Source}
+use Rattle.goal_words.specs.declared.request.Source.TheVariants as source
 use Rattle.goal_words.specs.Words.{Command, Pricing, ByNumbers, ByMachine, Unpriced}
 use Rattle.goal_cli.specs.declared.answer.Refusal.{Refusal}
 use Rattle.goal_cli.specs.declared.answer.Refusal.TheVariants.{TooLong, Text, File, Machine, MachineRanks, Generator, Budget}

@@ -5,11 +5,11 @@ use Rattle.goal_limits.specs.declared.limits.TheConstants.{MAX_INPUT}
 use Rattle.goal_graph.specs.Schedule.{Plan}
 use Rattle.sim_params.specs.Costs.{CostModel}
 use Rattle.sim_classes.specs.Form as form
-use Rattle.goal_words.specs.declared.sentence.RunView.{RunView}
-use Rattle.goal_words.specs.declared.sentence.View.{View}
-use Rattle.goal_words.specs.declared.sentence.View.TheVariants as view
+use Rattle.goal_words.specs.declared.request.RunView.{RunView}
+use Rattle.goal_words.specs.declared.request.View.{View}
+use Rattle.goal_words.specs.declared.request.View.TheVariants as view
 use Rattle.goal_words.specs.Words.{Command, Pricing, ByNumbers, ByMachine, Unpriced}
-use Rattle.goal_words.specs.Sentences.{IsRun, PricedFor}
+use Rattle.goal_words.specs.Requests.{ShowsRun, PricedFor}
 use Rattle.goal_cli.specs.declared.answer.Ending.{Ending}
 use Rattle.goal_cli.specs.declared.answer.Refusal.TheVariants.{TooLong, Text, File, Machine, MachineRanks, Generator, Budget}
 use Rattle.goal_cli.specs.declared.output.Stop.{Stop}

@@ -6,8 +6,8 @@ use Rattle.goal_base.specs.Device.{HostState, SinkState, Rose, Held, KeepsFiles,
 use Rattle.goal_graph.specs.Schedule.{Plan}
 use Rattle.sim_params.specs.Costs.{CostModel}
 use Rattle.goal_input.specs.Input.{ForFile, IfFile}
-use Rattle.goal_words.specs.declared.sentence.View.{View}
-use Rattle.goal_words.specs.declared.sentence.View.TheVariants as view
+use Rattle.goal_words.specs.declared.request.View.{View}
+use Rattle.goal_words.specs.declared.request.View.TheVariants as view
 use Rattle.goal_words.specs.Words.{Command}
 use Rattle.goal_views.specs.Views.{IsPrintedRun}
 use Rattle.goal_cli.specs.declared.answer.Answer.{Answer}

@@ -1,10 +1,10 @@
 -- The notions of the laws of answers and outputs.
 use Rattle.std.specs.Prelude.{ℕ, ◌≡◌, List, ◌⊎◌, Option, Some, None, IsSomeAnd}
-use Rattle.goal_words.specs.declared.sentence.View.{View}
+use Rattle.goal_words.specs.declared.request.View.{View}
 use Rattle.goal_words.specs.Words.{Command, Pricing, ByNumbers, ByMachine, Unpriced}
 use Rattle.goal_cli.specs.Output.{Input}
 use Rattle.sim_classes.specs.Form as form
-use Rattle.goal_words.specs.declared.sentence.View.TheVariants as view
+use Rattle.goal_words.specs.declared.request.View.TheVariants as view
 use Rattle.goal_base.specs.Device.{HostState}
 use Rattle.goal_cli.specs.declared.answer.Status.{Status}
 use Rattle.goal_cli.specs.Answer.{ForRead, line_for}

@@ -18,11 +18,11 @@ use Rattle.goal_blocks.specs.declared.gen_fault.GenFault.{GenFault}
 use Rattle.goal_blocks.specs.declared.gen_fault.GenFault.TheVariants as gen
 use Rattle.goal_blocks.specs.GenFaults.{IsGenFault}
 use Rattle.goal_collectives.specs.Probe.{probed}
-use Rattle.goal_words.specs.declared.sentence.Source.{Source}
-use Rattle.goal_words.specs.declared.sentence.Source.TheVariants as source
-use Rattle.goal_words.specs.declared.sentence.RunView.{RunView}
-use Rattle.goal_words.specs.declared.sentence.View.{View}
-use Rattle.goal_words.specs.declared.sentence.View.TheVariants as view
+use Rattle.goal_words.specs.declared.request.Source.{Source}
+use Rattle.goal_words.specs.declared.request.Source.TheVariants as source
+use Rattle.goal_words.specs.declared.request.RunView.{RunView}
+use Rattle.goal_words.specs.declared.request.View.{View}
+use Rattle.goal_words.specs.declared.request.View.TheVariants as view
 use Rattle.goal_words.specs.Words.{Command, Pricing, ByNumbers, ByMachine, Unpriced}
 use Rattle.goal_views.specs.Views.{IsShownRun}
 use Rattle.goal_input.specs.Input.{IsReadAs, IsTextFault, IsFaultOfFile}

@@ -8,7 +8,7 @@ use Rattle.sim_classes.specs.Form as form
 use Rattle.sim_classes.specs.declared.fault.MachineFault.TheVariants as sayings
 use Rattle.sim_state.specs.declared.fault.EngineFault.{EngineFault}
 use Rattle.sim_state.specs.declared.fault.EngineFault.TheVariants as faults
-use Rattle.goal_words.specs.declared.sentence.RunView.{RunView}
+use Rattle.goal_words.specs.declared.request.RunView.{RunView}
 use Rattle.goal_words.specs.Words.{Command, Pricing}
 use Rattle.goal_cli.specs.declared.answer.Ending.{Ending}
 use Rattle.goal_cli.specs.declared.answer.Refusal.TheVariants as refusal

@@ -7,7 +7,7 @@ ghost use Rattle.sim_params.specs.Costs.{Numbers, log_gops};
 ghost use Rattle.goal_input.specs.Input.{IfFile};
 ghost use Rattle.sim_classes.specs.Machine.{MachineModel, costs_of};
 ghost use Rattle.goal_words.specs.Words.{Sim, Nodes, command_in};
-ghost use Rattle.goal_words.specs.Sentences.{said, IsSized, IsPriced};
+ghost use Rattle.goal_words.specs.Requests.{requested, IsSized, IsPriced};
 ghost use Rattle.goal_cli.specs.Answer.{IfInput, ForRead, GrowsByPart, IsReadOut, ReadsHeld, InputHeld, goes_to, target_of, Gets, GetsPart, Elsewhere, WritesRose, WritesHeld, WritesSame, AnswersWhole, PrintsRun, IsCauseOf, IsCause, AnswersWith, Says, IsCutShort, Answered, IsTaken};
 ghost use Rattle.goal_cli.specs.World.{devices, world, WorldLater};
 ghost use Rattle.goal_cli.specs.Output.{machine_of, HasOutput, HasRun, HasRunOn, IsRefused};
@@ -24,7 +24,7 @@ use crate::refusal::refused_line;
 use crate::source::{Gathered, gather};
 use goal_base::{Host, IoFault, Sink, write_all, write_file};
 use goal_limits::NoMemory;
-use goal_words::{LineFault, Sentence, View, read_words};
+use goal_words::{LineFault, Request, View, read_words};
 use std::alloc::Global;
 
 const BAD_LINE: &[u8] = b"goal: the words are not a command line of goal\n";
@@ -113,29 +113,29 @@ fn carry_out<H: Host, W: Sink>(alloc: Global, words: &[String], host: &mut H, ou
         (devices (H.state host.new) (W.state out.new)) }
 {
     match read_words(alloc, words) {
-        Ok(line) => carry_out_sentence(alloc, &Sentence::of(line), host, out),
+        Ok(line) => carry_out_request(alloc, &Request::of(line), host, out),
         Err(LineFault::Bad) => Answer::BadLine,
         Err(LineFault::NoMemory) => Answer::NoMemory,
     }
 }
 
 // Carries out a parsed command: writes its output, and returns the answer.
-fn carry_out_sentence<H: Host, W: Sink>(
+fn carry_out_request<H: Host, W: Sink>(
     alloc: Global,
-    sentence: &Sentence,
+    request: &Request,
     host: &mut H,
     out: &mut W,
 ) -> Answer
-    requires sized { IsSized (said sentence.now) }
-    requires priced { IsPriced (said sentence.now) }
+    requires sized { IsSized (requested request.now) }
+    requires priced { IsPriced (requested request.now) }
     ensures cause { IsCauseOf (devices (H.state host.old) (W.state out.old))
-        (devices (H.state host.new) (W.state out.new)) (said sentence.now) result }
-    ensures taken { IsTaken (Some (said sentence.now)) (H.state host.old) (H.state host.new) }
+        (devices (H.state host.new) (W.state out.new)) (requested request.now) result }
+    ensures taken { IsTaken (Some (requested request.now)) (H.state host.old) (H.state host.new) }
     ensures later { DevicesLater (devices (H.state host.old) (W.state out.old))
         (devices (H.state host.new) (W.state out.new)) }
 {
-    match gather(alloc, host, sentence) {
-        Ok(work) => write_output(alloc, sentence, &work, host, out),
+    match gather(alloc, host, request) {
+        Ok(work) => write_output(alloc, request, &work, host, out),
         Err(answer) => answer,
     }
 }
@@ -143,29 +143,29 @@ fn carry_out_sentence<H: Host, W: Sink>(
 // Makes the output of a command from what was gathered for it, and writes it.
 fn write_output<H: Host, W: Sink>(
     alloc: Global,
-    sentence: &Sentence,
+    request: &Request,
     work: &Gathered,
     host: &mut H,
     out: &mut W,
 ) -> Answer
-    requires priced { IsPriced (said sentence.now) }
+    requires priced { IsPriced (requested request.now) }
     requires short { length work.now.machine.items ≤ MAX_INPUT }
     // The cause speaks of the host before the work was gathered from it.
     ensures cause { (first : HostState) → Later first (H.state host.old) → KeepsFiles first (H.state host.old)
-        → SameReadCounts first (H.state host.old) → IsReadOut first (H.state host.old) (machine_of (said sentence.now))
-        → ForRead first (said sentence.now) (IsGathered (said sentence.now) work.now.sched work.now.machine.items)
-        → IsCauseOf (devices first (W.state out.old)) (devices (H.state host.new) (W.state out.new)) (said sentence.now) result }
+        → SameReadCounts first (H.state host.old) → IsReadOut first (H.state host.old) (machine_of (requested request.now))
+        → ForRead first (requested request.now) (IsGathered (requested request.now) work.now.sched work.now.machine.items)
+        → IsCauseOf (devices first (W.state out.old)) (devices (H.state host.new) (W.state out.new)) (requested request.now) result }
     ensures kept { KeepsReading (H.state host.old) (H.state host.new) }
     ensures later { DevicesLater (devices (H.state host.old) (W.state out.old))
         (devices (H.state host.new) (W.state out.new)) }
 {
-    let mut output = match output_of(alloc, sentence, &work.sched, &work.machine) {
+    let mut output = match output_of(alloc, request, &work.sched, &work.machine) {
         Ok(output) => output,
         Err(Stop::Refused(refusal)) => return Answer::Refused(refusal),
         Err(Stop::NoMemory) => return Answer::NoMemory,
     };
     let ending = output.ending;
-    let written = put(alloc, &sentence.view, host, out, &mut output);
+    let written = put(alloc, &request.view, host, out, &mut output);
     let_go(output);
     match written {
         Ok(()) => Answer::Written(ending),

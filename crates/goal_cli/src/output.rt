@@ -6,7 +6,7 @@ ghost use Rattle.sim_params.specs.Numbers.{numbers};
 ghost use Rattle.sim_classes.specs.MachineModels.{machine_model};
 ghost use Rattle.goal_binary.specs.File.{file};
 ghost use Rattle.goal_words.specs.Words.{ByNumbers, ByMachine};
-ghost use Rattle.goal_words.specs.Sentences.{pricing, said, IsPriced, IsRun};
+ghost use Rattle.goal_words.specs.Requests.{pricing, requested, IsPriced, ShowsRun};
 ghost use Rattle.goal_input.specs.Input.{IsReadAs};
 ghost use Rattle.goal_cli.specs.Answer.{goes_to};
 ghost use Rattle.goal_cli.specs.Pages.{text_of, Suits};
@@ -22,7 +22,7 @@ use goal_graph::Sched;
 use goal_limits::NoMemory;
 use goal_print::{Blocks, heading};
 use goal_views::show_run;
-use goal_words::{Costing, RunView, Sentence, View};
+use goal_words::{Costing, Request, RunView, View};
 use sim_classes::{Machine, MachineFault, read_machine};
 use sim_events::EngineFault;
 use sim_order::Steps;
@@ -212,7 +212,7 @@ fn show<'a>(alloc: Global, sched: &'a Sched) -> Result<Output<'a>, NoMemory>
 
 // Returns a view of a schedule that is not run.
 fn show_unrun<'a>(alloc: Global, sched: &'a Sched, view: &View) -> Result<Output<'a>, NoMemory>
-    requires not_run { IsRun view.now → ⊥ }
+    requires not_run { ShowsRun view.now → ⊥ }
     ensures shown { IfOk result (λ output. (costs : Option CostModel)
         → IsShownAs view.now costs sched.now (text_of output) output.ending) }
     ensures ends { IfOk result (λ output. EndsAs view.now output.ending) }
@@ -233,23 +233,23 @@ fn show_unrun<'a>(alloc: Global, sched: &'a Sched, view: &View) -> Result<Output
 /// Returns the output of a command, from the schedule that it works on and the text of its machine.
 pub fn output_of<'a>(
     alloc: Global,
-    sentence: &Sentence,
+    request: &Request,
     sched: &'a Sched,
     machine: &[u8],
 ) -> Result<Output<'a>, Stop>
     requires short { length machine.now ≤ MAX_INPUT }
-    requires priced { IsPriced (said sentence.now) }
-    ensures output { IfOk result (λ output. (input : Input) → IsGathered (said sentence.now) sched.now machine.now input
-        → IsOutput (said sentence.now) input (text_of output) output.ending) }
-    ensures ends { IfOk result (λ output. MayEnd (said sentence.now) output.ending) }
-    ensures suits { IfOk result (λ output. Suits (goes_to sentence.now.view) output) }
-    ensures stop { IfErr result (λ stop. (input : Input) → IsGathered (said sentence.now) sched.now machine.now input
-        → IsStop (said sentence.now) input stop) }
+    requires priced { IsPriced (requested request.now) }
+    ensures output { IfOk result (λ output. (input : Input) → IsGathered (requested request.now) sched.now machine.now input
+        → IsOutput (requested request.now) input (text_of output) output.ending) }
+    ensures ends { IfOk result (λ output. MayEnd (requested request.now) output.ending) }
+    ensures suits { IfOk result (λ output. Suits (goes_to request.now.view) output) }
+    ensures stop { IfErr result (λ stop. (input : Input) → IsGathered (requested request.now) sched.now machine.now input
+        → IsStop (requested request.now) input stop) }
 {
-    match &sentence.view {
-        View::Run(how) => run_costed(alloc, sched, &sentence.costs, machine, *how),
+    match &request.view {
+        View::Run(how) => run_costed(alloc, sched, &request.costs, machine, *how),
         View::Text | View::File(_) | View::Verdict(_) => {
-            Ok(show_unrun(alloc, sched, &sentence.view)?)
+            Ok(show_unrun(alloc, sched, &request.view)?)
         }
     }
 }

@@ -5,9 +5,9 @@ ghost use Rattle.goal_base.specs.Device.{HostState, Later, KeepsFiles, SameReadC
 ghost use Rattle.goal_blocks.specs.GenFaults.{IsGenFault};
 ghost use Rattle.goal_input.specs.Input.{IsReadAs, ForFile};
 ghost use Rattle.goal_collectives.specs.Probe.{probed};
-ghost use Rattle.goal_words.specs.declared.sentence.View.{View};
+ghost use Rattle.goal_words.specs.declared.request.View.{View};
 ghost use Rattle.goal_words.specs.Words.{Command, Pricing, asks};
-ghost use Rattle.goal_words.specs.Sentences.{said, IsSized};
+ghost use Rattle.goal_words.specs.Requests.{requested, IsSized};
 ghost use Rattle.goal_cli.specs.Output.{input_of, machine_of, IsMade, IsFrom};
 ghost use Rattle.goal_cli.specs.Answer.{ForNamed, ForRead, IsReadOut, IsTaken};
 ghost use Rattle.goal_cli.specs.Unmade.{IsUnmade, IsUntold, IsIdle, IsGot, IsTakenFrom, IsGathered};
@@ -20,7 +20,7 @@ use goal_graph::Sched;
 use goal_input::{InputFault, read_schedule};
 use goal_limits::{MAX_BYTES, MAX_ROUNDS, NoMemory};
 use goal_rooted::generate_rooted;
-use goal_words::{Costing, Sentence, Source};
+use goal_words::{Costing, Request, Source};
 use std::alloc::Global;
 
 // Returns the schedule of a collective, or why it has none.
@@ -84,17 +84,17 @@ fn read_input<H: Host>(alloc: Global, host: &mut H, name: &str) -> Result<Sched,
 
 // Returns the schedule that a command works on, read or generated. Without an input the host is not asked. `Err` is the
 // answer, if the machine is not too long.
-fn schedule_of<H: Host>(alloc: Global, host: &mut H, sentence: &Sentence) -> Result<Sched, Answer>
-    requires sized { IsSized (said sentence.now) }
-    ensures schedule { IfOk result (λ sched. ForNamed (H.state host.old) (input_of (said sentence.now))
-        (λ schedule. IsFrom sentence.now.source schedule sched)) }
-    ensures unmade { IfErr result (IsUnmade (H.state host.old) (H.state host.new) (said sentence.now)) }
+fn schedule_of<H: Host>(alloc: Global, host: &mut H, request: &Request) -> Result<Sched, Answer>
+    requires sized { IsSized (requested request.now) }
+    ensures schedule { IfOk result (λ sched. ForNamed (H.state host.old) (input_of (requested request.now))
+        (λ schedule. IsFrom request.now.source schedule sched)) }
+    ensures unmade { IfErr result (IsUnmade (H.state host.old) (H.state host.new) (requested request.now)) }
     ensures counts { OnOk result (SameReadCounts (H.state host.old) (H.state host.new)) }
     ensures kept { KeepsFiles (H.state host.old) (H.state host.new) }
     ensures later { Later (H.state host.old) (H.state host.new) }
-    ensures taken { IsTakenFrom (H.state host.old) (H.state host.new) (input_of (said sentence.now)) }
+    ensures taken { IsTakenFrom (H.state host.old) (H.state host.new) (input_of (requested request.now)) }
 {
-    match &sentence.source {
+    match &request.source {
         Source::File(name) => read_input(alloc, host, name.as_str()),
         Source::Made { what, ranks, bytes } => make_schedule(alloc, *what, *ranks, *bytes),
         Source::Drawn { rounds, seed } => draw(alloc, *rounds, *seed),
@@ -102,21 +102,17 @@ fn schedule_of<H: Host>(alloc: Global, host: &mut H, sentence: &Sentence) -> Res
 }
 
 // Returns the text of the machine of a command. Without one the text is empty, and the host is not asked.
-fn take_machine<H: Host>(
-    alloc: Global,
-    host: &mut H,
-    sentence: &Sentence,
-) -> Result<Vec<u8>, Answer>
-    ensures got { IfOk result (λ text. IsGot (H.state host.old) (machine_of (said sentence.now)) text.items) }
+fn take_machine<H: Host>(alloc: Global, host: &mut H, request: &Request) -> Result<Vec<u8>, Answer>
+    ensures got { IfOk result (λ text. IsGot (H.state host.old) (machine_of (requested request.now)) text.items) }
     ensures short { IfOk result (λ text. length text.items ≤ MAX_INPUT) }
-    ensures untold { IfErr result (IsUntold (H.state host.old) (H.state host.new) (machine_of (said sentence.now))) }
-    ensures read_out { OnOk result (IsReadOut (H.state host.old) (H.state host.new) (machine_of (said sentence.now))) }
+    ensures untold { IfErr result (IsUntold (H.state host.old) (H.state host.new) (machine_of (requested request.now))) }
+    ensures read_out { OnOk result (IsReadOut (H.state host.old) (H.state host.new) (machine_of (requested request.now))) }
     ensures counts { OnOk result (SameReadCounts (H.state host.old) (H.state host.new)) }
     ensures kept { KeepsFiles (H.state host.old) (H.state host.new) }
     ensures later { Later (H.state host.old) (H.state host.new) }
-    ensures taken { IsTakenFrom (H.state host.old) (H.state host.new) (machine_of (said sentence.now)) }
+    ensures taken { IsTakenFrom (H.state host.old) (H.state host.new) (machine_of (requested request.now)) }
 {
-    match &sentence.costs {
+    match &request.costs {
         Costing::Params(_) | Costing::None => Ok(Vec::new(alloc)),
         Costing::Machine(name) => match read_all(alloc, host, name.as_str()) {
             Ok(text) => Ok(text),
@@ -138,24 +134,24 @@ pub struct Gathered {
 
 /// Returns what a command works on. Each of its files is read to its end before one is refused. `Err` is the answer if
 /// there is nothing to work on.
-pub fn gather<H: Host>(alloc: Global, host: &mut H, sentence: &Sentence) -> Result<Gathered, Answer>
-    requires sized { IsSized (said sentence.now) }
-    ensures work { IfOk result (λ work. ForRead (H.state host.old) (said sentence.now)
-        (IsGathered (said sentence.now) work.sched work.machine.items)) }
+pub fn gather<H: Host>(alloc: Global, host: &mut H, request: &Request) -> Result<Gathered, Answer>
+    requires sized { IsSized (requested request.now) }
+    ensures work { IfOk result (λ work. ForRead (H.state host.old) (requested request.now)
+        (IsGathered (requested request.now) work.sched work.machine.items)) }
     ensures short { IfOk result (λ work. length work.machine.items ≤ MAX_INPUT) }
-    ensures idle { IfErr result (IsIdle (H.state host.old) (H.state host.new) (said sentence.now)) }
-    ensures read_out { OnOk result (IsReadOut (H.state host.old) (H.state host.new) (machine_of (said sentence.now))) }
+    ensures idle { IfErr result (IsIdle (H.state host.old) (H.state host.new) (requested request.now)) }
+    ensures read_out { OnOk result (IsReadOut (H.state host.old) (H.state host.new) (machine_of (requested request.now))) }
     ensures counts { OnOk result (SameReadCounts (H.state host.old) (H.state host.new)) }
     ensures kept { KeepsFiles (H.state host.old) (H.state host.new) }
     ensures later { Later (H.state host.old) (H.state host.new) }
-    ensures taken { IsTaken (Some (said sentence.now)) (H.state host.old) (H.state host.new) }
+    ensures taken { IsTaken (Some (requested request.now)) (H.state host.old) (H.state host.new) }
 {
-    match schedule_of(alloc, host, sentence) {
-        Ok(sched) => match take_machine(alloc, host, sentence) {
+    match schedule_of(alloc, host, request) {
+        Ok(sched) => match take_machine(alloc, host, request) {
             Ok(machine) => Ok(Gathered { sched, machine }),
             Err(answer) => Err(answer),
         },
-        Err(Answer::Refused(refusal)) => match take_machine(alloc, host, sentence) {
+        Err(Answer::Refused(refusal)) => match take_machine(alloc, host, request) {
             Ok(_text) => Err(Answer::Refused(refusal)),
             Err(answer) => Err(answer),
         },

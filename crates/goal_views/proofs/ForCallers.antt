@@ -5,8 +5,8 @@ use Rattle.goal_graph.specs.Schedule.{Plan}
 use Rattle.sim_params.specs.Costs.{CostModel}
 use Rattle.sim_params.specs.Stuck.{is_stuck}
 use Rattle.sim_waits.proofs.ForCallers.{one_report}
-use Rattle.goal_words.specs.declared.sentence.RunView.{RunView}
-use Rattle.goal_words.specs.declared.sentence.RunView.TheVariants as view
+use Rattle.goal_words.specs.declared.request.RunView.{RunView}
+use Rattle.goal_words.specs.declared.request.RunView.TheVariants as view
 use Rattle.goal_views.specs.Views.{Shows, IsShownRun}
 
 -- of one run

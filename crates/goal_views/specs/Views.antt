@@ -13,8 +13,8 @@ use Rattle.sim_cycles.specs.KnotsText.{knots_text}
 use Rattle.sim_stuck.specs.StuckList.{stuck_list}
 use Rattle.sim_stuck.specs.StuckText.{stuck_text}
 use Rattle.sim_waits.specs.WaitsText.{IsWaitsText}
-use Rattle.goal_words.specs.declared.sentence.RunView.{RunView}
-use Rattle.goal_words.specs.declared.sentence.RunView.TheVariants as view
+use Rattle.goal_words.specs.declared.request.RunView.{RunView}
+use Rattle.goal_words.specs.declared.request.RunView.TheVariants as view
 
 -- the timeline of a run, and then the lines of its stuck operations, each with its reason
 abbrev pub run_text : List Plan → CostModel → List Timed → List ℕ

@@ -4,16 +4,16 @@ use Rattle.std.specs.List.{list_all, list_any, before_first, after_first}
 use Rattle.std.proofs.lemmas.Bool.{both_ways, and_parts, not-true}
 use Rattle.std.proofs.lemmas.List.{length-append}
 use Rattle.std.proofs.lemmas.List.Folds.{list_all-append}
-use Rattle.goal_words.specs.declared.options.Key.{Key}
-use Rattle.goal_words.specs.declared.options.Key.TheVariants.{Latency, Overhead, Gap, GapPerByte, GapPicos, OverheadPerByte, OverheadPicos, Sync, Root}
+use Rattle.goal_words.specs.declared.options.OptionKey.{OptionKey}
+use Rattle.goal_words.specs.declared.options.OptionKey.TheVariants.{Latency, Overhead, Gap, GapPerByte, GapPicos, OverheadPerByte, OverheadPicos, Sync, Root}
 use Rattle.goal_words.specs.declared.options.AllowedOptions.{AllowedOptions}
 use Rattle.goal_words.specs.declared.options.AllowedOptions.TheVariants as taken_by
-use Rattle.goal_words.specs.Options.{Place, Plain, Named, Set, Wrong, run_options, root_option, is_option, begins_dash, value_of, set_to, place, places, plain_words, values_of, first_of, is_known, at_most_one, is_right, value_at}
-use Rattle.goal_words.specs.Words.{Command, options_of, line_places, command_by, command_of}
+use Rattle.goal_words.specs.Options.{Role, Plain, Named, Set, Wrong, run_options, root_option, is_option, begins_dash, value_of, set_to, role, roles, plain_words, values_of, first_of, is_known, at_most_one, are_right, value_at}
+use Rattle.goal_words.specs.Words.{Command, options_of, line_roles, command_by, command_of}
 use Rattle.goal_words.specs.Laws.{Group, Word, Apart, Joined, spelt, IsSetting, IsGroup, ends_whole}
 use Rattle.goal_words.specs.Reading.{numbers_given, words_of}
-use Rattle.goal_words.proofs.KeyLemmas.{word, option_key, no_option_by, plain_no_option, empty_no_option, first_no_option, option_dash}
-use Rattle.goal_words.proofs.PlaceLemmas.{after}
+use Rattle.goal_words.proofs.KeyLemmas.{word_of_key, option_key, no_option_by, plain_no_option, empty_no_option, first_no_option, option_dash}
+use Rattle.goal_words.proofs.RoleLemmas.{roles_without_before}
 use Rattle.goal_words.proofs.PartsLemmas.{all_keys, of_keys, same_all, same_given, one_false}
 
 -- the options that the first word allows
@@ -27,26 +27,26 @@ taken_for first =
     by false false = (taken_by.Nothing, refl)
 
 -- the roles of words, whatever follows them
-inner : List (List ℕ) → List ℕ → List (List ℕ) → List Place
-inner options before [] = []
-inner options before (w ∷ words) = place options before w ∷ inner options w words
+roles_inside : List (List ℕ) → List ℕ → List (List ℕ) → List Role
+roles_inside options before [] = []
+roles_inside options before (w ∷ words) = role options before w ∷ roles_inside options w words
 
-cut : (options : List (List ℕ)) (before : List ℕ) (xs ys : List (List ℕ)) → is_option options [] ≡ false → ends_whole options (before ∷ xs) ≡ true
-    → places options before (xs ++ ys) ≡ inner options before xs ++ places options [] ys
-unfolding places inner
-cut options before [] ys none whole = after options before ys (not-true (is_option options before) whole) none
-cut options before (w ∷ xs) ys none whole = ap (λ ps. place options before w ∷ ps) (cut options w xs ys none whole)
+roles_append : (options : List (List ℕ)) (before : List ℕ) (xs ys : List (List ℕ)) → is_option options [] ≡ false → ends_whole options (before ∷ xs) ≡ true
+    → roles options before (xs ++ ys) ≡ roles_inside options before xs ++ roles options [] ys
+unfolding roles roles_inside
+roles_append options before [] ys none whole = roles_without_before options before ys (not-true (is_option options before) whole) none
+roles_append options before (w ∷ xs) ys none whole = ap (λ ps. role options before w ∷ ps) (roles_append options w xs ys none whole)
 
 -- the roles of the words of a group
-placed : Group → List Place
-placed (Word w) = Plain w ∷ []
-placed (Apart option value) = Named ∷ set_to option (value_of value) ∷ []
-placed (Joined option value) = set_to option (value_of value) ∷ []
+roles_of_group : Group → List Role
+roles_of_group (Word w) = Plain w ∷ []
+roles_of_group (Apart option value) = Named ∷ set_to option (value_of value) ∷ []
+roles_of_group (Joined option value) = set_to option (value_of value) ∷ []
 
 has_equals : List ℕ → Bool
 has_equals w = list_any (λ b. b == 61) w
 
-word_has_none : (key : Key) → has_equals (word key) ≡ false
+word_has_none : (key : OptionKey) → has_equals (word_of_key key) ≡ false
 unfolding has_equals
 word_has_none Latency = refl
 word_has_none Overhead = refl
@@ -58,7 +58,7 @@ word_has_none OverheadPicos = refl
 word_has_none Sync = refl
 word_has_none Root = refl
 
-joined_has_one : (key : Key) (v : List ℕ) → has_equals (word key ++ (61 ∷ v)) ≡ true
+joined_has_one : (key : OptionKey) (v : List ℕ) → has_equals (word_of_key key ++ (61 ∷ v)) ≡ true
 unfolding has_equals
 joined_has_one Latency v = refl
 joined_has_one Overhead v = refl
@@ -70,7 +70,7 @@ joined_has_one OverheadPicos v = refl
 joined_has_one Sync v = refl
 joined_has_one Root v = refl
 
-joined_before : (key : Key) (v : List ℕ) → before_first (λ b. b == 61) (word key ++ (61 ∷ v)) ≡ word key
+joined_before : (key : OptionKey) (v : List ℕ) → before_first (λ b. b == 61) (word_of_key key ++ (61 ∷ v)) ≡ word_of_key key
 joined_before Latency v = refl
 joined_before Overhead v = refl
 joined_before Gap v = refl
@@ -81,7 +81,7 @@ joined_before OverheadPicos v = refl
 joined_before Sync v = refl
 joined_before Root v = refl
 
-joined_after : (key : Key) (v : List ℕ) → after_first (λ b. b == 61) (word key ++ (61 ∷ v)) ≡ v
+joined_after : (key : OptionKey) (v : List ℕ) → after_first (λ b. b == 61) (word_of_key key ++ (61 ∷ v)) ≡ v
 joined_after Latency v = refl
 joined_after Overhead v = refl
 joined_after Gap v = refl
@@ -92,7 +92,7 @@ joined_after OverheadPicos v = refl
 joined_after Sync v = refl
 joined_after Root v = refl
 
-joined_dash : (key : Key) (v : List ℕ) → begins_dash (word key ++ (61 ∷ v)) ≡ true
+joined_dash : (key : OptionKey) (v : List ℕ) → begins_dash (word_of_key key ++ (61 ∷ v)) ≡ true
 joined_dash Latency v = refl
 joined_dash Overhead v = refl
 joined_dash Gap v = refl
@@ -103,36 +103,36 @@ joined_dash OverheadPicos v = refl
 joined_dash Sync v = refl
 joined_dash Root v = refl
 
-joined_no_option : (taken : AllowedOptions) (key : Key) (v : List ℕ) → is_option (words_of taken) (word key ++ (61 ∷ v)) ≡ false
+joined_no_option : (taken : AllowedOptions) (key : OptionKey) (v : List ℕ) → is_option (words_of taken) (word_of_key key ++ (61 ∷ v)) ≡ false
 joined_no_option taken key v =
-    no_option_by (is_option (words_of taken) (word key ++ (61 ∷ v)))
+    no_option_by (is_option (words_of taken) (word_of_key key ++ (61 ∷ v)))
     (λ h.
-    let found = option_key taken (word key ++ (61 ∷ v)) h in
-    both_ways (has_equals (word found.0)) (word_has_none found.0) (ap has_equals (sym found.1) ∙ joined_has_one key v))
+    let found = option_key taken (word_of_key key ++ (61 ∷ v)) h in
+    both_ways (has_equals (word_of_key found.0)) (word_has_none found.0) (ap has_equals (sym found.1) ∙ joined_has_one key v))
 
-joined_placed : (taken : AllowedOptions) (option v : List ℕ) (words : List (List ℕ)) (key : Key) → option ≡ word key → is_option (words_of taken) (word key) ≡ true
-    → places (words_of taken) [] ((option ++ (61 ∷ v)) ∷ words) ≡ set_to option (value_of v) ∷ places (words_of taken) [] words
-unfolding places
+joined_placed : (taken : AllowedOptions) (option v : List ℕ) (words : List (List ℕ)) (key : OptionKey) → option ≡ word_of_key key → is_option (words_of taken) (word_of_key key) ≡ true
+    → roles (words_of taken) [] ((option ++ (61 ∷ v)) ∷ words) ≡ set_to option (value_of v) ∷ roles (words_of taken) [] words
+unfolding roles
 joined_placed taken option v words key e is =
     rw e
-    (rw (empty_no_option taken, joined_dash key v, joined_no_option taken key v, joined_before key v, joined_after key v, is, after (words_of taken) (word key ++ (61 ∷ v)) words (joined_no_option taken key v) (empty_no_option taken))
+    (rw (empty_no_option taken, joined_dash key v, joined_no_option taken key v, joined_before key v, joined_after key v, is, roles_without_before (words_of taken) (word_of_key key ++ (61 ∷ v)) words (joined_no_option taken key v) (empty_no_option taken))
     refl)
 
 apart_placed : (taken : AllowedOptions) (option v : List ℕ) (words : List (List ℕ)) → is_option (words_of taken) option ≡ true → begins_dash v ≡ false
-    → places (words_of taken) [] (option ∷ v ∷ words) ≡ Named ∷ set_to option (value_of v) ∷ places (words_of taken) [] words
-unfolding places
+    → roles (words_of taken) [] (option ∷ v ∷ words) ≡ Named ∷ set_to option (value_of v) ∷ roles (words_of taken) [] words
+unfolding roles
 apart_placed taken option v words is plain =
-    rw (empty_no_option taken, option_dash taken option is, is, after (words_of taken) v words (plain_no_option taken v plain) (empty_no_option taken)) refl
+    rw (empty_no_option taken, option_dash taken option is, is, roles_without_before (words_of taken) v words (plain_no_option taken v plain) (empty_no_option taken)) refl
 
 word_placed : (taken : AllowedOptions) (w : List ℕ) (words : List (List ℕ)) → begins_dash w ≡ false
-    → places (words_of taken) [] (w ∷ words) ≡ Plain w ∷ places (words_of taken) [] words
-unfolding places
+    → roles (words_of taken) [] (w ∷ words) ≡ Plain w ∷ roles (words_of taken) [] words
+unfolding roles
 word_placed taken w words plain =
-    rw (empty_no_option taken, plain, after (words_of taken) w words (plain_no_option taken w plain) (empty_no_option taken)) refl
+    rw (empty_no_option taken, plain, roles_without_before (words_of taken) w words (plain_no_option taken w plain) (empty_no_option taken)) refl
 
 group_placed : (taken : AllowedOptions) (g : Group) (words : List (List ℕ)) → IsGroup (words_of taken) g
-    → places (words_of taken) [] (spelt g ++ words) ≡ placed g ++ places (words_of taken) [] words
-unfolding placed
+    → roles (words_of taken) [] (spelt g ++ words) ≡ roles_of_group g ++ roles (words_of taken) [] words
+unfolding roles_of_group
 group_placed taken (Word w) words plain = word_placed taken w words plain
 group_placed taken (Apart option v) words is = apart_placed taken option v words is.0 is.1
 group_placed taken (Joined option v) words is =
@@ -147,18 +147,18 @@ setting_group options (Joined option v) is = is
 -- two groups after some words
 two_placed : (taken : AllowedOptions) (before : List ℕ) (xs : List (List ℕ)) (g h : Group) (ys : List (List ℕ)) → ends_whole (words_of taken) (before ∷ xs) ≡ true
     → IsGroup (words_of taken) g → IsGroup (words_of taken) h
-    → places (words_of taken) before (xs ++ (spelt g ++ (spelt h ++ ys))) ≡ inner (words_of taken) before xs ++ (placed g ++ (placed h ++ places (words_of taken) [] ys))
+    → roles (words_of taken) before (xs ++ (spelt g ++ (spelt h ++ ys))) ≡ roles_inside (words_of taken) before xs ++ (roles_of_group g ++ (roles_of_group h ++ roles (words_of taken) [] ys))
 two_placed taken before xs g h ys whole one other =
-    cut (words_of taken) before xs (spelt g ++ (spelt h ++ ys)) (empty_no_option taken) whole
-    ∙ ap (λ ps. inner (words_of taken) before xs ++ ps) (group_placed taken g (spelt h ++ ys) one ∙ ap (λ ps. placed g ++ ps) (group_placed taken h ys other))
+    roles_append (words_of taken) before xs (spelt g ++ (spelt h ++ ys)) (empty_no_option taken) whole
+    ∙ ap (λ ps. roles_inside (words_of taken) before xs ++ ps) (group_placed taken g (spelt h ++ ys) one ∙ ap (λ ps. roles_of_group g ++ ps) (group_placed taken h ys other))
 
 one_placed : (taken : AllowedOptions) (before : List ℕ) (xs : List (List ℕ)) (g : Group) (ys : List (List ℕ)) → ends_whole (words_of taken) (before ∷ xs) ≡ true
-    → IsGroup (words_of taken) g → places (words_of taken) before (xs ++ (spelt g ++ ys)) ≡ inner (words_of taken) before xs ++ (placed g ++ places (words_of taken) [] ys)
+    → IsGroup (words_of taken) g → roles (words_of taken) before (xs ++ (spelt g ++ ys)) ≡ roles_inside (words_of taken) before xs ++ (roles_of_group g ++ roles (words_of taken) [] ys)
 one_placed taken before xs g ys whole one =
-    cut (words_of taken) before xs (spelt g ++ ys) (empty_no_option taken) whole
-    ∙ ap (λ ps. inner (words_of taken) before xs ++ ps) (group_placed taken g ys one)
+    roles_append (words_of taken) before xs (spelt g ++ ys) (empty_no_option taken) whole
+    ∙ ap (λ ps. roles_inside (words_of taken) before xs ++ ps) (group_placed taken g ys one)
 
-plain-append : (ps qs : List Place) → plain_words (ps ++ qs) ≡ plain_words ps ++ plain_words qs
+plain-append : (ps qs : List Role) → plain_words (ps ++ qs) ≡ plain_words ps ++ plain_words qs
 unfolding plain_words
 plain-append [] qs = refl
 plain-append (Plain w ∷ ps) qs = ap (λ l. w ∷ l) (plain-append ps qs)
@@ -166,16 +166,16 @@ plain-append (Named ∷ ps) qs = plain-append ps qs
 plain-append (Set option n ∷ ps) qs = plain-append ps qs
 plain-append (Wrong ∷ ps) qs = plain-append ps qs
 
-more : (b : Bool) (n : ℕ) (ns ms : List ℕ) → (if b then n ∷ (ns ++ ms) else (ns ++ ms)) ≡ (if b then n ∷ ns else ns) ++ ms
-more true n ns ms = refl
-more false n ns ms = refl
+if_append : (b : Bool) (n : ℕ) (ns ms : List ℕ) → (if b then n ∷ (ns ++ ms) else (ns ++ ms)) ≡ (if b then n ∷ ns else ns) ++ ms
+if_append true n ns ms = refl
+if_append false n ns ms = refl
 
-values-append : (o : List ℕ) (ps qs : List Place) → values_of o (ps ++ qs) ≡ values_of o ps ++ values_of o qs
+values-append : (o : List ℕ) (ps qs : List Role) → values_of o (ps ++ qs) ≡ values_of o ps ++ values_of o qs
 unfolding values_of
 values-append o [] qs = refl
 values-append o (Plain w ∷ ps) qs = values-append o ps qs
 values-append o (Named ∷ ps) qs = values-append o ps qs
-values-append o (Set option n ∷ ps) qs = rw (values-append o ps qs) (more (bytes_eq option o) n (values_of o ps) (values_of o qs))
+values-append o (Set option n ∷ ps) qs = rw (values-append o ps qs) (if_append (bytes_eq option o) n (values_of o ps) (values_of o qs))
 values-append o (Wrong ∷ ps) qs = values-append o ps qs
 
 -- lists of at most one element
@@ -188,15 +188,15 @@ by_length (n ∷ []) (m ∷ k ∷ ms) same = absurd (omega arith)
 by_length (n ∷ k ∷ ns) (m ∷ []) same = absurd (omega arith)
 by_length (n ∷ k ∷ ns) (m ∷ l ∷ ms) same = refl
 
-at_most : (ns : List ℕ) → at_most_one ns ≡ true → length ns ≤ 1
-at_most [] h = omega arith
-at_most (n ∷ []) h = omega arith
-at_most (n ∷ m ∷ ns) h = absurd cc
+at_most_one_means : (ns : List ℕ) → at_most_one ns ≡ true → length ns ≤ 1
+at_most_one_means [] h = omega arith
+at_most_one_means (n ∷ []) h = omega arith
+at_most_one_means (n ∷ m ∷ ns) h = absurd cc
 
-exchanged : (a b c d : List ℕ) → length (a ++ (b ++ (c ++ d))) ≤ 1 → a ++ (b ++ (c ++ d)) ≡ a ++ (c ++ (b ++ d))
-exchanged a [] c d few = refl
-exchanged a (n ∷ b) [] d few = refl
-exchanged a (n ∷ b) (m ∷ c) d few =
+exchange_middle_lists : (a b c d : List ℕ) → length (a ++ (b ++ (c ++ d))) ≤ 1 → a ++ (b ++ (c ++ d)) ≡ a ++ (c ++ (b ++ d))
+exchange_middle_lists a [] c d few = refl
+exchange_middle_lists a (n ∷ b) [] d few = refl
+exchange_middle_lists a (n ∷ b) (m ∷ c) d few =
     absurd (omega (arith, length-append a ((n ∷ b) ++ ((m ∷ c) ++ d)), length-append b ((m ∷ c) ++ d), few))
 
 exchanged_length : (a b c d : List ℕ) → length (a ++ (b ++ (c ++ d))) ≡ length (a ++ (c ++ (b ++ d)))
@@ -204,48 +204,48 @@ exchanged_length a b c d =
     omega (arith, length-append a (b ++ (c ++ d)), length-append b (c ++ d), length-append c d, length-append a (c ++ (b ++ d)), length-append c (b ++ d), length-append b d)
 
 -- roles with the same content
-record IsAlike (ps qs : List Place) : Type 0 where
+record IsAlike (ps qs : List Role) : Type 0 where
   known : list_all is_known ps ≡ list_all is_known qs
   plain : plain_words ps ≡ plain_words qs
-  once : (key : Key) → at_most_one (values_of (word key) ps) ≡ at_most_one (values_of (word key) qs)
-  values : (key : Key) → at_most_one (values_of (word key) ps) ≡ true → values_of (word key) ps ≡ values_of (word key) qs
+  once : (key : OptionKey) → at_most_one (values_of (word_of_key key) ps) ≡ at_most_one (values_of (word_of_key key) qs)
+  values : (key : OptionKey) → at_most_one (values_of (word_of_key key) ps) ≡ true → values_of (word_of_key key) ps ≡ values_of (word_of_key key) qs
 
 -- the command, from the roles
-abbrev command_at : List ℕ → List Place → Option Command
+abbrev command_at : List ℕ → List Role → Option Command
 command_at first ps =
-    if is_right ps then command_by first (plain_words ps) (numbers_given (of_keys (λ k. value_at (word k) ps))) (value_at (word Root) ps) else None
+    if are_right ps then command_by first (plain_words ps) (numbers_given (of_keys (λ k. value_at (word_of_key k) ps))) (value_at (word_of_key Root) ps) else None
 
 true_or : (b : Bool) → (b ≡ false → ⊥) → b ≡ true
 true_or true h = refl
 true_or false h = absurd (h refl)
 
-right_once : (ps : List Place) → is_right ps ≡ true → (key : Key) → at_most_one (values_of (word key) ps) ≡ true
+right_once : (ps : List Role) → are_right ps ≡ true → (key : OptionKey) → at_most_one (values_of (word_of_key key) ps) ≡ true
 right_once ps right key =
-    let every = (and_parts (list_all is_known ps) (all_keys (λ k. at_most_one (values_of (word k) ps))) right).1 in
-    true_or (at_most_one (values_of (word key) ps))
-    (λ h. both_ways (all_keys (λ k. at_most_one (values_of (word k) ps))) (one_false (λ k. at_most_one (values_of (word k) ps)) key h) every)
+    let every = (and_parts (list_all is_known ps) (all_keys (λ k. at_most_one (values_of (word_of_key k) ps))) right).1 in
+    true_or (at_most_one (values_of (word_of_key key) ps))
+    (λ h. both_ways (all_keys (λ k. at_most_one (values_of (word_of_key k) ps))) (one_false (λ k. at_most_one (values_of (word_of_key k) ps)) key h) every)
 
-same_right : (ps qs : List Place) → IsAlike ps qs → is_right ps ≡ is_right qs
+same_right : (ps qs : List Role) → IsAlike ps qs → are_right ps ≡ are_right qs
 same_right ps qs alike =
-    ap (λ b. b && all_keys (λ k. at_most_one (values_of (word k) ps))) alike.known
-    ∙ ap (λ b. list_all is_known qs && b) (same_all (λ k. at_most_one (values_of (word k) ps)) (λ k. at_most_one (values_of (word k) qs)) alike.once)
+    ap (λ b. b && all_keys (λ k. at_most_one (values_of (word_of_key k) ps))) alike.known
+    ∙ ap (λ b. list_all is_known qs && b) (same_all (λ k. at_most_one (values_of (word_of_key k) ps)) (λ k. at_most_one (values_of (word_of_key k) qs)) alike.once)
 
-same_command : (first : List ℕ) (ps qs : List Place) → IsAlike ps qs → command_at first ps ≡ command_at first qs
-same_command first ps qs alike = by (is_right ps) refl
+same_command : (first : List ℕ) (ps qs : List Role) → IsAlike ps qs → command_at first ps ≡ command_at first qs
+same_command first ps qs alike = by (are_right ps) refl
   where
-    value : is_right ps ≡ true → (key : Key) → value_at (word key) ps ≡ value_at (word key) qs
+    value : are_right ps ≡ true → (key : OptionKey) → value_at (word_of_key key) ps ≡ value_at (word_of_key key) qs
     value right key = ap first_of (alike.values key (right_once ps right key))
 
-    by : (b : Bool) → is_right ps ≡ b → command_at first ps ≡ command_at first qs
+    by : (b : Bool) → are_right ps ≡ b → command_at first ps ≡ command_at first qs
     by true right =
         rw (right, sym (same_right ps qs alike) ∙ right)
-        (ap (λ plain. command_by first plain (numbers_given (of_keys (λ k. value_at (word k) ps))) (value_at (word Root) ps)) alike.plain
-        ∙ (ap (λ given. command_by first (plain_words qs) (numbers_given given) (value_at (word Root) ps)) (same_given (λ k. value_at (word k) ps) (λ k. value_at (word k) qs) (value right))
-        ∙ ap (λ root. command_by first (plain_words qs) (numbers_given (of_keys (λ k. value_at (word k) qs))) root) (value right Root)))
+        (ap (λ plain. command_by first plain (numbers_given (of_keys (λ k. value_at (word_of_key k) ps))) (value_at (word_of_key Root) ps)) alike.plain
+        ∙ (ap (λ given. command_by first (plain_words qs) (numbers_given given) (value_at (word_of_key Root) ps)) (same_given (λ k. value_at (word_of_key k) ps) (λ k. value_at (word_of_key k) qs) (value right))
+        ∙ ap (λ root. command_by first (plain_words qs) (numbers_given (of_keys (λ k. value_at (word_of_key k) qs))) root) (value right Root)))
     by false wrong = rw (wrong, sym (same_right ps qs alike) ∙ wrong) refl
 
 -- the command of a line, from its roles
-of_places : (first : List ℕ) (words : List (List ℕ)) → command_of (first ∷ words) ≡ command_at first (line_places first words)
+of_places : (first : List ℕ) (words : List (List ℕ)) → command_of (first ∷ words) ≡ command_at first (line_roles first words)
 of_places first words = refl
 
 whole_line : (options : List (List ℕ)) (first : List ℕ) (before : List (List ℕ)) → is_option options first ≡ false → ends_whole options before ≡ true
@@ -253,88 +253,88 @@ whole_line : (options : List (List ℕ)) (first : List ℕ) (before : List (List
 whole_line options first [] none whole = ap not none
 whole_line options first (w ∷ before) none whole = whole
 
-known_four : (i g h a : List Place) → list_all is_known (i ++ (g ++ (h ++ a))) ≡ (list_all is_known i && (list_all is_known g && (list_all is_known h && list_all is_known a)))
+known_four : (i g h a : List Role) → list_all is_known (i ++ (g ++ (h ++ a))) ≡ (list_all is_known i && (list_all is_known g && (list_all is_known h && list_all is_known a)))
 known_four i g h a =
     list_all-append is_known i (g ++ (h ++ a))
     ∙ ap (λ b. list_all is_known i && b) (list_all-append is_known g (h ++ a) ∙ ap (λ b. list_all is_known g && b) (list_all-append is_known h a))
 
-plain_four : (i g h a : List Place) → plain_words (i ++ (g ++ (h ++ a))) ≡ plain_words i ++ (plain_words g ++ (plain_words h ++ plain_words a))
+plain_four : (i g h a : List Role) → plain_words (i ++ (g ++ (h ++ a))) ≡ plain_words i ++ (plain_words g ++ (plain_words h ++ plain_words a))
 plain_four i g h a =
     plain-append i (g ++ (h ++ a))
     ∙ ap (λ l. plain_words i ++ l) (plain-append g (h ++ a) ∙ ap (λ l. plain_words g ++ l) (plain-append h a))
 
-values_four : (o : List ℕ) (i g h a : List Place) → values_of o (i ++ (g ++ (h ++ a))) ≡ values_of o i ++ (values_of o g ++ (values_of o h ++ values_of o a))
+values_four : (o : List ℕ) (i g h a : List Role) → values_of o (i ++ (g ++ (h ++ a))) ≡ values_of o i ++ (values_of o g ++ (values_of o h ++ values_of o a))
 values_four o i g h a =
     values-append o i (g ++ (h ++ a))
     ∙ ap (λ l. values_of o i ++ l) (values-append o g (h ++ a) ∙ ap (λ l. values_of o g ++ l) (values-append o h a))
 
-swapped : (p q r s : Bool) → (p && (q && (r && s))) ≡ (p && (r && (q && s)))
-swapped p true true s = refl
-swapped p true false s = refl
-swapped p false true s = refl
-swapped p false false s = refl
+exchange_middle_tests : (p q r s : Bool) → (p && (q && (r && s))) ≡ (p && (r && (q && s)))
+exchange_middle_tests p true true s = refl
+exchange_middle_tests p true false s = refl
+exchange_middle_tests p false true s = refl
+exchange_middle_tests p false false s = refl
 
-moved : (i g h a : List Place) → plain_words g ≡ [] → IsAlike (i ++ (g ++ (h ++ a))) (i ++ (h ++ (g ++ a)))
-moved i g h a none = record {
+exchange_groups : (i g h a : List Role) → plain_words g ≡ [] → IsAlike (i ++ (g ++ (h ++ a))) (i ++ (h ++ (g ++ a)))
+exchange_groups i g h a none = record {
   known =
       known_four i g h a
-      ∙ (swapped (list_all is_known i) (list_all is_known g) (list_all is_known h) (list_all is_known a) ∙ sym (known_four i h g a));
+      ∙ (exchange_middle_tests (list_all is_known i) (list_all is_known g) (list_all is_known h) (list_all is_known a) ∙ sym (known_four i h g a));
   plain = plain_four i g h a ∙ (rw none refl ∙ sym (plain_four i h g a));
   once =
       λ key.
-      let o = word key in
+      let o = word_of_key key in
       ap at_most_one (values_four o i g h a)
       ∙ (by_length _ _ (exchanged_length (values_of o i) (values_of o g) (values_of o h) (values_of o a)) ∙ ap at_most_one (sym (values_four o i h g a)));
   values =
       λ key few.
-      let o = word key in
+      let o = word_of_key key in
       values_four o i g h a
-      ∙ (exchanged (values_of o i) (values_of o g) (values_of o h) (values_of o a) (at_most _ (ap at_most_one (sym (values_four o i g h a)) ∙ few))
+      ∙ (exchange_middle_lists (values_of o i) (values_of o g) (values_of o h) (values_of o a) (at_most_one_means _ (ap at_most_one (sym (values_four o i g h a)) ∙ few))
       ∙ sym (values_four o i h g a));
 }
 
 -- the roles of two groups in a line
-line_two : (first : List ℕ) (before : List (List ℕ)) (g h : Group) (after : List (List ℕ)) → ends_whole (options_of first) before ≡ true → IsGroup (options_of first) g
+line_two : (first : List ℕ) (before : List (List ℕ)) (g h : Group) (roles_without_before : List (List ℕ)) → ends_whole (options_of first) before ≡ true → IsGroup (options_of first) g
     → IsGroup (options_of first) h
-    → line_places first (before ++ (spelt g ++ (spelt h ++ after))) ≡ inner (options_of first) first before ++ (placed g ++ (placed h ++ places (options_of first) [] after))
-line_two first before g h after whole one other =
+    → line_roles first (before ++ (spelt g ++ (spelt h ++ roles_without_before))) ≡ roles_inside (options_of first) first before ++ (roles_of_group g ++ (roles_of_group h ++ roles (options_of first) [] roles_without_before))
+line_two first before g h roles_without_before whole one other =
     let t = taken_for first in
     let none = first_no_option t.0 first t.1 in
-    subst (λ os. ends_whole os (first ∷ before) ≡ true → IsGroup os g → IsGroup os h → places os first (before ++ (spelt g ++ (spelt h ++ after))) ≡ inner os first before ++ (placed g ++ (placed h ++ places os [] after))) t.1
-    (λ w p q. two_placed t.0 first before g h after w p q) (whole_line (options_of first) first before none whole) one other
+    subst (λ os. ends_whole os (first ∷ before) ≡ true → IsGroup os g → IsGroup os h → roles os first (before ++ (spelt g ++ (spelt h ++ roles_without_before))) ≡ roles_inside os first before ++ (roles_of_group g ++ (roles_of_group h ++ roles os [] roles_without_before))) t.1
+    (λ w p q. two_placed t.0 first before g h roles_without_before w p q) (whole_line (options_of first) first before none whole) one other
 
-line_one : (first : List ℕ) (before : List (List ℕ)) (g : Group) (after : List (List ℕ)) → ends_whole (options_of first) before ≡ true → IsGroup (options_of first) g
-    → line_places first (before ++ (spelt g ++ after)) ≡ inner (options_of first) first before ++ (placed g ++ places (options_of first) [] after)
-line_one first before g after whole one =
+line_one : (first : List ℕ) (before : List (List ℕ)) (g : Group) (roles_without_before : List (List ℕ)) → ends_whole (options_of first) before ≡ true → IsGroup (options_of first) g
+    → line_roles first (before ++ (spelt g ++ roles_without_before)) ≡ roles_inside (options_of first) first before ++ (roles_of_group g ++ roles (options_of first) [] roles_without_before)
+line_one first before g roles_without_before whole one =
     let t = taken_for first in
     let none = first_no_option t.0 first t.1 in
-    subst (λ os. ends_whole os (first ∷ before) ≡ true → IsGroup os g → places os first (before ++ (spelt g ++ after)) ≡ inner os first before ++ (placed g ++ places os [] after)) t.1
-    (λ w p. one_placed t.0 first before g after w p) (whole_line (options_of first) first before none whole) one
+    subst (λ os. ends_whole os (first ∷ before) ≡ true → IsGroup os g → roles os first (before ++ (spelt g ++ roles_without_before)) ≡ roles_inside os first before ++ (roles_of_group g ++ roles os [] roles_without_before)) t.1
+    (λ w p. one_placed t.0 first before g roles_without_before w p) (whole_line (options_of first) first before none whole) one
 
 set_plain : (option : List ℕ) (o : Option ℕ) → plain_words (set_to option o ∷ []) ≡ []
 unfolding plain_words
 set_plain option None = refl
 set_plain option (Some n) = refl
 
-setting_plain : (options : List (List ℕ)) (g : Group) → IsSetting options g → plain_words (placed g) ≡ []
-unfolding plain_words placed
+setting_plain : (options : List (List ℕ)) (g : Group) → IsSetting options g → plain_words (roles_of_group g) ≡ []
+unfolding plain_words roles_of_group
 setting_plain options (Word w) is = absurd is
 setting_plain options (Apart option v) is = set_plain option (value_of v)
 setting_plain options (Joined option v) is = set_plain option (value_of v)
 
-pub options_move : (first : List ℕ) (before after : List (List ℕ)) (g h : Group) → ends_whole (options_of first) before ≡ true → IsSetting (options_of first) g
+pub options_move : (first : List ℕ) (before roles_without_before : List (List ℕ)) (g h : Group) → ends_whole (options_of first) before ≡ true → IsSetting (options_of first) g
     → IsGroup (options_of first) h
-    → command_of (first ∷ (before ++ (spelt g ++ (spelt h ++ after)))) ≡ command_of (first ∷ (before ++ (spelt h ++ (spelt g ++ after))))
-options_move first before after g h whole setting group =
+    → command_of (first ∷ (before ++ (spelt g ++ (spelt h ++ roles_without_before)))) ≡ command_of (first ∷ (before ++ (spelt h ++ (spelt g ++ roles_without_before))))
+options_move first before roles_without_before g h whole setting group =
     let one = setting_group (options_of first) g setting in
-    let a = places (options_of first) [] after in
-    let i = inner (options_of first) first before in
-    of_places first (before ++ (spelt g ++ (spelt h ++ after)))
-    ∙ (ap (command_at first) (line_two first before g h after whole one group)
-    ∙ (same_command first (i ++ (placed g ++ (placed h ++ a))) (i ++ (placed h ++ (placed g ++ a))) (moved i (placed g) (placed h) a (setting_plain (options_of first) g setting))
-    ∙ (ap (command_at first) (sym (line_two first before h g after whole group one)) ∙ sym (of_places first (before ++ (spelt h ++ (spelt g ++ after)))))))
+    let a = roles (options_of first) [] roles_without_before in
+    let i = roles_inside (options_of first) first before in
+    of_places first (before ++ (spelt g ++ (spelt h ++ roles_without_before)))
+    ∙ (ap (command_at first) (line_two first before g h roles_without_before whole one group)
+    ∙ (same_command first (i ++ (roles_of_group g ++ (roles_of_group h ++ a))) (i ++ (roles_of_group h ++ (roles_of_group g ++ a))) (exchange_groups i (roles_of_group g) (roles_of_group h) a (setting_plain (options_of first) g setting))
+    ∙ (ap (command_at first) (sym (line_two first before h g roles_without_before whole group one)) ∙ sym (of_places first (before ++ (spelt h ++ (spelt g ++ roles_without_before)))))))
 
-without_name : (i a : List Place) → IsAlike (i ++ (Named ∷ a)) (i ++ a)
+without_name : (i a : List Role) → IsAlike (i ++ (Named ∷ a)) (i ++ a)
 unfolding plain_words values_of
 without_name i a =
     let values : (o : List ℕ) → values_of o (i ++ (Named ∷ a)) ≡ values_of o (i ++ a) =
@@ -342,18 +342,18 @@ without_name i a =
     record {
       known = list_all-append is_known i (Named ∷ a) ∙ sym (list_all-append is_known i a);
       plain = plain-append i (Named ∷ a) ∙ sym (plain-append i a);
-      once = λ key. ap at_most_one (values (word key));
-      values = λ key few. values (word key);
+      once = λ key. ap at_most_one (values (word_of_key key));
+      values = λ key few. values (word_of_key key);
     }
 
-pub options_join : (first option value : List ℕ) (before after : List (List ℕ)) → ends_whole (options_of first) before ≡ true
+pub options_join : (first option value : List ℕ) (before roles_without_before : List (List ℕ)) → ends_whole (options_of first) before ≡ true
     → IsSetting (options_of first) (Apart option value)
-    → command_of (first ∷ (before ++ (option ∷ value ∷ after))) ≡ command_of (first ∷ (before ++ ((option ++ (61 ∷ value)) ∷ after)))
-unfolding placed
-options_join first option value before after whole setting =
-    let a = places (options_of first) [] after in
-    let i = inner (options_of first) first before in
-    of_places first (before ++ (option ∷ value ∷ after))
-    ∙ (ap (command_at first) (line_one first before (Apart option value) after whole setting)
+    → command_of (first ∷ (before ++ (option ∷ value ∷ roles_without_before))) ≡ command_of (first ∷ (before ++ ((option ++ (61 ∷ value)) ∷ roles_without_before)))
+unfolding roles_of_group
+options_join first option value before roles_without_before whole setting =
+    let a = roles (options_of first) [] roles_without_before in
+    let i = roles_inside (options_of first) first before in
+    of_places first (before ++ (option ∷ value ∷ roles_without_before))
+    ∙ (ap (command_at first) (line_one first before (Apart option value) roles_without_before whole setting)
     ∙ (same_command first (i ++ (Named ∷ set_to option (value_of value) ∷ a)) (i ++ (set_to option (value_of value) ∷ a)) (without_name i (set_to option (value_of value) ∷ a))
-    ∙ (ap (command_at first) (sym (line_one first before (Joined option value) after whole setting)) ∙ sym (of_places first (before ++ ((option ++ (61 ∷ value)) ∷ after))))))
+    ∙ (ap (command_at first) (sym (line_one first before (Joined option value) roles_without_before whole setting)) ∙ sym (of_places first (before ++ ((option ++ (61 ∷ value)) ∷ roles_without_before))))))

@@ -1,5 +1,5 @@
 pub mod KeyLemmas
-pub mod PlaceLemmas
+pub mod RoleLemmas
 pub mod WordsLeftLemmas
 pub mod PartsLemmas
 pub mod LawLemmas

@@ -6,49 +6,49 @@ use Rattle.goal_limits.specs.declared.limits.TheConstants.{MAX_RANKS, MAX_BYTES,
 use Rattle.sim_params.specs.Costs.{Numbers}
 use Rattle.goal_words.specs.Options.{value_of, within_limits}
 use Rattle.goal_words.specs.Words.{Command, Sim, Waits, Knots, Gen, Certify, Probe, sim_of, waits_of, knots_of, nodes_of, compile_of, show_of, gen_of, certify_of, probe_of, number_from, collective_of, command_by}
-use Rattle.goal_words.specs.Sentences.{IsSized}
+use Rattle.goal_words.specs.Requests.{IsSized}
 
-tested : (most n : ℕ) (low high : Bool) → nat_le n most ≡ high → IfSome (if low && high then Some n else None) (λ m. m ≤ most)
-tested most n true true h = leb-true n most h
-tested most n true false h = tt
-tested most n false high h = tt
+number_at_most : (most n : ℕ) (low high : Bool) → nat_le n most ≡ high → IfSome (if low && high then Some n else None) (λ m. m ≤ most)
+number_at_most most n true true h = leb-true n most h
+number_at_most most n true false h = tt
+number_at_most most n false high h = tt
 
-small : (least most : ℕ) (w : List ℕ) → IfSome (number_from least most w) (λ m. m ≤ most)
-small least most w = by (value_of w)
+number_from_at_most : (least most : ℕ) (w : List ℕ) → IfSome (number_from least most w) (λ m. m ≤ most)
+number_from_at_most least most w = by (value_of w)
   where
     by : (o : Option ℕ) → IfSome (option_and_then (λ n. if nat_le least n && nat_le n most then Some n else None) o) (λ m. m ≤ most)
     by None = tt
-    by (Some n) = tested most n (nat_le least n) (nat_le n most) refl
+    by (Some n) = number_at_most most n (nat_le least n) (nat_le n most) refl
 
-mapped : {X : Type 0} (f : X → Command) (o : Option X) → IfSome o (λ x. IsSized (f x)) → IfSome (option_map f o) IsSized
-mapped f None h = tt
-mapped f (Some x) h = h
+map_is_sized : {X : Type 0} (f : X → Command) (o : Option X) → IfSome o (λ x. IsSized (f x)) → IfSome (option_map f o) IsSized
+map_is_sized f None h = tt
+map_is_sized f (Some x) h = h
 
-chained : {X : Type 0} (f : X → Option Command) (o : Option X) → ((x : X) → IfSome (f x) IsSized) → IfSome (option_and_then f o) IsSized
-chained f None h = tt
-chained f (Some x) h = h x
+and_then_is_sized : {X : Type 0} (f : X → Option Command) (o : Option X) → ((x : X) → IfSome (f x) IsSized) → IfSome (option_and_then f o) IsSized
+and_then_is_sized f None h = tt
+and_then_is_sized f (Some x) h = h x
 
-always : {X : Type 0} (o : Option X) → IfSome o (λ x. Unit {0})
-always None = tt
-always (Some x) = tt
+if_some_always : {X : Type 0} (o : Option X) → IfSome o (λ x. Unit {0})
+if_some_always None = tt
+if_some_always (Some x) = tt
 
-either : (b : Bool) (x y : Option Command) → IfSome x IsSized → IfSome y IsSized → IfSome (if b then x else y) IsSized
-either true x y h k = h
-either false x y h k = k
+if_is_sized : (b : Bool) (x y : Option Command) → IfSome x IsSized → IfSome y IsSized → IfSome (if b then x else y) IsSized
+if_is_sized true x y h k = h
+if_is_sized false x y h k = k
 
 sim_sized : (plain : List (List ℕ)) (params : Numbers) → IfSome (sim_of plain params) IsSized
 sim_sized [] params = tt
-sim_sized (name ∷ []) params = mapped (Sim name) (within_limits params) (always (within_limits params))
+sim_sized (name ∷ []) params = map_is_sized (Sim name) (within_limits params) (if_some_always (within_limits params))
 sim_sized (name ∷ other ∷ plain) params = tt
 
 waits_sized : (plain : List (List ℕ)) (params : Numbers) → IfSome (waits_of plain params) IsSized
 waits_sized [] params = tt
-waits_sized (name ∷ []) params = mapped (Waits name) (within_limits params) (always (within_limits params))
+waits_sized (name ∷ []) params = map_is_sized (Waits name) (within_limits params) (if_some_always (within_limits params))
 waits_sized (name ∷ other ∷ plain) params = tt
 
 knots_sized : (plain : List (List ℕ)) (params : Numbers) → IfSome (knots_of plain params) IsSized
 knots_sized [] params = tt
-knots_sized (name ∷ []) params = mapped (Knots name) (within_limits params) (always (within_limits params))
+knots_sized (name ∷ []) params = map_is_sized (Knots name) (within_limits params) (if_some_always (within_limits params))
 knots_sized (name ∷ other ∷ plain) params = tt
 
 nodes_sized : (plain : List (List ℕ)) → IfSome (nodes_of plain) IsSized
@@ -73,19 +73,19 @@ gen_sized [] root = tt
 gen_sized (kind ∷ []) root = tt
 gen_sized (kind ∷ ranks ∷ []) root = tt
 gen_sized (kind ∷ ranks ∷ bytes ∷ []) root =
-    chained _ (collective_of kind root)
-    (λ what. chained _ (number_from 1 MAX_RANKS ranks) (λ n. mapped (Gen what n) (number_from 0 MAX_BYTES bytes) (small 0 MAX_BYTES bytes)))
+    and_then_is_sized _ (collective_of kind root)
+    (λ what. and_then_is_sized _ (number_from 1 MAX_RANKS ranks) (λ n. map_is_sized (Gen what n) (number_from 0 MAX_BYTES bytes) (number_from_at_most 0 MAX_BYTES bytes)))
 gen_sized (kind ∷ ranks ∷ bytes ∷ other ∷ plain) root = tt
 
 certify_sized : (plain : List (List ℕ)) (root : Option ℕ) → IfSome (certify_of plain root) IsSized
 certify_sized [] root = tt
 certify_sized (kind ∷ []) root = tt
-certify_sized (kind ∷ name ∷ []) root = mapped (λ what. Certify what name) (collective_of kind root) (always (collective_of kind root))
+certify_sized (kind ∷ name ∷ []) root = map_is_sized (λ what. Certify what name) (collective_of kind root) (if_some_always (collective_of kind root))
 certify_sized (kind ∷ name ∷ other ∷ plain) root = tt
 
 with_seed : (seed : List ℕ) (params : Numbers) (n : ℕ) → n ≤ MAX_ROUNDS
     → IfSome (option_and_then (λ (s : ℕ). option_map (Probe n s) (within_limits params)) (value_of seed)) IsSized
-with_seed seed params n few = chained _ (value_of seed) (λ s. by s (within_limits params))
+with_seed seed params n few = and_then_is_sized _ (value_of seed) (λ s. by s (within_limits params))
   where
     by : (s : ℕ) (o : Option Numbers) → IfSome (option_map (Probe n s) o) IsSized
     by s None = tt
@@ -99,18 +99,18 @@ with_rounds seed params (Some n) few = with_seed seed params n few
 probe_sized : (plain : List (List ℕ)) (params : Numbers) → IfSome (probe_of plain params) IsSized
 probe_sized [] params = tt
 probe_sized (rounds ∷ []) params = tt
-probe_sized (rounds ∷ seed ∷ []) params = with_rounds seed params (number_from 1 MAX_ROUNDS rounds) (small 1 MAX_ROUNDS rounds)
+probe_sized (rounds ∷ seed ∷ []) params = with_rounds seed params (number_from 1 MAX_ROUNDS rounds) (number_from_at_most 1 MAX_ROUNDS rounds)
 probe_sized (rounds ∷ seed ∷ other ∷ plain) params = tt
 
 command_sized : (first : List ℕ) (plain : List (List ℕ)) (params : Numbers) (root : Option ℕ) → IfSome (command_by first plain params root) IsSized
 command_sized first plain params root =
-    either (bytes_eq first (codes "sim")) _ _ (sim_sized plain params)
-    (either (bytes_eq first (codes "waits")) _ _ (waits_sized plain params)
-    (either (bytes_eq first (codes "knots")) _ _ (knots_sized plain params)
-    (either (bytes_eq first (codes "nodes")) _ _ (nodes_sized plain)
-    (either (bytes_eq first (codes "compile")) _ _ (compile_sized plain)
-    (either (bytes_eq first (codes "show")) _ _ (show_sized plain) (either (bytes_eq first (codes "gen")) _ _ (gen_sized plain root)
-    (either (bytes_eq first (codes "certify")) _ _ (certify_sized plain root) (either (bytes_eq first (codes "probe")) _ _ (probe_sized plain params) tt))))))))
+    if_is_sized (bytes_eq first (codes "sim")) _ _ (sim_sized plain params)
+    (if_is_sized (bytes_eq first (codes "waits")) _ _ (waits_sized plain params)
+    (if_is_sized (bytes_eq first (codes "knots")) _ _ (knots_sized plain params)
+    (if_is_sized (bytes_eq first (codes "nodes")) _ _ (nodes_sized plain)
+    (if_is_sized (bytes_eq first (codes "compile")) _ _ (compile_sized plain)
+    (if_is_sized (bytes_eq first (codes "show")) _ _ (show_sized plain) (if_is_sized (bytes_eq first (codes "gen")) _ _ (gen_sized plain root)
+    (if_is_sized (bytes_eq first (codes "certify")) _ _ (certify_sized plain root) (if_is_sized (bytes_eq first (codes "probe")) _ _ (probe_sized plain params) tt))))))))
 
-pub sized : (first : List ℕ) (plain : List (List ℕ)) (params : Numbers) (root : Option ℕ) (c : Command) → command_by first plain params root ≡ Some c → IsSized c
-sized first plain params root c is = subst (λ o. IfSome o IsSized) is (command_sized first plain params root)
+pub command_by_is_sized : (first : List ℕ) (plain : List (List ℕ)) (params : Numbers) (root : Option ℕ) (c : Command) → command_by first plain params root ≡ Some c → IsSized c
+command_by_is_sized first plain params root c is = subst (λ o. IfSome o IsSized) is (command_sized first plain params root)

@@ -6,13 +6,13 @@ use Rattle.std.specs.declared.alloc.Global.{Global}
 use Rattle.std.specs.declared.string.String.{String}
 use Rattle.std.proofs.lemmas.List.{drop_all}
 use Rattle.std.proofs.lemmas.Bool.{not-true}
-use Rattle.goal_words.specs.declared.options.Key.{Key}
+use Rattle.goal_words.specs.declared.options.OptionKey.{OptionKey}
 use Rattle.goal_words.specs.declared.options.AllowedOptions.{AllowedOptions}
 use Rattle.goal_words.specs.declared.options.OptionValues.{OptionValues}
 use Rattle.goal_words.specs.declared.words_left.WordsLeft.{WordsLeft}
 use Rattle.goal_words.specs.Options.{begins_dash}
 use Rattle.goal_words.specs.Reading.{Parts, key_of, with_plain, parts_in, left, begins_plain, are_one_to_three}
-use Rattle.goal_words.proofs.PlaceLemmas.{step_end, step_plain, step_alone, step_joined, step_wrong}
+use Rattle.goal_words.proofs.RoleLemmas.{step_end, step_plain, step_alone, step_joined, step_wrong}
 
 -- an option with its value, if there is one
 pub past : (r : Option WordsLeft) (o : Option OptionValues) (taken : AllowedOptions) (words : List (String Global)) (p : Option Parts)
@@ -23,10 +23,10 @@ past None o taken words p e h = rw h at e
 past (Some rest) o taken words p e h = e ∙ rw (h.0, h.1, h.2) refl
 
 -- an option word at the end
-pub alone : (taken : AllowedOptions) (g : OptionValues) (w : List ℕ) (key : Key) (words : List (String Global)) → key_of taken w ≡ Some key → length words ≡ 0
+pub option_without_value : (taken : AllowedOptions) (g : OptionValues) (w : List ℕ) (key : OptionKey) (words : List (String Global)) → key_of taken w ≡ Some key → length words ≡ 0
     → parts_in taken g (w ∷ map string_bytes words) ≡ None
-alone taken g w key [] h none = step_alone taken g w key h
-alone taken g w key (x ∷ words) h none = absurd (omega arith)
+option_without_value taken g w key [] h none = step_alone taken g w key h
+option_without_value taken g w key (x ∷ words) h none = absurd (omega arith)
 
 -- a word that begins with `-` and has no `=`
 pub unequal : (taken : AllowedOptions) (g : OptionValues) (w : List ℕ) (words : List (List ℕ)) → begins_dash w ≡ true → key_of taken w ≡ None
@@ -36,15 +36,15 @@ unequal taken g w words dash none last = by (key_of taken (before_first (λ b. b
     nothing : after_first (λ b. b == 61) w ≡ []
     nothing = drop_all _ w (omega (arith, last))
 
-    by : (o : Option Key) → key_of taken (before_first (λ b. b == 61) w) ≡ o → parts_in taken g (w ∷ words) ≡ None
+    by : (o : Option OptionKey) → key_of taken (before_first (λ b. b == 61) w) ≡ o → parts_in taken g (w ∷ words) ≡ None
     by None other = step_wrong taken g w words dash none other
     by (Some key) other = step_joined taken g w key words dash none other ∙ rw nothing refl
 
 -- no more words
-pub ended : (taken : AllowedOptions) (g : OptionValues) (words : List (String Global)) → length words ≡ 0
+pub no_words_left : (taken : AllowedOptions) (g : OptionValues) (words : List (String Global)) → length words ≡ 0
     → parts_in taken g (map string_bytes words) ≡ Some (record { plain = []; given = g })
-ended taken g [] none = step_end taken g
-ended taken g (x ∷ words) none = absurd (omega arith)
+no_words_left taken g [] none = step_end taken g
+no_words_left taken g (x ∷ words) none = absurd (omega arith)
 
 -- a plain word is next
 pub begun : (taken : AllowedOptions) (g : OptionValues) (x : String Global) (words : List (String Global)) → begins_plain (map string_bytes (x ∷ words)) ≡ true

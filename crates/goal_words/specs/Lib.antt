@@ -3,7 +3,7 @@ pub mod Limits
 pub mod Options
 pub mod Words
 -- What only the code keeps.
-pub mod Sentences
+pub mod Requests
 pub mod Reading
 -- Laws.
 pub mod Laws

@@ -37,39 +37,39 @@ abbrev pub value_of : List ℕ → Option ℕ
 value_of w = if is_number w then Some (digits_value 10 w) else None
 
 -- the role of a word
-pub data Place : Type 0 where
+pub data Role : Type 0 where
   -- a plain word
-  Plain : List ℕ → Place
+  Plain : List ℕ → Role
   -- an option word, whose value is the next word
-  Named : Place
+  Named : Role
   -- the value of that option: the word after the option word, or the value joined to it by `=`
-  Set : List ℕ → ℕ → Place
+  Set : List ℕ → ℕ → Role
   -- none of these
-  Wrong : Place
+  Wrong : Role
 
 -- the value of the option, if it is a number
-abbrev pub set_to : List ℕ → Option ℕ → Place
+abbrev pub set_to : List ℕ → Option ℕ → Role
 set_to option (Some n) = Set option n
 set_to option None = Wrong
 
 -- an option, `=` and its value in one word
-abbrev pub joined : List (List ℕ) → List ℕ → Place
-joined options w =
+abbrev pub joined_option : List (List ℕ) → List ℕ → Role
+joined_option options w =
     if is_option options (before_first (λ b. b == 61) w) then set_to (before_first (λ b. b == 61) w) (value_of (after_first (λ b. b == 61) w)) else Wrong
 
 -- the role of word w after the word `before`
-abbrev pub place : List (List ℕ) → List ℕ → List ℕ → Place
-place options before w =
+abbrev pub role : List (List ℕ) → List ℕ → List ℕ → Role
+role options before w =
     if is_option options before then set_to before (value_of w)
-    else (if begins_dash w then (if is_option options w then Named else joined options w) else Plain w)
+    else (if begins_dash w then (if is_option options w then Named else joined_option options w) else Plain w)
 
 -- the roles of words after the word `before`; an option word at the end has no value
-unfoldable pub places : List (List ℕ) → List ℕ → List (List ℕ) → List Place
-places options before [] = if is_option options before then Wrong ∷ [] else []
-places options before (w ∷ words) = place options before w ∷ places options w words
+unfoldable pub roles : List (List ℕ) → List ℕ → List (List ℕ) → List Role
+roles options before [] = if is_option options before then Wrong ∷ [] else []
+roles options before (w ∷ words) = role options before w ∷ roles options w words
 
 -- the plain words, in their order
-unfoldable pub plain_words : List Place → List (List ℕ)
+unfoldable pub plain_words : List Role → List (List ℕ)
 plain_words [] = []
 plain_words (Plain w ∷ ps) = w ∷ plain_words ps
 plain_words (Named ∷ ps) = plain_words ps
@@ -77,14 +77,14 @@ plain_words (Set option n ∷ ps) = plain_words ps
 plain_words (Wrong ∷ ps) = plain_words ps
 
 -- all values that an option is given
-unfoldable pub values_of : List ℕ → List Place → List ℕ
+unfoldable pub values_of : List ℕ → List Role → List ℕ
 values_of o [] = []
 values_of o (Plain w ∷ ps) = values_of o ps
 values_of o (Named ∷ ps) = values_of o ps
 values_of o (Set option n ∷ ps) = if bytes_eq option o then n ∷ values_of o ps else values_of o ps
 values_of o (Wrong ∷ ps) = values_of o ps
 
-abbrev pub is_known : Place → Bool
+abbrev pub is_known : Role → Bool
 is_known Wrong = false
 is_known _ = true
 
@@ -94,19 +94,19 @@ at_most_one (n ∷ []) = true
 at_most_one (n ∷ m ∷ ns) = false
 
 -- each word has a role, and each option is given at most once
-abbrev pub is_right : List Place → Bool
-is_right ps = list_all is_known ps && list_all (λ o. at_most_one (values_of o ps)) all_options
+abbrev pub are_right : List Role → Bool
+are_right ps = list_all is_known ps && list_all (λ o. at_most_one (values_of o ps)) all_options
 
 abbrev pub first_of : List ℕ → Option ℕ
 first_of [] = None
 first_of (n ∷ ns) = Some n
 
 -- the value of an option, if it is given
-abbrev pub value_at : List ℕ → List Place → Option ℕ
+abbrev pub value_at : List ℕ → List Role → Option ℕ
 value_at o ps = first_of (values_of o ps)
 
 -- the parameters of a run: those given, and otherwise the defaults
-abbrev pub numbers_of : List Place → Numbers
+abbrev pub numbers_of : List Role → Numbers
 numbers_of ps = record {
   latency = unwrap_or (value_at (codes "--L") ps) default_latency;
   overhead = unwrap_or (value_at (codes "--o") ps) default_overhead;

@@ -3,9 +3,9 @@ use Rattle.std.specs.Prelude.{ℕ, Bool, true, false, List, [], ◌∷◌, not, 
 use Rattle.std.specs.Option.{option_map, option_and_then}
 use Rattle.sim_params.specs.Costs.{Numbers}
 use Rattle.sim_params.specs.Defaults.{default_latency, default_overhead, default_gap, default_gap_per_byte, default_overhead_per_byte, default_sync}
-use Rattle.goal_words.specs.Options.{Place, Plain, Named, Set, Wrong, run_options, root_option, begins_dash, value_of, places}
-use Rattle.goal_words.specs.declared.options.Key.{Key}
-use Rattle.goal_words.specs.declared.options.Key.TheVariants.{Latency, Overhead, Gap, GapPerByte, GapPicos, OverheadPerByte, OverheadPicos, Sync, Root}
+use Rattle.goal_words.specs.Options.{Role, Plain, Named, Set, Wrong, run_options, root_option, begins_dash, value_of, roles}
+use Rattle.goal_words.specs.declared.options.OptionKey.{OptionKey}
+use Rattle.goal_words.specs.declared.options.OptionKey.TheVariants.{Latency, Overhead, Gap, GapPerByte, GapPicos, OverheadPerByte, OverheadPicos, Sync, Root}
 use Rattle.goal_words.specs.declared.options.AllowedOptions.{AllowedOptions}
 use Rattle.goal_words.specs.declared.options.AllowedOptions.TheVariants as taken_by
 use Rattle.goal_words.specs.declared.options.OptionValues.{OptionValues}
@@ -14,11 +14,11 @@ use Rattle.goal_words.specs.declared.words_left.PlainWords.{PlainWords}
 use Rattle.goal_words.specs.declared.words_left.PlainWords.TheVariants.{One, Two, Three}
 
 -- this option if the word is its word, and otherwise what the others say
-abbrev pub named_or : List ℕ → List ℕ → Key → Option Key → Option Key
+abbrev pub named_or : List ℕ → List ℕ → OptionKey → Option OptionKey → Option OptionKey
 named_or w option key others = if bytes_eq w option then Some key else others
 
 -- the option of a run with that word
-abbrev pub run_key_of : List ℕ → Option Key
+abbrev pub run_key_of : List ℕ → Option OptionKey
 run_key_of w =
     named_or w (codes "--L") Latency
     (named_or w (codes "--o") Overhead
@@ -30,11 +30,11 @@ run_key_of w =
     (named_or w (codes "--S") Sync None)))))))
 
 -- the option with that word
-abbrev pub key_named : List ℕ → Option Key
+abbrev pub key_named : List ℕ → Option OptionKey
 key_named w = named_or w (codes "--root") Root (run_key_of w)
 
 -- the option with that word among those that a command allows
-abbrev pub key_of : AllowedOptions → List ℕ → Option Key
+abbrev pub key_of : AllowedOptions → List ℕ → Option OptionKey
 key_of taken_by.Run w = run_key_of w
 key_of taken_by.Root w = named_or w (codes "--root") Root None
 key_of taken_by.Nothing w = None
@@ -60,7 +60,7 @@ none_given = record {
 }
 
 -- the value of an option, if it is given
-abbrev pub given_for : OptionValues → Key → Option ℕ
+abbrev pub given_for : OptionValues → OptionKey → Option ℕ
 given_for g Latency = g.latency
 given_for g Overhead = g.overhead
 given_for g Gap = g.gap
@@ -72,7 +72,7 @@ given_for g Sync = g.sync
 given_for g Root = g.root
 
 -- the options, with one set to a number
-abbrev pub set : OptionValues → Key → ℕ → OptionValues
+abbrev pub set : OptionValues → OptionKey → ℕ → OptionValues
 set g Latency n = record g { latency = Some n }
 set g Overhead n = record g { overhead = Some n }
 set g Gap n = record g { gap = Some n }
@@ -84,15 +84,15 @@ set g Sync n = record g { sync = Some n }
 set g Root n = record g { root = Some n }
 
 -- the options with another one, unless it is already given
-abbrev pub with_option : OptionValues → Key → ℕ → Option OptionValues
+abbrev pub with_option : OptionValues → OptionKey → ℕ → Option OptionValues
 with_option g key n = if is_some (given_for g key) then None else Some (set g key n)
 
 -- the options with another one, whose value is this word
-abbrev pub with_value : OptionValues → Key → List ℕ → Option OptionValues
+abbrev pub with_value : OptionValues → OptionKey → List ℕ → Option OptionValues
 with_value g key w = option_and_then (λ n. with_option g key n) (value_of w)
 
 -- the options with that of this word set, if there is one
-abbrev pub with_set : OptionValues → Option Key → ℕ → Option OptionValues
+abbrev pub with_set : OptionValues → Option OptionKey → ℕ → Option OptionValues
 with_set g None n = Some g
 with_set g (Some key) n = with_option g key n
 
@@ -119,7 +119,7 @@ abbrev pub with_plain : List ℕ → Parts → Parts
 with_plain w parts = record { plain = w ∷ parts.plain; given = parts.given }
 
 -- the parts of a line with these roles, after the options given before
-unfoldable pub parts_of : OptionValues → List Place → Option Parts
+unfoldable pub parts_of : OptionValues → List Role → Option Parts
 parts_of g [] = Some (record { plain = []; given = g })
 parts_of g (Plain w ∷ ps) = option_map (with_plain w) (parts_of g ps)
 parts_of g (Named ∷ ps) = parts_of g ps
@@ -128,7 +128,7 @@ parts_of g (Wrong ∷ ps) = None
 
 -- the parts of words that do not follow an option word
 unfoldable pub parts_in : AllowedOptions → OptionValues → List (List ℕ) → Option Parts
-parts_in taken g words = parts_of g (places (words_of taken) [] words)
+parts_in taken g words = parts_of g (roles (words_of taken) [] words)
 
 -- the parts of what is left of a line
 abbrev pub left : WordsLeft → Option Parts

@@ -9,12 +9,12 @@ use Rattle.goal_limits.specs.declared.collective.Collective.TheVariants.{Bcast, 
 use Rattle.sim_params.specs.Costs.{Numbers}
 use Rattle.sim_params.specs.Numbers.{numbers}
 use Rattle.goal_words.specs.Limits.{root_limit}
-use Rattle.goal_words.specs.declared.sentence.Source.{Source}
-use Rattle.goal_words.specs.declared.sentence.Source.TheVariants as source
-use Rattle.goal_words.specs.declared.sentence.RunView.TheVariants as run
-use Rattle.goal_words.specs.declared.sentence.View.{View}
-use Rattle.goal_words.specs.declared.sentence.View.TheVariants as view
-use Rattle.goal_words.specs.Options.{Place, run_options, root_option, value_of, places, plain_words, is_right, value_at, numbers_of, within_limits}
+use Rattle.goal_words.specs.declared.request.Source.{Source}
+use Rattle.goal_words.specs.declared.request.Source.TheVariants as source
+use Rattle.goal_words.specs.declared.request.RunView.TheVariants as run
+use Rattle.goal_words.specs.declared.request.View.{View}
+use Rattle.goal_words.specs.declared.request.View.TheVariants as view
+use Rattle.goal_words.specs.Options.{Role, run_options, root_option, value_of, roles, plain_words, are_right, value_at, numbers_of, within_limits}
 
 -- What the actions of a schedule cost.
 pub data Pricing : Type 0 where
@@ -171,15 +171,15 @@ command_by first plain params root =
     else (if bytes_eq first (codes "probe") then probe_of plain params else None))))))))
 
 -- the roles of the words of a line after the first
-abbrev pub line_places : List ℕ → List (List ℕ) → List Place
-line_places first words = places (options_of first) first words
+abbrev pub line_roles : List ℕ → List (List ℕ) → List Role
+line_roles first words = roles (options_of first) first words
 
 -- the command of these words
 abbrev pub command_of : List (List ℕ) → Option Command
 command_of [] = None
 command_of (first ∷ words) =
-    if is_right (line_places first words)
-    then command_by first (plain_words (line_places first words)) (numbers_of (line_places first words)) (value_at (codes "--root") (line_places first words))
+    if are_right (line_roles first words)
+    then command_by first (plain_words (line_roles first words)) (numbers_of (line_roles first words)) (value_at (codes "--root") (line_roles first words))
     else None
 
 -- the same for words as the code has them

@@ -19,9 +19,9 @@ mod kinds;
 mod laws;
 mod line;
 mod options;
-mod sentence;
+mod request;
 mod words_left;
 
 pub use laws::laws_of_lines;
 pub use line::{FileName, Line, LineFault, read_words};
-pub use sentence::{Costing, RunView, Sentence, Source, View};
+pub use request::{Costing, Request, RunView, Source, View};

@@ -1,7 +1,7 @@
 //! Command lines.
 ghost use Rattle.std.specs.Prelude.{◌≡◌, None, Some, ◌⊎◌, IfOk, IfErr, IsErrOf, MatchOption};
 ghost use Rattle.goal_words.specs.Words.{command_by, command_in, options_of, sim_of, waits_of, knots_of, nodes_of, compile_of, show_of, gen_of, certify_of, probe_of};
-ghost use Rattle.goal_words.specs.Sentences.{command, IsSized};
+ghost use Rattle.goal_words.specs.Requests.{command, IsSized};
 ghost use Rattle.goal_words.specs.Reading.{listed, numbers_given, words_of};
 
 use crate::kinds::{collective_of, number_from};

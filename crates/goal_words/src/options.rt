@@ -12,7 +12,7 @@ use sim_params::{
 
 /// An option, by what it sets.
 #[derive(Clone, Copy)]
-pub enum Key {
+pub enum OptionKey {
     /// `--L`
     Latency,
     /// `--o`
@@ -46,13 +46,13 @@ pub enum AllowedOptions {
 
 impl AllowedOptions {
     /// Returns the allowed option with this word, if any.
-    pub fn key_of(self, word: &str) -> Option<Key>
+    pub fn key_of(self, word: &str) -> Option<OptionKey>
         ensures { result ≡ key_of self word.now }
     {
         match self {
             AllowedOptions::Run => run_key_of(word),
             AllowedOptions::Root => match word {
-                "--root" => Some(Key::Root),
+                "--root" => Some(OptionKey::Root),
                 _ => None,
             },
             AllowedOptions::Nothing => None,
@@ -61,18 +61,18 @@ impl AllowedOptions {
 }
 
 // Returns the option of a run with this word, if any.
-fn run_key_of(word: &str) -> Option<Key>
+fn run_key_of(word: &str) -> Option<OptionKey>
     ensures { result ≡ run_key_of word.now }
 {
     match word {
-        "--L" => Some(Key::Latency),
-        "--o" => Some(Key::Overhead),
-        "--g" => Some(Key::Gap),
-        "--G" => Some(Key::GapPerByte),
-        "--Gp" => Some(Key::GapPicos),
-        "--O" => Some(Key::OverheadPerByte),
-        "--Op" => Some(Key::OverheadPicos),
-        "--S" => Some(Key::Sync),
+        "--L" => Some(OptionKey::Latency),
+        "--o" => Some(OptionKey::Overhead),
+        "--g" => Some(OptionKey::Gap),
+        "--G" => Some(OptionKey::GapPerByte),
+        "--Gp" => Some(OptionKey::GapPicos),
+        "--O" => Some(OptionKey::OverheadPerByte),
+        "--Op" => Some(OptionKey::OverheadPicos),
+        "--S" => Some(OptionKey::Sync),
         _ => None,
     }
 }
@@ -116,19 +116,19 @@ pub const NONE_GIVEN: OptionValues = OptionValues {
 
 impl OptionValues {
     /// Returns the options with another one, or `None` if it was already given.
-    pub fn with(self, key: Key, number: u64) -> Option<OptionValues>
+    pub fn with(self, key: OptionKey, number: u64) -> Option<OptionValues>
         ensures { result ≡ with_option self key number }
     {
         let place = match key {
-            Key::Latency => self.latency,
-            Key::Overhead => self.overhead,
-            Key::Gap => self.gap,
-            Key::GapPerByte => self.gap_per_byte,
-            Key::GapPicos => self.gap_picos,
-            Key::OverheadPerByte => self.overhead_per_byte,
-            Key::OverheadPicos => self.overhead_picos,
-            Key::Sync => self.sync,
-            Key::Root => self.root,
+            OptionKey::Latency => self.latency,
+            OptionKey::Overhead => self.overhead,
+            OptionKey::Gap => self.gap,
+            OptionKey::GapPerByte => self.gap_per_byte,
+            OptionKey::GapPicos => self.gap_picos,
+            OptionKey::OverheadPerByte => self.overhead_per_byte,
+            OptionKey::OverheadPicos => self.overhead_picos,
+            OptionKey::Sync => self.sync,
+            OptionKey::Root => self.root,
         };
         if place.is_some() {
             return None;
@@ -137,44 +137,44 @@ impl OptionValues {
     }
 
     // Returns the options with this value for one.
-    fn set(self, key: Key, number: u64) -> OptionValues
+    fn set(self, key: OptionKey, number: u64) -> OptionValues
         ensures { result ≡ set self key number }
     {
         let number = Some(number);
         match key {
-            Key::Latency => OptionValues {
+            OptionKey::Latency => OptionValues {
                 latency: number,
                 ..self
             },
-            Key::Overhead => OptionValues {
+            OptionKey::Overhead => OptionValues {
                 overhead: number,
                 ..self
             },
-            Key::Gap => OptionValues {
+            OptionKey::Gap => OptionValues {
                 gap: number,
                 ..self
             },
-            Key::GapPerByte => OptionValues {
+            OptionKey::GapPerByte => OptionValues {
                 gap_per_byte: number,
                 ..self
             },
-            Key::GapPicos => OptionValues {
+            OptionKey::GapPicos => OptionValues {
                 gap_picos: number,
                 ..self
             },
-            Key::OverheadPerByte => OptionValues {
+            OptionKey::OverheadPerByte => OptionValues {
                 overhead_per_byte: number,
                 ..self
             },
-            Key::OverheadPicos => OptionValues {
+            OptionKey::OverheadPicos => OptionValues {
                 overhead_picos: number,
                 ..self
             },
-            Key::Sync => OptionValues {
+            OptionKey::Sync => OptionValues {
                 sync: number,
                 ..self
             },
-            Key::Root => OptionValues {
+            OptionKey::Root => OptionValues {
                 root: number,
                 ..self
             },

@@ -5,7 +5,7 @@ ghost use Rattle.std.specs.List.{before_first, after_first, position_or_len};
 ghost use Rattle.goal_words.specs.Options.{begins_dash};
 ghost use Rattle.goal_words.specs.Reading.{parts_in, left, with_plain, with_value, none_given, begins_plain, listed, are_one_to_three};
 
-use crate::options::{AllowedOptions, Key, NONE_GIVEN, OptionValues, value_of};
+use crate::options::{AllowedOptions, NONE_GIVEN, OptionKey, OptionValues, value_of};
 
 /// What is left of a line: the options that it allows, those given so far, and the remaining words. These do not follow
 /// an option word.
@@ -49,7 +49,7 @@ impl<'a> WordsLeft<'a> {
 
     // The same with an option set to the number of this word, and with these words left. `None` if the word is no such
     // number, or the option was already given.
-    fn with(self, key: Key, value: &str, words: &'a [String]) -> Option<WordsLeft<'a>>
+    fn with(self, key: OptionKey, value: &str, words: &'a [String]) -> Option<WordsLeft<'a>>
         ensures { MatchOption result (with_value self.entry.given key value.now ≡ None)
             (λ rest. (with_value self.entry.given key value.now ≡ Some rest.given) × (rest.taken ≡ self.entry.taken) × (rest.words.now ≡ words.now)) }
     {

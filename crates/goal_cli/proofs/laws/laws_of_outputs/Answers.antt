@@ -1,4 +1,4 @@
-use Rattle.goal_words.specs.declared.sentence.RunView.TheVariants.{Printed}
+use Rattle.goal_words.specs.declared.request.RunView.TheVariants.{Printed}
 use Rattle.goal_views.proofs.ForCallers.{one_shown}
 use Rattle.goal_cli.proofs.OutputLemmas.{same_output, compiled_again, as_sim}
 use Rattle.goal_cli.proofs.laws.laws_of_outputs.Goals as goal

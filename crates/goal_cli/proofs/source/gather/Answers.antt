@@ -4,7 +4,7 @@ use Rattle.goal_limits.specs.declared.limits.TheConstants.{MAX_INPUT}
 use Rattle.goal_base.specs.Device.{HostState, Files, Later, KeepsFiles, SameReadCounts, ReadFaulted, IsTooLong}
 use Rattle.goal_graph.specs.Schedule.{Plan}
 use Rattle.goal_words.specs.Words.{Command}
-use Rattle.goal_words.specs.Sentences.{said}
+use Rattle.goal_words.specs.Requests.{requested}
 use Rattle.goal_cli.specs.declared.answer.Answer.{Answer}
 use Rattle.goal_cli.specs.declared.answer.Answer.TheVariants as answer
 use Rattle.goal_cli.specs.declared.answer.Refusal.{Refusal}
@@ -74,15 +74,15 @@ returns-in-Ok-take_machine-2-clause-idle g c =
     let old = g.H.Host.state c.args.host.now in
     let read = g.H.Host.state c.schedule_of.new.host in
     let is : c.in-Err-Refused.field-0 ≡ answer.Refused c.in-Err-Refused.refusal = search rules in
-    let unmade = subst (λ (a : Answer). IsUnmade old read (said c.args.sentence.now) a) is c.in-Err-Refused.ensures.unmade in
+    let unmade = subst (λ (a : Answer). IsUnmade old read (requested c.args.request.now) a) is c.in-Err-Refused.ensures.unmade in
     let got = c.in-Ok-take_machine-2.ensures in
     rw c.in-Err-Refused.refusal-is
-    (idle_refused old read (g.H.Host.state c.take_machine-in-Err-Refused.new.host) (said c.args.sentence.now) c.in-Err-Refused.refusal
+    (idle_refused old read (g.H.Host.state c.take_machine-in-Err-Refused.new.host) (requested c.args.request.now) c.in-Err-Refused.refusal
     c.in-Ok-take_machine-2._text.items c.schedule_of.ensures.later c.schedule_of.ensures.kept unmade got.got got.short got.read_out got.counts)
 
 pub returns-in-Ok-take_machine-clause-work : goal.returns-in-Ok-take_machine-clause-work
 returns-in-Ok-take_machine-clause-work g c =
-    gathered_of (g.H.Host.state c.args.host.now) (g.H.Host.state c.schedule_of.new.host) (said c.args.sentence.now) c.in-Ok.sched
+    gathered_of (g.H.Host.state c.args.host.now) (g.H.Host.state c.schedule_of.new.host) (requested c.args.request.now) c.in-Ok.sched
     c.in-Ok-take_machine.machine.items c.schedule_of.ensures.later c.schedule_of.ensures.kept c.in-Ok.ensures.schedule
     c.in-Ok-take_machine.ensures.got
 
@@ -98,7 +98,7 @@ returns-in-Ok-take_machine-clause-later g c =
 
 pub returns-in-Ok-take_machine-clause-taken : goal.returns-in-Ok-take_machine-clause-taken
 returns-in-Ok-take_machine-clause-taken g c =
-    taken_both (input_of (said c.args.sentence.now)) (machine_of (said c.args.sentence.now)) (g.H.Host.state c.args.host.now) (g.H.Host.state c.schedule_of.new.host) (g.H.Host.state c.take_machine.new.host)
+    taken_both (input_of (requested c.args.request.now)) (machine_of (requested c.args.request.now)) (g.H.Host.state c.args.host.now) (g.H.Host.state c.schedule_of.new.host) (g.H.Host.state c.take_machine.new.host)
     c.schedule_of.ensures.later c.schedule_of.ensures.kept c.schedule_of.ensures.taken c.take_machine.ensures.taken
 
 pub returns-in-Err-take_machine-clause-kept : goal.returns-in-Err-take_machine-clause-kept
@@ -113,7 +113,7 @@ returns-in-Err-take_machine-clause-later g c =
 
 pub returns-in-Err-take_machine-clause-taken : goal.returns-in-Err-take_machine-clause-taken
 returns-in-Err-take_machine-clause-taken g c =
-    taken_both (input_of (said c.args.sentence.now)) (machine_of (said c.args.sentence.now)) (g.H.Host.state c.args.host.now) (g.H.Host.state c.schedule_of.new.host) (g.H.Host.state c.take_machine.new.host)
+    taken_both (input_of (requested c.args.request.now)) (machine_of (requested c.args.request.now)) (g.H.Host.state c.args.host.now) (g.H.Host.state c.schedule_of.new.host) (g.H.Host.state c.take_machine.new.host)
     c.schedule_of.ensures.later c.schedule_of.ensures.kept c.schedule_of.ensures.taken c.take_machine.ensures.taken
 
 pub returns-in-Ok-take_machine-2-clause-kept : goal.returns-in-Ok-take_machine-2-clause-kept
@@ -128,7 +128,7 @@ returns-in-Ok-take_machine-2-clause-later g c =
 
 pub returns-in-Ok-take_machine-2-clause-taken : goal.returns-in-Ok-take_machine-2-clause-taken
 returns-in-Ok-take_machine-2-clause-taken g c =
-    taken_both (input_of (said c.args.sentence.now)) (machine_of (said c.args.sentence.now)) (g.H.Host.state c.args.host.now) (g.H.Host.state c.schedule_of.new.host) (g.H.Host.state c.take_machine-in-Err-Refused.new.host)
+    taken_both (input_of (requested c.args.request.now)) (machine_of (requested c.args.request.now)) (g.H.Host.state c.args.host.now) (g.H.Host.state c.schedule_of.new.host) (g.H.Host.state c.take_machine-in-Err-Refused.new.host)
     c.schedule_of.ensures.later c.schedule_of.ensures.kept c.schedule_of.ensures.taken c.take_machine-in-Err-Refused.ensures.taken
 
 pub returns-in-Err-take_machine-2-clause-kept : goal.returns-in-Err-take_machine-2-clause-kept
@@ -143,13 +143,13 @@ returns-in-Err-take_machine-2-clause-later g c =
 
 pub returns-in-Err-take_machine-2-clause-taken : goal.returns-in-Err-take_machine-2-clause-taken
 returns-in-Err-take_machine-2-clause-taken g c =
-    taken_both (input_of (said c.args.sentence.now)) (machine_of (said c.args.sentence.now)) (g.H.Host.state c.args.host.now) (g.H.Host.state c.schedule_of.new.host) (g.H.Host.state c.take_machine-in-Err-Refused.new.host)
+    taken_both (input_of (requested c.args.request.now)) (machine_of (requested c.args.request.now)) (g.H.Host.state c.args.host.now) (g.H.Host.state c.schedule_of.new.host) (g.H.Host.state c.take_machine-in-Err-Refused.new.host)
     c.schedule_of.ensures.later c.schedule_of.ensures.kept c.schedule_of.ensures.taken c.take_machine-in-Err-Refused.ensures.taken
 
 pub returns-in-Err-take_machine-clause-idle : goal.returns-in-Err-take_machine-clause-idle
 returns-in-Err-take_machine-clause-idle g c =
     idle_untold (g.H.Host.state c.args.host.now) (g.H.Host.state c.schedule_of.new.host) (g.H.Host.state c.take_machine.new.host)
-    (said c.args.sentence.now) (λ schedule. IsFrom c.args.sentence.now.source schedule c.in-Ok.sched) c.in-Err-take_machine.answer
+    (requested c.args.request.now) (λ schedule. IsFrom c.args.request.now.source schedule c.in-Ok.sched) c.in-Err-take_machine.answer
     c.schedule_of.ensures.later c.schedule_of.ensures.kept c.in-Ok.ensures.counts c.in-Ok.ensures.schedule c.in-Err-take_machine.ensures.untold
 
 pub returns-in-Err-take_machine-2-clause-idle : goal.returns-in-Err-take_machine-2-clause-idle
@@ -157,15 +157,15 @@ returns-in-Err-take_machine-2-clause-idle g c =
     let old = g.H.Host.state c.args.host.now in
     let read = g.H.Host.state c.schedule_of.new.host in
     let is : c.in-Err-Refused.field-0 ≡ answer.Refused c.in-Err-Refused.refusal = search rules in
-    let unmade = subst (λ (a : Answer). IsUnmade old read (said c.args.sentence.now) a) is c.in-Err-Refused.ensures.unmade in
-    idle_untold old read (g.H.Host.state c.take_machine-in-Err-Refused.new.host) (said c.args.sentence.now)
-    (λ schedule. (machine : List ℕ) → length machine ≤ MAX_INPUT → IsRefused (said c.args.sentence.now) (input_with schedule machine) c.in-Err-Refused.refusal)
+    let unmade = subst (λ (a : Answer). IsUnmade old read (requested c.args.request.now) a) is c.in-Err-Refused.ensures.unmade in
+    idle_untold old read (g.H.Host.state c.take_machine-in-Err-Refused.new.host) (requested c.args.request.now)
+    (λ schedule. (machine : List ℕ) → length machine ≤ MAX_INPUT → IsRefused (requested c.args.request.now) (input_with schedule machine) c.in-Err-Refused.refusal)
     c.in-Err-take_machine-2.answer c.schedule_of.ensures.later c.schedule_of.ensures.kept unmade.1 unmade.0
     c.in-Err-take_machine-2.ensures.untold
 
 pub returns-in-Ok-take_machine-clause-read_out : goal.returns-in-Ok-take_machine-clause-read_out
 returns-in-Ok-take_machine-clause-read_out g c =
-    read_out_from (g.H.Host.state c.args.host.now) (g.H.Host.state c.schedule_of.new.host) (g.H.Host.state c.take_machine.new.host) (machine_of (said c.args.sentence.now))
+    read_out_from (g.H.Host.state c.args.host.now) (g.H.Host.state c.schedule_of.new.host) (g.H.Host.state c.take_machine.new.host) (machine_of (requested c.args.request.now))
     c.schedule_of.ensures.later c.schedule_of.ensures.kept c.in-Ok-take_machine.ensures.read_out
 
 pub returns-in-Ok-take_machine-clause-counts : goal.returns-in-Ok-take_machine-clause-counts
@@ -174,4 +174,4 @@ returns-in-Ok-take_machine-clause-counts g c =
 
 pub returns-in-Err-clause-taken : goal.returns-in-Err-clause-taken
 returns-in-Err-clause-taken g c =
-    taken_first (input_of (said c.args.sentence.now)) (machine_of (said c.args.sentence.now)) (g.H.Host.state c.args.host.now) (g.H.Host.state c.schedule_of.new.host) c.schedule_of.ensures.taken
+    taken_first (input_of (requested c.args.request.now)) (machine_of (requested c.args.request.now)) (g.H.Host.state c.args.host.now) (g.H.Host.state c.schedule_of.new.host) c.schedule_of.ensures.taken

@@ -9,9 +9,9 @@ use Rattle.goal_words.specs.declared.line.LineFault.{LineFault}
 use Rattle.goal_words.specs.declared.line.LineFault.TheVariants.{Bad, NoMemory}
 use Rattle.goal_words.specs.declared.options.AllowedOptions.{AllowedOptions}
 use Rattle.goal_words.specs.Words.{Command, command_by, command_in, command_of, options_of}
-use Rattle.goal_words.specs.Sentences.{command, IsSized}
+use Rattle.goal_words.specs.Requests.{command, IsSized}
 use Rattle.goal_words.specs.Reading.{Parts, numbers_given, words_of, parts_in, none_given, left, listed, are_one_to_three}
-use Rattle.goal_words.proofs.SizeLemmas.{sized}
+use Rattle.goal_words.proofs.SizeLemmas.{command_by_is_sized}
 use Rattle.goal_words.proofs.PartsLemmas.{command_read, too_few_or_many}
 use Rattle.goal_words.proofs.line.read_words.Goals as goal
 
@@ -26,7 +26,7 @@ read first s words all taken o split text same is =
 
 all_sized : (r : Result Line LineFault) (first : List ℕ) (plain : List (List ℕ)) (params : Numbers) (root : Option ℕ)
     → IfOk r (λ line. command_by first plain params root ≡ Some (command line)) → IfOk r (λ line. IsSized (command line))
-all_sized (Ok line) first plain params root is = sized first plain params root (command line) is
+all_sized (Ok line) first plain params root is = command_by_is_sized first plain params root (command line) is
 all_sized (Err fault) first plain params root is = tt
 
 exact : (r : Result Line LineFault) (o : Option Command) → IfOk r (λ line. o ≡ Some (command line)) → o ≡ None → IsErrOf r Bad ⊎ IsErrOf r NoMemory

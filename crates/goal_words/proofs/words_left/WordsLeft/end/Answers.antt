@@ -1,13 +1,13 @@
 use Rattle.std.proofs.Common.{length, sym, ◌∙◌, arith}
 use Rattle.std.proofs.lemmas.Bool.{eqb-true, eqb-false}
-use Rattle.goal_words.proofs.WordsLeftLemmas.{ended, not_ended}
+use Rattle.goal_words.proofs.WordsLeftLemmas.{no_words_left, not_ended}
 use Rattle.goal_words.proofs.words_left.WordsLeft.end.Goals as goal
 
 pub returns-then-is_empty : goal.returns-then-is_empty
 returns-then-is_empty c =
     let rest = c.in_ok-rest.rest in
     c.in_ok-rest.ensures.left
-    ∙ ended rest.taken rest.given rest.words.now (eqb-true (length rest.words.now) 0 (sym c.is_empty.ensures ∙ c.if-is_empty.true))
+    ∙ no_words_left rest.taken rest.given rest.words.now (eqb-true (length rest.words.now) 0 (sym c.is_empty.ensures ∙ c.if-is_empty.true))
 
 pub returns-else-is_empty : goal.returns-else-is_empty
 returns-else-is_empty c =

@@ -1,11 +1,11 @@
 use Rattle.std.proofs.Common.{refl, ◌∙◌}
-use Rattle.goal_words.proofs.WordsLeftLemmas.{ended, begun}
+use Rattle.goal_words.proofs.WordsLeftLemmas.{no_words_left, begun}
 use Rattle.goal_words.proofs.words_left.WordsLeft.next.Goals as goal
 
 pub returns-in_err-word : goal.returns-in_err-word
 returns-in_err-word c =
     let rest = c.in_ok-rest.rest in
-    rw (c.from_residual-in_err-word.ensures, c.in_ok-rest.ensures.left, ended rest.taken rest.given rest.words.now c.in_err-word.ensures.cases) refl
+    rw (c.from_residual-in_err-word.ensures, c.in_ok-rest.ensures.left, no_words_left rest.taken rest.given rest.words.now c.in_err-word.ensures.cases) refl
 
 pub returns : goal.returns
 returns c =

@@ -1,13 +1,13 @@
 use Rattle.std.proofs.Common.{◌∷◌, map, string_bytes, sym, ap, ◌∙◌}
 use Rattle.goal_words.specs.Reading.{key_of, with_value, parts_in}
-use Rattle.goal_words.proofs.PlaceLemmas.{step_apart, step_joined, step_wrong}
-use Rattle.goal_words.proofs.WordsLeftLemmas.{past, alone, unequal}
+use Rattle.goal_words.proofs.RoleLemmas.{step_apart, step_joined, step_wrong}
+use Rattle.goal_words.proofs.WordsLeftLemmas.{past, option_without_value, unequal}
 use Rattle.goal_words.proofs.words_left.WordsLeft.past_option.Goals as goal
 
 pub returns-in_err-value-in-Some-clause-left : goal.returns-in_err-value-in-Some-clause-left
 returns-in_err-value-in-Some-clause-left c =
     rw c.from_residual.ensures
-    (alone c.args.self.taken c.args.self.given c.args.word.now c.in-Some.key c.args.others.now (sym c.in-Some.ensures) c.in_err-value-in-Some.ensures.cases)
+    (option_without_value c.args.self.taken c.args.self.given c.args.word.now c.in-Some.key c.args.others.now (sym c.in-Some.ensures) c.in_err-value-in-Some.ensures.cases)
 
 pub returns-in_err-option-in-None-clause-left : goal.returns-in_err-option-in-None-clause-left
 returns-in_err-option-in-None-clause-left c =

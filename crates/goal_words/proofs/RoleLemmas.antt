@@ -2,70 +2,70 @@
 use Rattle.std.proofs.Common.{◌≡◌, ◌==◌, ℕ, true, false, List, [], ◌∷◌, Option, Some, None, refl, ap, ◌∙◌}
 use Rattle.std.specs.Option.{option_map, option_and_then}
 use Rattle.std.specs.List.{before_first, after_first}
-use Rattle.goal_words.specs.declared.options.Key.{Key}
+use Rattle.goal_words.specs.declared.options.OptionKey.{OptionKey}
 use Rattle.goal_words.specs.declared.options.AllowedOptions.{AllowedOptions}
 use Rattle.goal_words.specs.declared.options.OptionValues.{OptionValues}
-use Rattle.goal_words.specs.Options.{Set, is_option, begins_dash, value_of, set_to, places}
+use Rattle.goal_words.specs.Options.{Set, is_option, begins_dash, value_of, set_to, roles}
 use Rattle.goal_words.specs.Reading.{key_of, words_of, with_option, with_value, with_plain, parts_of, parts_in}
-use Rattle.goal_words.proofs.KeyLemmas.{word, word_named, key_found, key_none, option_dash, plain_no_option, number_no_option, empty_no_option}
+use Rattle.goal_words.proofs.KeyLemmas.{word_of_key, word_named, key_found, key_none, option_dash, plain_no_option, number_no_option, empty_no_option}
 
 -- after a word that is no option word
-pub after : (options : List (List ℕ)) (before : List ℕ) (words : List (List ℕ)) → is_option options before ≡ false → is_option options [] ≡ false
-    → places options before words ≡ places options [] words
-unfolding places
-after options before [] h e = rw (h, e) refl
-after options before (w ∷ words) h e = rw (h, e) refl
+pub roles_without_before : (options : List (List ℕ)) (before : List ℕ) (words : List (List ℕ)) → is_option options before ≡ false → is_option options [] ≡ false
+    → roles options before words ≡ roles options [] words
+unfolding roles
+roles_without_before options before [] h e = rw (h, e) refl
+roles_without_before options before (w ∷ words) h e = rw (h, e) refl
 
 pub step_end : (taken : AllowedOptions) (g : OptionValues) → parts_in taken g [] ≡ Some (record { plain = []; given = g })
-unfolding parts_in parts_of places
+unfolding parts_in parts_of roles
 step_end taken g = rw (empty_no_option taken) refl
 
 pub step_plain : (taken : AllowedOptions) (g : OptionValues) (w : List ℕ) (words : List (List ℕ)) → begins_dash w ≡ false
     → parts_in taken g (w ∷ words) ≡ option_map (with_plain w) (parts_in taken g words)
-unfolding parts_in parts_of places
+unfolding parts_in parts_of roles
 step_plain taken g w words plain =
-    rw (empty_no_option taken, plain, after (words_of taken) w words (plain_no_option taken w plain) (empty_no_option taken)) refl
+    rw (empty_no_option taken, plain, roles_without_before (words_of taken) w words (plain_no_option taken w plain) (empty_no_option taken)) refl
 
 -- an option is set, and no option word is last
-set_step : (taken : AllowedOptions) (g : OptionValues) (option : List ℕ) (key : Key) (o : Option ℕ) (words : List (List ℕ)) → option ≡ word key
-    → parts_of g (set_to option o ∷ places (words_of taken) [] words)
+set_step : (taken : AllowedOptions) (g : OptionValues) (option : List ℕ) (key : OptionKey) (o : Option ℕ) (words : List (List ℕ)) → option ≡ word_of_key key
+    → parts_of g (set_to option o ∷ roles (words_of taken) [] words)
     ≡ option_and_then (λ h. parts_in taken h words) (option_and_then (λ n. with_option g key n) o)
 unfolding parts_in parts_of
 set_step taken g option key None words e = refl
 set_step taken g option key (Some n) words e = rw (e, word_named key) refl
 
-set_apart : (taken : AllowedOptions) (g : OptionValues) (option v : List ℕ) (key : Key) (o : Option ℕ) (words : List (List ℕ)) → value_of v ≡ o → option ≡ word key
-    → parts_of g (set_to option o ∷ places (words_of taken) v words)
+set_apart : (taken : AllowedOptions) (g : OptionValues) (option v : List ℕ) (key : OptionKey) (o : Option ℕ) (words : List (List ℕ)) → value_of v ≡ o → option ≡ word_of_key key
+    → parts_of g (set_to option o ∷ roles (words_of taken) v words)
     ≡ option_and_then (λ h. parts_in taken h words) (option_and_then (λ n. with_option g key n) o)
 unfolding parts_of
 set_apart taken g option v key None words number e = refl
 set_apart taken g option v key (Some n) words number e =
-    ap (λ ps. parts_of g (Set option n ∷ ps)) (after (words_of taken) v words (number_no_option taken v n number) (empty_no_option taken))
+    ap (λ ps. parts_of g (Set option n ∷ ps)) (roles_without_before (words_of taken) v words (number_no_option taken v n number) (empty_no_option taken))
     ∙ set_step taken g option key (Some n) words e
 
-pub step_apart : (taken : AllowedOptions) (g : OptionValues) (w v : List ℕ) (key : Key) (words : List (List ℕ)) → key_of taken w ≡ Some key
+pub step_apart : (taken : AllowedOptions) (g : OptionValues) (w v : List ℕ) (key : OptionKey) (words : List (List ℕ)) → key_of taken w ≡ Some key
     → parts_in taken g (w ∷ v ∷ words) ≡ option_and_then (λ h. parts_in taken h words) (with_value g key v)
-unfolding parts_in parts_of places
+unfolding parts_in parts_of roles
 step_apart taken g w v key words h =
     let found = key_found taken w key h in
     rw (empty_no_option taken, option_dash taken w found.0, found.0) (set_apart taken g w v key (value_of v) words refl found.1)
 
-pub step_alone : (taken : AllowedOptions) (g : OptionValues) (w : List ℕ) (key : Key) → key_of taken w ≡ Some key → parts_in taken g (w ∷ []) ≡ None
-unfolding parts_in parts_of places
+pub step_alone : (taken : AllowedOptions) (g : OptionValues) (w : List ℕ) (key : OptionKey) → key_of taken w ≡ Some key → parts_in taken g (w ∷ []) ≡ None
+unfolding parts_in parts_of roles
 step_alone taken g w key h =
     let found = key_found taken w key h in rw (empty_no_option taken, option_dash taken w found.0, found.0) refl
 
-pub step_joined : (taken : AllowedOptions) (g : OptionValues) (w : List ℕ) (key : Key) (words : List (List ℕ)) → begins_dash w ≡ true → key_of taken w ≡ None
+pub step_joined : (taken : AllowedOptions) (g : OptionValues) (w : List ℕ) (key : OptionKey) (words : List (List ℕ)) → begins_dash w ≡ true → key_of taken w ≡ None
     → key_of taken (before_first (λ b. b == 61) w) ≡ Some key
     → parts_in taken g (w ∷ words) ≡ option_and_then (λ h. parts_in taken h words) (with_value g key (after_first (λ b. b == 61) w))
-unfolding parts_in parts_of places
+unfolding parts_in parts_of roles
 step_joined taken g w key words dash none h =
     let found = key_found taken (before_first (λ b. b == 61) w) key h in
-    rw (empty_no_option taken, dash, key_none taken w none, found.0, after (words_of taken) w words (key_none taken w none) (empty_no_option taken))
+    rw (empty_no_option taken, dash, key_none taken w none, found.0, roles_without_before (words_of taken) w words (key_none taken w none) (empty_no_option taken))
     (set_step taken g (before_first (λ b. b == 61) w) key (value_of (after_first (λ b. b == 61) w)) words found.1)
 
 pub step_wrong : (taken : AllowedOptions) (g : OptionValues) (w : List ℕ) (words : List (List ℕ)) → begins_dash w ≡ true → key_of taken w ≡ None
     → key_of taken (before_first (λ b. b == 61) w) ≡ None → parts_in taken g (w ∷ words) ≡ None
-unfolding parts_in parts_of places
+unfolding parts_in parts_of roles
 step_wrong taken g w words dash none other =
     rw (empty_no_option taken, dash, key_none taken w none, key_none taken (before_first (λ b. b == 61) w) other) refl

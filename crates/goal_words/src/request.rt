@@ -2,7 +2,7 @@
 ghost use Rattle.std.specs.Prelude.{◌≡◌};
 ghost use Rattle.sim_params.specs.Numbers.{numbers};
 ghost use Rattle.goal_words.specs.Words.{ByNumbers, Unpriced, asks};
-ghost use Rattle.goal_words.specs.Sentences.{command, said, IsPriced};
+ghost use Rattle.goal_words.specs.Requests.{command, requested, IsPriced};
 
 use crate::line::{FileName, Line};
 use goal_limits::Collective;
@@ -67,7 +67,7 @@ pub enum View {
 /// What a command asks for: a schedule from a source, priced by costs, is shown in a view. A schedule without costs is
 /// not run.
 #[derive(Debug, Drop)]
-pub struct Sentence {
+pub struct Request {
     /// Where the schedule comes from.
     pub source: Source,
     /// What its actions cost.
@@ -76,34 +76,34 @@ pub struct Sentence {
     pub view: View,
 }
 
-impl Sentence {
+impl Request {
     /// Returns the parts of a line.
-    pub fn of(line: Line) -> Sentence
-        ensures sentence { said result ≡ command line }
-        ensures priced { IsPriced (said result) }
+    pub fn of(line: Line) -> Request
+        ensures request { requested result ≡ command line }
+        ensures priced { IsPriced (requested result) }
     {
         match line {
-            Line::Sim { name, params } => Sentence::of_run(name, params, RunView::Printed),
-            Line::Waits { name, params } => Sentence::of_run(name, params, RunView::Waits),
-            Line::Knots { name, params } => Sentence::of_run(name, params, RunView::Knots),
-            Line::Nodes { name, machine } => Sentence {
+            Line::Sim { name, params } => Request::of_run(name, params, RunView::Printed),
+            Line::Waits { name, params } => Request::of_run(name, params, RunView::Waits),
+            Line::Knots { name, params } => Request::of_run(name, params, RunView::Knots),
+            Line::Nodes { name, machine } => Request {
                 source: Source::File(name),
                 costs: Costing::Machine(machine),
                 view: View::Run(RunView::Printed),
             },
-            Line::Compile { name, out } => Sentence::unpriced(Source::File(name), View::File(out)),
-            Line::Show { name } => Sentence::unpriced(Source::File(name), View::Text),
+            Line::Compile { name, out } => Request::unpriced(Source::File(name), View::File(out)),
+            Line::Show { name } => Request::unpriced(Source::File(name), View::Text),
             Line::Gen { what, ranks, bytes } => {
-                Sentence::unpriced(Source::Made { what, ranks, bytes }, View::Text)
+                Request::unpriced(Source::Made { what, ranks, bytes }, View::Text)
             }
             Line::Certify { what, name } => {
-                Sentence::unpriced(Source::File(name), View::Verdict(what))
+                Request::unpriced(Source::File(name), View::Verdict(what))
             }
             Line::Probe {
                 rounds,
                 seed,
                 params,
-            } => Sentence {
+            } => Request {
                 source: Source::Drawn { rounds, seed },
                 costs: Costing::Params(params),
                 view: View::Run(RunView::Sum),
@@ -112,10 +112,10 @@ impl Sentence {
     }
 
     // Runs the schedule of a file with parameters.
-    fn of_run(name: FileName, params: Params, view: RunView) -> Sentence
-        ensures { said result ≡ asks (Source.File name) (ByNumbers (numbers params)) (View.Run view) }
+    fn of_run(name: FileName, params: Params, view: RunView) -> Request
+        ensures { requested result ≡ asks (Source.File name) (ByNumbers (numbers params)) (View.Run view) }
     {
-        Sentence {
+        Request {
             source: Source::File(name),
             costs: Costing::Params(params),
             view: View::Run(view),
@@ -123,10 +123,10 @@ impl Sentence {
     }
 
     // Shows a schedule without running it.
-    fn unpriced(source: Source, view: View) -> Sentence
-        ensures { said result ≡ asks source Unpriced view }
+    fn unpriced(source: Source, view: View) -> Request
+        ensures { requested result ≡ asks source Unpriced view }
     {
-        Sentence {
+        Request {
             source,
             costs: Costing::None,
             view,

@@ -1,29 +1,29 @@
--- The command of a line or of a sentence of the code, and properties of its costs and sizes.
+-- The command of a line or of a request of the code, and properties of its costs and sizes.
 use Rattle.std.specs.Prelude.{◌≤◌}
 use Rattle.goal_limits.specs.Limits.{size_limit, round_limit}
 use Rattle.sim_params.specs.Numbers.{numbers}
 use Rattle.goal_words.specs.declared.line.Line.{Line}
-use Rattle.goal_words.specs.declared.sentence.Source.{Source}
-use Rattle.goal_words.specs.declared.sentence.Costing.{Costing}
-use Rattle.goal_words.specs.declared.sentence.View.{View}
-use Rattle.goal_words.specs.declared.sentence.Sentence.{Sentence}
+use Rattle.goal_words.specs.declared.request.Source.{Source}
+use Rattle.goal_words.specs.declared.request.Costing.{Costing}
+use Rattle.goal_words.specs.declared.request.View.{View}
+use Rattle.goal_words.specs.declared.request.Request.{Request}
 use Rattle.goal_words.specs.Words.{Pricing, ByNumbers, ByMachine, Unpriced, Command, asks, Sim, Waits, Knots, Nodes, Compile, Show, Gen, Certify, Probe}
 use Rattle.goal_words.specs.declared.line.Line.TheVariants as line
-use Rattle.goal_words.specs.declared.sentence.Source.TheVariants as source
-use Rattle.goal_words.specs.declared.sentence.Costing.TheVariants as costing
-use Rattle.goal_words.specs.declared.sentence.View.TheVariants as view
+use Rattle.goal_words.specs.declared.request.Source.TheVariants as source
+use Rattle.goal_words.specs.declared.request.Costing.TheVariants as costing
+use Rattle.goal_words.specs.declared.request.View.TheVariants as view
 
 -- a view of a run
-abbrev pub IsRun : View → Type 0
-IsRun (view.Run how) = Unit {0}
-IsRun view.Text = ⊥
-IsRun (view.File name) = ⊥
-IsRun (view.Verdict what) = ⊥
+abbrev pub ShowsRun : View → Type 0
+ShowsRun (view.Run how) = Unit {0}
+ShowsRun view.Text = ⊥
+ShowsRun (view.File name) = ⊥
+ShowsRun (view.Verdict what) = ⊥
 
 abbrev pub PricedFor : Pricing → View → Type 0
-PricedFor (ByNumbers numbers) v = IsRun v
-PricedFor (ByMachine name) v = IsRun v
-PricedFor Unpriced v = IsRun v → ⊥
+PricedFor (ByNumbers numbers) v = ShowsRun v
+PricedFor (ByMachine name) v = ShowsRun v
+PricedFor Unpriced v = ShowsRun v → ⊥
 
 -- a view that shows a run has costs, and no other view has
 abbrev pub IsPriced : Command → Type 0
@@ -56,5 +56,5 @@ pricing (costing.Params params) = ByNumbers (numbers params)
 pricing (costing.Machine name) = ByMachine name
 pricing costing.None = Unpriced
 
-abbrev pub said : Sentence → Command
-said s = asks s.source (pricing s.costs) s.view
+abbrev pub requested : Request → Command
+requested s = asks s.source (pricing s.costs) s.view

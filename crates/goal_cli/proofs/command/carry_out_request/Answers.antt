@@ -1,7 +1,7 @@
-use Rattle.goal_words.specs.Sentences.{said}
+use Rattle.goal_words.specs.Requests.{requested}
 use Rattle.goal_cli.specs.Output.{input_of, machine_of}
 use Rattle.goal_cli.proofs.AnswerLemmas.{taken_still}
-use Rattle.goal_cli.proofs.command.carry_out_sentence.Goals as goal
+use Rattle.goal_cli.proofs.command.carry_out_request.Goals as goal
 
 pub returns-in-Ok-clause-cause : goal.returns-in-Ok-clause-cause
 returns-in-Ok-clause-cause g c =
@@ -10,6 +10,6 @@ returns-in-Ok-clause-cause g c =
 
 pub returns-in-Ok-clause-taken : goal.returns-in-Ok-clause-taken
 returns-in-Ok-clause-taken g c =
-    taken_still (input_of (said c.args.sentence.now)) (machine_of (said c.args.sentence.now)) (g.H.Host.state c.args.host.now)
+    taken_still (input_of (requested c.args.request.now)) (machine_of (requested c.args.request.now)) (g.H.Host.state c.args.host.now)
     (g.H.Host.state c.gather.new.host) (g.H.Host.state c.write_output.new.host) c.gather.ensures.later c.gather.ensures.taken
     c.write_output.ensures.kept
