@@ -79,7 +79,7 @@ fn text_of<C: Costs>(
 }
 
 // Releases an engine. As a separate function, it keeps the parts of the engine out of the proofs of its callers.
-fn let_go<C: Costs + Drop>(engine: Engine<'_, C, Unkept>) {
+fn release<C: Costs + Drop>(engine: Engine<'_, C, Unkept>) {
     let _engine = engine;
 }
 
@@ -99,7 +99,7 @@ fn show_whole<'a, C: Costs + Drop>(
         run.stuck ≡ is_stuck sched.now (C.model engine.entry.costs) engine.entry.history) }
 {
     let both = text_of(alloc, sched, &engine, view);
-    let_go(engine);
+    release(engine);
     let (text, stuck) = both?;
     Ok(Shown::whole(alloc, text, stuck))
 }
