@@ -28,8 +28,8 @@ use Rattle.goal_cli.specs.Output.{Input, input_with, input_of, machine_of, IsRun
 use Rattle.goal_cli.specs.Laws.{IsVerdict, IsCertify, ForInput, Answers, IsSilent, line_at}
 use Rattle.goal_views.specs.Views.{IsPrintedRun}
 use Rattle.goal_cli.specs.Refusal.{refused_line}
-use Rattle.goal_cli.specs.Answer.{ForNamed, IfNamed, ForRead, IfRead, IfInput, ReadsFaulted, IsReadOut, GrowsByPart, ReadsHeld, Target, ToOut, ToFile, target_of, Gets, GetsPart, Elsewhere, WritesRose, WritesHeld, WritesSame, InputHeld, GetsOutput, GetsPartOfOutput, AnswersWhole, PrintsRun, IsUntouched, IsWritten, IsCutOff, IsCauseOf, IsCauseOfNone, IsCause, line_for, status_at, status_of, AnswersWith, input_in, machine_in, Says, IsCutShort, IsAnswered, IsTakenOf}
-use Rattle.goal_cli.specs.Unmade.{IsUnmade, IsIdle, IsGot, IsTakenFrom, IsToldOr, IsGathered}
+use Rattle.goal_cli.specs.Answer.{ForNamed, IfNamed, ForRead, IfRead, IfInput, ReadsFaulted, IsReadOut, GrowsByPart, ReadsHeld, Target, ToOut, ToFile, target_of, Gets, GetsPart, Elsewhere, WritesRose, WritesHeld, WritesSame, InputHeld, GetsOutput, GetsPartOfOutput, AnswersWhole, PrintsRun, IsUntouched, IsWritten, IsCutOff, IsCauseOf, IsCauseOfNone, IsCause, line_for, status_at, status_of, AnswersWith, input_in, machine_in, Says, IsCutShort, IsAnswered, IsTakenWithinLimitOf}
+use Rattle.goal_cli.specs.WithoutWork.{HasNoSchedule, HasNoWork, AreBytesOfFile, IsTakenWithinLimitFrom, IsAnsweredOrNoMemory, IsGathered}
 use Rattle.goal_cli.specs.World.{Devices, devices}
 use Rattle.goal_input.proofs.ForCallers.{same_schedule}
 use Rattle.goal_cli.proofs.RefusalLemmas.{same_refusal, no_refusal, one_machine}
@@ -43,10 +43,10 @@ pub says_whole : (old new : SinkState) (line : List ℕ) → Grows old new line 
 says_whole old new line all = record { prefix = all_is_part old new line all; whole = λ _. all }
 
 -- the same for an equal line
-pub said_as : (old new : SinkState) (s t : Status) (line wanted : List ℕ) → line ≡ wanted
+pub says_equal_line : (old new : SinkState) (s t : Status) (line wanted : List ℕ) → line ≡ wanted
     → ((s ≡ t) × Says old new line) ⊎ ((s ≡ status.NoMemory) × IsCutShort old new line)
     → ((s ≡ t) × Says old new wanted) ⊎ ((s ≡ status.NoMemory) × IsCutShort old new wanted)
-said_as old new s t line wanted is said =
+says_equal_line old new s t line wanted is said =
     subst (λ (l : List ℕ). ((s ≡ t) × Says old new l) ⊎ ((s ≡ status.NoMemory) × IsCutShort old new l)) is said
 
 -- a name has one file
@@ -115,15 +115,15 @@ read_out_from a b d (Some name) later kept out = λ tells. by tells (out (later.
     })
 
 -- what was read from a host whose files are those of another
-pub got_for : (a b : HostState) (text : List ℕ) (Q : List ℕ → Type 0) (o : Option (List ℕ)) → Later a b → KeepsFiles a b → IsGot b o text → Q text
+pub got_for : (a b : HostState) (text : List ℕ) (Q : List ℕ → Type 0) (o : Option (List ℕ)) → Later a b → KeepsFiles a b → AreBytesOfFile b o text → Q text
     → ForNamed a o Q
 got_for a b text Q None later kept got q = subst Q got q
 got_for a b text Q (Some name) later kept got q =
     λ tells. (text, ap (λ (f : Files). get f name) (sym (kept.files.files tells)) ∙ got (later.tells ∙ tells), q)
 
 -- a schedule is refused, after the machine was read
-pub idle_refused : (a b d : HostState) (c : Command) (r : Refusal) (text : List ℕ) → Later a b → KeepsFiles a b → IsUnmade a b c (answer.Refused r)
-    → IsGot b (machine_of c) text → length text ≤ MAX_INPUT → IsReadOut b d (machine_of c) → SameReadCounts b d → IsIdle a d c (answer.Refused r)
+pub idle_refused : (a b d : HostState) (c : Command) (r : Refusal) (text : List ℕ) → Later a b → KeepsFiles a b → HasNoSchedule a b c (answer.Refused r)
+    → AreBytesOfFile b (machine_of c) text → length text ≤ MAX_INPUT → IsReadOut b d (machine_of c) → SameReadCounts b d → HasNoWork a d c (answer.Refused r)
 idle_refused a b d c r text later kept unmade got short out same = (
   for_turned a (λ s. (m : List ℕ) → length m ≤ MAX_INPUT → IsRefused c (input_with s m) r) (λ s. ForNamed a (machine_of c) (λ m. IsRefused c (input_with s m) r))
       (λ s refused. got_for a b text (λ m. IsRefused c (input_with s m) r) (machine_of c) later kept got (refused text short)) (input_of c) unmade.0,
@@ -161,7 +161,7 @@ still_other : (a b d : HostState) (o : Option (List ℕ)) → Later a b → IsSo
 still_other a b d None later most kept = most
 still_other a b d (Some name) later most kept = still_most a b d name later most kept
 
-pub taken_still : (o m : Option (List ℕ)) (a b d : HostState) → Later a b → IsTakenOf o m a b → KeepsReading b d → IsTakenOf o m a d
+pub taken_still : (o m : Option (List ℕ)) (a b d : HostState) → Later a b → IsTakenWithinLimitOf o m a b → KeepsReading b d → IsTakenWithinLimitOf o m a d
 taken_still None None a b d later taken kept = still_kept a b d later taken kept
 taken_still None (Some name) a b d later (inl same) kept = inl (still_rest a b d later same kept.rest)
 taken_still None (Some name) a b d later (inr most) kept = inr (still_most a b d name later most kept.rest)
@@ -178,8 +178,8 @@ moved_most a b d name later kept most = record {
   told = λ t. ap (λ (f : Files). get f name) (sym (kept.files.files t)) ∙ most.told (later.tells ∙ t);
 }
 
-pub taken_both : (o m : Option (List ℕ)) (a b d : HostState) → Later a b → KeepsFiles a b → IsTakenFrom a b o → IsTakenFrom b d m
-    → IsTakenOf o m a d
+pub taken_both : (o m : Option (List ℕ)) (a b d : HostState) → Later a b → KeepsFiles a b → IsTakenWithinLimitFrom a b o → IsTakenWithinLimitFrom b d m
+    → IsTakenWithinLimitOf o m a d
 taken_both None None a b d later kept p q = still_kept a b d later p q
 taken_both None (Some m) a b d later kept p (inl q) = inl (still_rest a b d later p.rest q)
 taken_both None (Some m) a b d later kept p (inr q) = inr (moved_most a b d m later kept q)
@@ -190,7 +190,7 @@ taken_both (Some name) (Some m) a b d later kept (inr most) (inl q) = inr (inl (
 taken_both (Some name) (Some m) a b d later kept p (inr q) = inr (inr (moved_most a b d m later kept q))
 
 -- where only the input was read
-pub taken_first : (o m : Option (List ℕ)) (a b : HostState) → IsTakenFrom a b o → IsTakenOf o m a b
+pub taken_first : (o m : Option (List ℕ)) (a b : HostState) → IsTakenWithinLimitFrom a b o → IsTakenWithinLimitOf o m a b
 taken_first None None a b first = first
 taken_first None (Some m) a b first = inl first.rest
 taken_first (Some name) m a b (inl same) = inl same
@@ -285,25 +285,25 @@ module _ (old new : Devices) where
   }
 
   -- whatever the answer, nothing was written, or a prefix of the output
-  any_of : (c : Command) (a : Answer) → IsCauseOf old new c a → IsCauseOf old new c answer.NoMemory
-  any_of c (answer.Written e) cause = inr (cut_off e c cause)
-  any_of c answer.BadLine cause = absurd cause
-  any_of c (answer.Refused r) cause = inl cause.2
-  any_of c answer.ReadFault cause = inl cause.1
-  any_of c answer.WriteFault cause = inr cause.0
-  any_of c answer.NoMemory cause = cause
+  no_memory_causes_of : (c : Command) (a : Answer) → IsCauseOf old new c a → IsCauseOf old new c answer.NoMemory
+  no_memory_causes_of c (answer.Written e) cause = inr (cut_off e c cause)
+  no_memory_causes_of c answer.BadLine cause = absurd cause
+  no_memory_causes_of c (answer.Refused r) cause = inl cause.2
+  no_memory_causes_of c answer.ReadFault cause = inl cause.1
+  no_memory_causes_of c answer.WriteFault cause = inr cause.0
+  no_memory_causes_of c answer.NoMemory cause = cause
 
-  any_of_none : (a : Answer) → IsCauseOfNone old new a → IsCauseOfNone old new answer.NoMemory
-  any_of_none answer.BadLine cause = cause
-  any_of_none answer.NoMemory cause = cause
-  any_of_none (answer.Written e) cause = absurd cause
-  any_of_none (answer.Refused r) cause = absurd cause
-  any_of_none answer.ReadFault cause = absurd cause
-  any_of_none answer.WriteFault cause = absurd cause
+  no_memory_causes_none : (a : Answer) → IsCauseOfNone old new a → IsCauseOfNone old new answer.NoMemory
+  no_memory_causes_none answer.BadLine cause = cause
+  no_memory_causes_none answer.NoMemory cause = cause
+  no_memory_causes_none (answer.Written e) cause = absurd cause
+  no_memory_causes_none (answer.Refused r) cause = absurd cause
+  no_memory_causes_none answer.ReadFault cause = absurd cause
+  no_memory_causes_none answer.WriteFault cause = absurd cause
 
-  any : (command : Option Command) (a : Answer) → IsCause old new command a → IsCause old new command answer.NoMemory
-  any None a cause = any_of_none a cause
-  any (Some c) a cause = any_of c a cause
+  no_memory_causes : (command : Option Command) (a : Answer) → IsCause old new command a → IsCause old new command answer.NoMemory
+  no_memory_causes None a cause = no_memory_causes_none a cause
+  no_memory_causes (Some c) a cause = no_memory_causes_of c a cause
 
   no_memory_part : (c : Command) → IsCauseOf old new c answer.NoMemory
       → IsUntouched old new ⊎ ForRead old.host c (GetsPartOfOutput old new c)
@@ -312,8 +312,8 @@ module _ (old new : Devices) where
 
   pub part_or_none : (command : Option Command) (a : Answer) → IsCause old new command a
       → IsUntouched old new ⊎ ForInput command old.host (GetsPartOfOutput old new)
-  part_or_none None a cause = inl (any_of_none a cause).1
-  part_or_none (Some c) a cause = no_memory_part c (any_of c a cause)
+  part_or_none None a cause = inl (no_memory_causes_none a cause).1
+  part_or_none (Some c) a cause = no_memory_part c (no_memory_causes_of c a cause)
 
   elsewhere_untouched : (t : Target) → IsUntouched old new → Elsewhere old new t
   elsewhere_untouched ToOut u = u.files
@@ -327,7 +327,7 @@ module _ (old new : Devices) where
   pub kept_elsewhere : (command : Option Command) (a : Answer) → IsCause old new command a
       → IfSome command (λ c. Elsewhere old new (target_of c))
   kept_elsewhere None a cause = tt
-  kept_elsewhere (Some c) a cause = no_memory_elsewhere c (any_of c a cause)
+  kept_elsewhere (Some c) a cause = no_memory_elsewhere c (no_memory_causes_of c a cause)
 
   -- if the status is NoMemory, a part of an answer's line was written: of its own line, or of the line of the answer
   -- that it replaced
@@ -358,15 +358,15 @@ module _ (old new : Devices) where
   failed_said command err err' answer.NoMemory s cause (inl (is, told)) risen = (answer.NoMemory, cause, is, told.prefix)
 
   -- what was written to `err` belongs to an answer whose cause holds
-  pub told_of : (command : Option Command) (err err' : SinkState) (a : Answer) (s : Status) → IsCause old new command a
-      → IsToldOr err err' a s → (b : Answer) × IsCause old new command b × IsAnswered err err' b s
-  told_of command err err' (answer.Refused r) s cause (inl told) = (answer.Refused r, cause, told)
-  told_of command err err' (answer.Refused r) s cause (inr told) = (answer.NoMemory, any command (answer.Refused r) cause, told)
-  told_of command err err' (answer.Written e) s cause told = (answer.Written e, cause, told)
-  told_of command err err' answer.BadLine s cause told = (answer.BadLine, cause, told)
-  told_of command err err' answer.ReadFault s cause told = (answer.ReadFault, cause, told)
-  told_of command err err' answer.WriteFault s cause told = (answer.WriteFault, cause, told)
-  told_of command err err' answer.NoMemory s cause told = (answer.NoMemory, cause, told)
+  pub answered_from : (command : Option Command) (err err' : SinkState) (a : Answer) (s : Status) → IsCause old new command a
+      → IsAnsweredOrNoMemory err err' a s → (b : Answer) × IsCause old new command b × IsAnswered err err' b s
+  answered_from command err err' (answer.Refused r) s cause (inl told) = (answer.Refused r, cause, told)
+  answered_from command err err' (answer.Refused r) s cause (inr told) = (answer.NoMemory, no_memory_causes command (answer.Refused r) cause, told)
+  answered_from command err err' (answer.Written e) s cause told = (answer.Written e, cause, told)
+  answered_from command err err' answer.BadLine s cause told = (answer.BadLine, cause, told)
+  answered_from command err err' answer.ReadFault s cause told = (answer.ReadFault, cause, told)
+  answered_from command err err' answer.WriteFault s cause told = (answer.WriteFault, cause, told)
+  answered_from command err err' answer.NoMemory s cause told = (answer.NoMemory, cause, told)
 
   -- a command with an output, whole or in part, is not refused
   not_refused : (c : Command) (input : Input) (r : Refusal) → IsRefused c input r → GetsPartOfOutput old new c input → ⊥
@@ -557,7 +557,7 @@ module _ (old new : Devices) where
 
   reads_kept : (command : Option Command) (a : Answer) → IsCause old new command a
       → SameReadCounts old.host new.host ⊎ (a ≡ answer.ReadFault) ⊎ (a ≡ answer.NoMemory)
-  reads_kept None a cause = inl (any_of_none a cause).0
+  reads_kept None a cause = inl (no_memory_causes_none a cause).0
   reads_kept (Some c) a cause = reads_kept_by c a cause
 
   -- neither count of writing has changed
@@ -583,7 +583,7 @@ module _ (old new : Devices) where
 
   writes_kept : (command : Option Command) (a : Answer) → IsCause old new command a
       → SameWriteCounts ⊎ (a ≡ answer.WriteFault) ⊎ (a ≡ answer.NoMemory)
-  writes_kept None a cause = inl (same_counts (any_of_none a cause).1)
+  writes_kept None a cause = inl (same_counts (no_memory_causes_none a cause).1)
   writes_kept (Some c) a cause = writes_kept_by c a cause
 
   -- the status of an answer is its own, or NoMemory
@@ -723,7 +723,7 @@ module _ (old new : Devices) where
   silent_at s t e silent = rw e at silent
 
   untouched_none : (a : Answer) → IsCauseOfNone old new a → IsUntouched old new
-  untouched_none a cause = (any_of_none a cause).1
+  untouched_none a cause = (no_memory_causes_none a cause).1
 
   not_silent : (t : Status) → (t ≢ status.BadLine) → (t ≢ status.ReadFault) → (t ≢ status.Refused) → IsSilent t → ⊥
   not_silent t b r f (inl e) = b e

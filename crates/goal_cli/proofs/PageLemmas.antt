@@ -10,9 +10,9 @@ pub grows_none : (a : SinkState) → Grows a a []
 grows_none a = record { told = λ t. sym (append-nil a.bytes) }
 
 -- some of the bytes that are made go to a page
-pub moved : (page xs rest : List ℕ) (done count : ℕ)
+pub page_appended : (page xs rest : List ℕ) (done count : ℕ)
     → page ++ (drop done xs ++ rest) ≡ (page ++ take count (drop done xs)) ++ (drop (done + count) xs ++ rest)
-moved page xs rest done count =
+page_appended page xs rest done count =
     ap (λ (l : List ℕ). page ++ (l ++ rest))
     (sym (take-append-drop count (drop done xs)) ∙ ap (λ (l : List ℕ). take count (drop done xs) ++ l) (drop-drop count done xs))
     ∙ simp append_assoc
@@ -22,9 +22,9 @@ pub not_zero : (n : ℕ) → false ≡ eqb n 0 → n ≡ 0 → ⊥
 not_zero n test none = let h : false ≡ eqb 0 0 = rw none at test in cc
 
 -- what follows some bytes is shorter than both
-pub shorter : (all made rest : List ℕ) → all ≡ made ++ rest → (length made ≡ 0 → ⊥) → length rest < length all
-shorter all [] rest is some = absurd (some refl)
-shorter all (x ∷ made) rest is some = rw is (omega (arith, length-append (x ∷ made) rest))
+pub rest_is_shorter : (all made rest : List ℕ) → all ≡ made ++ rest → (length made ≡ 0 → ⊥) → length rest < length all
+rest_is_shorter all [] rest is some = absurd (some refl)
+rest_is_shorter all (x ∷ made) rest is some = rw is (omega (arith, length-append (x ∷ made) rest))
 
 -- a text, and then another
 pub grows_then : (a b c : SinkState) (xs ys : List ℕ) → Grows a b xs → b.tells ≡ a.tells → Grows b c ys → Grows a c (xs ++ ys)

@@ -123,13 +123,13 @@ same_budget c input s t a b =
     a.sum_is ∙ ap (λ (ps : List Plan). budget ps a.costs) plans ∙ ap (budget b.sched) costs ∙ sym b.sum_is
 
 -- an output has a budget that fits
-below : (sched : List Plan) (k : CostModel) (costs : Option CostModel) → costs ≡ Some k → IfSome costs (λ j. budget sched j < 2 ^ 63) → budget sched k < 2 ^ 63
-below sched k costs is fits = rw is at fits
+budget_is_below : (sched : List Plan) (k : CostModel) (costs : Option CostModel) → costs ≡ Some k → IfSome costs (λ j. budget sched j < 2 ^ 63) → budget sched k < 2 ^ 63
+budget_is_below sched k costs is fits = rw is at fits
 
 output_fits : (c : Command) (input : Input) (sched : List Plan) (s : ℕ) → HasOutput c input sched → IsOverBudget c input s → ⊥
 output_fits c input sched s a b =
     let plans = one_schedule c.source input.schedule b.sched sched b.from a.from in
-    let small = below sched b.costs a.costs (same_costs c input sched b.sched a.costs (Some b.costs) a.from b.from a.costed b.costed) a.fits in
+    let small = budget_is_below sched b.costs a.costs (same_costs c input sched b.sched a.costs (Some b.costs) a.from b.from a.costed b.costed) a.fits in
     let sum = b.sum_is ∙ ap (λ (ps : List Plan). budget ps b.costs) plans in
     let over = b.over in
     omega arith

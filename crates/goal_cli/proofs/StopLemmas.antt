@@ -15,8 +15,8 @@ use Rattle.goal_cli.specs.declared.answer.Refusal.TheVariants.{TooLong, Text, Fi
 use Rattle.goal_cli.specs.declared.output.Stop.{Stop}
 use Rattle.goal_cli.specs.declared.output.Stop.TheVariants.{Refused, NoMemory}
 use Rattle.goal_cli.specs.Output.{Input, IsCosted, IsShownAs, IsOutput, EndsAs}
-use Rattle.goal_cli.specs.Unmade.{IsGathered}
-use Rattle.goal_cli.specs.Stop.{IsStop, IsPaidRun, IsUnpaid}
+use Rattle.goal_cli.specs.WithoutWork.{IsGathered}
+use Rattle.goal_cli.specs.Stop.{IsStop, IsRunAtCosts, IsRunRefused}
 
 -- what holds at an error, and what holds otherwise
 pub if_err : {A E : Type 0} (r : Result A E) (P Q : E → Type 0) → ((e : E) → P e → Q e) → IfErr r P → IfErr r Q
@@ -29,7 +29,7 @@ if_ok (Err e) P Q f h = tt
 
 -- a run that is shown
 pub is_run_output : (c : Command) (input : Input) (sched : List Plan) (text : List ℕ) (how : RunView) (output : List ℕ) (e : Ending)
-    → c.view ≡ view.Run how → IsGathered c sched text input → IsPaidRun c.costs how text sched output e → IsOutput c input output e
+    → c.view ≡ view.Run how → IsGathered c sched text input → IsRunAtCosts c.costs how text sched output e → IsOutput c input output e
 is_run_output c input sched text how output e is work paid = record {
   sched = sched;
   has = record {

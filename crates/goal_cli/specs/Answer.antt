@@ -18,7 +18,7 @@ use Rattle.goal_cli.specs.declared.answer.Status.{Status}
 use Rattle.goal_cli.specs.declared.answer.Status.TheVariants as status
 use Rattle.goal_cli.specs.Output.{input_of, machine_of, Input, input_with, ending_if, IsOutput, MayEnd, IsRefused}
 use Rattle.goal_cli.specs.Refusal.{refused_line}
-use Rattle.goal_cli.specs.World.{Devices, World, but_err}
+use Rattle.goal_cli.specs.World.{Devices, World, without_err}
 
 -- the name of the command's input; None if the words are no command, or one without an input
 abbrev pub input_in : Option Command → Option (List ℕ)
@@ -212,9 +212,9 @@ pub record Says (old new : SinkState) (line : List ℕ) : Type 0 where
   pub whole : Held old.stops old.count new.count → Grows old new line
 
 -- the sink got the line of the answer; none if an output was written whole
-abbrev pub IsTold : SinkState → SinkState → Answer → Type 0
-IsTold old new (answer.Written e) = new ≡ old
-IsTold old new a = Says old new (line_for a)
+abbrev pub SaysAnswer : SinkState → SinkState → Answer → Type 0
+SaysAnswer old new (answer.Written e) = new ≡ old
+SaysAnswer old new a = Says old new (line_for a)
 
 -- memory ran out during the line: the sink got a prefix of it, and counted no fault
 abbrev pub IsCutShort : SinkState → SinkState → List ℕ → Type 0
@@ -223,23 +223,23 @@ IsCutShort old new line = GrowsByPart old new line × (new.count ≡ old.count)
 -- The status is that of the answer, and the sink got its line; a fault that the sink counts cuts the line off, and
 -- never changes the status. Or the sink itself ran out of memory during the line, and counted no fault.
 abbrev pub IsAnswered : SinkState → SinkState → Answer → Status → Type 0
-IsAnswered old new a s = ((s ≡ status_of a) × IsTold old new a) ⊎ ((s ≡ status.NoMemory) × IsCutShort old new (line_for a))
+IsAnswered old new a s = ((s ≡ status_of a) × SaysAnswer old new a) ⊎ ((s ≡ status.NoMemory) × IsCutShort old new (line_for a))
 
 -- There is an answer whose cause holds, and the status and what `err` got are those of that answer.
 pub record Answered (command : Option Command) (old new : World) (result : Status) : Type 0 where
   pub answer : Answer
-  pub cause : IsCause (but_err old) (but_err new) command answer
+  pub cause : IsCause (without_err old) (without_err new) command answer
   pub told : IsAnswered old.err new.err answer result
 
 -- At most 2^27+1 bytes of a file that a command reads are taken. The host has one open input, which is unchanged or is
 -- the rest of the file opened last. So if a machine was opened, this does not say how much of the schedule's file was
 -- read before; `read_schedule` says it of its own call. Without a file, the open input and the counts of reading are
 -- unchanged.
-abbrev pub IsTakenOf : Option (List ℕ) → Option (List ℕ) → HostState → HostState → Type 0
-IsTakenOf None None old new = KeepsReading old new
-IsTakenOf None (Some name) old new = SameRest old new ⊎ ReadsAtMost old new name (input_limit + 1)
-IsTakenOf (Some name) machine old new =
+abbrev pub IsTakenWithinLimitOf : Option (List ℕ) → Option (List ℕ) → HostState → HostState → Type 0
+IsTakenWithinLimitOf None None old new = KeepsReading old new
+IsTakenWithinLimitOf None (Some name) old new = SameRest old new ⊎ ReadsAtMost old new name (input_limit + 1)
+IsTakenWithinLimitOf (Some name) machine old new =
     SameRest old new ⊎ ReadsAtMost old new name (input_limit + 1) ⊎ IsSomeAnd machine (λ other. ReadsAtMost old new other (input_limit + 1))
 
-abbrev pub IsTaken : Option Command → HostState → HostState → Type 0
-IsTaken command old new = IsTakenOf (input_in command) (machine_in command) old new
+abbrev pub IsTakenWithinLimit : Option Command → HostState → HostState → Type 0
+IsTakenWithinLimit command old new = IsTakenWithinLimitOf (input_in command) (machine_in command) old new

@@ -5,7 +5,7 @@ pub mod Output
 pub mod Refusal
 pub mod Answer
 -- What only the code keeps.
-pub mod Unmade
+pub mod WithoutWork
 pub mod Stop
 pub mod Pages
 -- Laws.

@@ -27,19 +27,19 @@ stop_of (faults.Budget sum) = Refused (refusal.Budget sum)
 stop_of faults.NoMemory = NoMemory
 
 -- the run of a schedule is shown, with the costs of its parameters or of the machine in this text
-pub record IsPaidRun (p : Pricing) (how : RunView) (text : List ℕ) (sched : List Plan) (output : List ℕ) (e : Ending) : Type 0 where
+pub record IsRunAtCosts (p : Pricing) (how : RunView) (text : List ℕ) (sched : List Plan) (output : List ℕ) (e : Ending) : Type 0 where
   pub costs : CostModel
   pub costed : IsCosted p text sched (Some costs)
   pub fits : budget sched costs < 2 ^ 63
   pub shown : IsRunShown how costs sched output e
 
 -- or it is not, for this reason; it may always be out of memory
-abbrev pub IsUnpaid : Pricing → List ℕ → List Plan → Stop → Type 0
-IsUnpaid p text sched (Refused (refusal.Machine fault)) =
+abbrev pub IsRunRefused : Pricing → List ℕ → List Plan → Stop → Type 0
+IsRunRefused p text sched (Refused (refusal.Machine fault)) =
     (is_some (machine_named p) ≡ true) × (fault ≢ sayings.NoMemory) × (form.machine text ≡ Err fault)
-IsUnpaid p text sched (Refused (refusal.MachineRanks ranks)) =
+IsRunRefused p text sched (Refused (refusal.MachineRanks ranks)) =
     (is_some (machine_named p) ≡ true) × ((m : MachineModel) × (form.machine text ≡ Ok m) × (ranks ≡ length m.nodes)) × (ranks ≢ length sched)
-IsUnpaid p text sched (Refused (refusal.Budget sum)) =
+IsRunRefused p text sched (Refused (refusal.Budget sum)) =
     (costs : CostModel) × IsCosted p text sched (Some costs) × (sum ≡ budget sched costs) × (2 ^ 63 ≤ sum)
-IsUnpaid p text sched (Refused _) = ⊥
-IsUnpaid p text sched NoMemory = Unit {0}
+IsRunRefused p text sched (Refused _) = ⊥
+IsRunRefused p text sched NoMemory = Unit {0}

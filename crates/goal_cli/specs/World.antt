@@ -19,8 +19,8 @@ abbrev pub world : HostState → SinkState → SinkState → World
 world host out err = record { host = host; out = out; err = err }
 
 -- a world without its standard error
-abbrev pub but_err : World → Devices
-but_err w = devices w.host w.out
+abbrev pub without_err : World → Devices
+without_err w = devices w.host w.out
 
 pub record WorldLater (old new : World) : Type 0 where
   pub host : Later old.host new.host

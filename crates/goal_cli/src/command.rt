@@ -8,18 +8,18 @@ ghost use Rattle.goal_input.specs.Input.{IfFile};
 ghost use Rattle.sim_classes.specs.Machine.{MachineModel, costs_of};
 ghost use Rattle.goal_words.specs.Words.{Sim, Nodes, command_in};
 ghost use Rattle.goal_words.specs.Requests.{requested, IsSized, IsPriced};
-ghost use Rattle.goal_cli.specs.Answer.{IfInput, ForRead, GrowsByPart, IsReadOut, ReadsHeld, InputHeld, goes_to, target_of, Gets, GetsPart, Elsewhere, WritesRose, WritesHeld, WritesSame, AnswersWhole, PrintsRun, IsCauseOf, IsCause, AnswersWith, Says, IsCutShort, Answered, IsTaken};
+ghost use Rattle.goal_cli.specs.Answer.{IfInput, ForRead, GrowsByPart, IsReadOut, ReadsHeld, InputHeld, goes_to, target_of, Gets, GetsPart, Elsewhere, WritesRose, WritesHeld, WritesSame, AnswersWhole, PrintsRun, IsCauseOf, IsCause, AnswersWith, Says, IsCutShort, Answered, IsTakenWithinLimit};
 ghost use Rattle.goal_cli.specs.World.{devices, world, WorldLater};
 ghost use Rattle.goal_cli.specs.Output.{machine_of, HasOutput, HasRun, HasRunOn, IsRefused};
 ghost use Rattle.goal_cli.specs.Pages.{text_of, Suits};
-ghost use Rattle.goal_cli.specs.Unmade.{IsGathered, IsToldOr, DevicesLater};
+ghost use Rattle.goal_cli.specs.WithoutWork.{IsGathered, IsAnsweredOrNoMemory, DevicesLater};
 ghost use Rattle.goal_cli.specs.Refusal.{refused_line};
 ghost use Rattle.goal_cli.specs.declared.answer.Refusal.{Refusal};
 
 use crate::answer::{Answer, Ending, Status};
 use crate::output::{Stop, output_of};
 use crate::pages::Output;
-use crate::printing::{let_go, print_output};
+use crate::printing::{print_output, release};
 use crate::refusal::refused_line;
 use crate::source::{Gathered, gather};
 use goal_base::{Host, IoFault, Sink, write_all, write_file};
@@ -96,7 +96,7 @@ pub fn goal<H: Host, W: Sink, E: Sink>(
         → AnswersWith result Status.Refused (Says (E.state err.old) (E.state err.new) (refused_line refusal))) }
 
     // At most 2^27+1 bytes of each input are read. A command without an input leaves the open input unchanged.
-    ensures taken { IsTaken (command_in words.now) (H.state host.old) (H.state host.new) }
+    ensures taken { IsTakenWithinLimit (command_in words.now) (H.state host.old) (H.state host.new) }
     ensures later { WorldLater (world (H.state host.old) (W.state out.old) (E.state err.old))
         (world (H.state host.new) (W.state out.new) (E.state err.new)) }
 {
@@ -108,7 +108,7 @@ pub fn goal<H: Host, W: Sink, E: Sink>(
 fn carry_out<H: Host, W: Sink>(alloc: Global, words: &[String], host: &mut H, out: &mut W) -> Answer
     ensures cause { IsCause (devices (H.state host.old) (W.state out.old))
         (devices (H.state host.new) (W.state out.new)) (command_in words.now) result }
-    ensures taken { IsTaken (command_in words.now) (H.state host.old) (H.state host.new) }
+    ensures taken { IsTakenWithinLimit (command_in words.now) (H.state host.old) (H.state host.new) }
     ensures later { DevicesLater (devices (H.state host.old) (W.state out.old))
         (devices (H.state host.new) (W.state out.new)) }
 {
@@ -130,7 +130,7 @@ fn carry_out_request<H: Host, W: Sink>(
     requires priced { IsPriced (requested request.now) }
     ensures cause { IsCauseOf (devices (H.state host.old) (W.state out.old))
         (devices (H.state host.new) (W.state out.new)) (requested request.now) result }
-    ensures taken { IsTaken (Some (requested request.now)) (H.state host.old) (H.state host.new) }
+    ensures taken { IsTakenWithinLimit (Some (requested request.now)) (H.state host.old) (H.state host.new) }
     ensures later { DevicesLater (devices (H.state host.old) (W.state out.old))
         (devices (H.state host.new) (W.state out.new)) }
 {
@@ -166,7 +166,7 @@ fn write_output<H: Host, W: Sink>(
     };
     let ending = output.ending;
     let written = put(alloc, &request.view, host, out, &mut output);
-    let_go(output);
+    release(output);
     match written {
         Ok(()) => Answer::Written(ending),
         Err(IoFault::Failed) => Answer::WriteFault,
@@ -219,7 +219,7 @@ fn say<E: Sink>(err: &mut E, line: &[u8], status: Status) -> Status
 
 // Writes the line of an answer to `err`, and returns its status.
 fn tell<E: Sink>(alloc: Global, err: &mut E, answer: Answer) -> Status
-    ensures answered { IsToldOr (E.state err.old) (E.state err.new) answer result }
+    ensures answered { IsAnsweredOrNoMemory (E.state err.old) (E.state err.new) answer result }
     ensures later { SinkLater (E.state err.old) (E.state err.new) }
 {
     match answer {

@@ -11,7 +11,7 @@ ghost use Rattle.goal_cli.specs.Output.{Input, IsOutput, IsRefused};
 ghost use Rattle.goal_cli.specs.Laws.{IsCertify, IsSameMachine, ForInput, Answers, IsSilent, line_at};
 ghost use Rattle.goal_views.specs.Views.{IsPrintedRun};
 ghost use Rattle.goal_cli.specs.Refusal.{refused_line};
-ghost use Rattle.goal_cli.specs.World.{World, but_err};
+ghost use Rattle.goal_cli.specs.World.{World, without_err};
 ghost use Rattle.goal_cli.specs.Answer.{input_in, machine_in, target_of, ForRead, ReadsFaulted, IsReadOut, GrowsByPart, Elsewhere, WritesRose, GetsPartOfOutput, IsUntouched, IsWritten, IsCause, line_for, status_of, Says, Answered};
 ghost use Rattle.goal_cli.specs.declared.answer.Answer.{Answer};
 ghost use Rattle.goal_cli.specs.declared.answer.Ending.{Ending};
@@ -86,35 +86,35 @@ pub fn laws_of_answers()
     ensures machine_read { (command : Option Command) (old new : World) (result : Status) → Answered command old new result
         → result ≡ Status.Refused → IsReadOut old.host new.host (machine_in command) }
     ensures write_fault { (command : Option Command) (old new : World) (result : Status) → Answered command old new result
-        → result ≡ Status.WriteFault → IsSomeAnd command (λ c. WritesRose (but_err old) (but_err new) (target_of c)
-        × ForRead old.host c (GetsPartOfOutput (but_err old) (but_err new) c)) }
+        → result ≡ Status.WriteFault → IsSomeAnd command (λ c. WritesRose (without_err old) (without_err new) (target_of c)
+        × ForRead old.host c (GetsPartOfOutput (without_err old) (without_err new) c)) }
     ensures write_risen { (command : Option Command) (old new : World) (result : Status) → Answered command old new result
         → old.out.count < new.out.count → Answers result Status.WriteFault }
     ensures file_risen { (command : Option Command) (old new : World) (result : Status) → Answered command old new result
         → old.host.write_count < new.host.write_count → Answers result Status.WriteFault }
     ensures done { (command : Option Command) (old new : World) (result : Status) → Answered command old new result
-        → result ≡ Status.Done → IsSomeAnd command (IsWritten (but_err old) (but_err new) Ending.Done) }
+        → result ≡ Status.Done → IsSomeAnd command (IsWritten (without_err old) (without_err new) Ending.Done) }
     ensures stuck { (command : Option Command) (old new : World) (result : Status) → Answered command old new result
-        → result ≡ Status.Stuck → IsSomeAnd command (IsWritten (but_err old) (but_err new) Ending.Stuck) }
+        → result ≡ Status.Stuck → IsSomeAnd command (IsWritten (without_err old) (without_err new) Ending.Stuck) }
     ensures not_certified { (command : Option Command) (old new : World) (result : Status) → Answered command old new result
-        → result ≡ Status.NotCertified → IsSomeAnd command (IsWritten (but_err old) (but_err new) Ending.NotCertified) }
+        → result ≡ Status.NotCertified → IsSomeAnd command (IsWritten (without_err old) (without_err new) Ending.NotCertified) }
     ensures only_certify { (command : Option Command) (old new : World) (result : Status) → Answered command old new result
         → result ≡ Status.NotCertified → IsSomeAnd command IsCertify }
     ensures part { (command : Option Command) (old new : World) (result : Status) → Answered command old new result
-        → IsUntouched (but_err old) (but_err new)
-        ⊎ ForInput command old.host (GetsPartOfOutput (but_err old) (but_err new)) }
+        → IsUntouched (without_err old) (without_err new)
+        ⊎ ForInput command old.host (GetsPartOfOutput (without_err old) (without_err new)) }
     ensures silent { (command : Option Command) (old new : World) (result : Status) → Answered command old new result
-        → IsSilent result → IsUntouched (but_err old) (but_err new) }
+        → IsSilent result → IsUntouched (without_err old) (without_err new) }
     ensures elsewhere { (command : Option Command) (old new : World) (result : Status) → Answered command old new result
-        → IfSome command (λ c. Elsewhere (but_err old) (but_err new) (target_of c)) }
+        → IfSome command (λ c. Elsewhere (without_err old) (without_err new) (target_of c)) }
     ensures says { (command : Option Command) (old new : World) (result : Status) → Answered command old new result
         → IfSome (line_at result) (λ line. Says old.err new.err line) }
     ensures says_nothing { (command : Option Command) (old new : World) (result : Status) → Answered command old new result
         → (result ≡ Status.Done) ⊎ (result ≡ Status.Stuck) ⊎ (result ≡ Status.NotCertified) → new.err ≡ old.err }
     ensures says_part { (command : Option Command) (old new : World) (result : Status) → Answered command old new result
         → result ≡ Status.NoMemory → (answer : Answer)
-        × IsCause (but_err old) (but_err new) command answer × GrowsByPart old.err new.err (line_for answer) }
+        × IsCause (without_err old) (without_err new) command answer × GrowsByPart old.err new.err (line_for answer) }
     ensures says_failed { (command : Option Command) (old new : World) (result : Status) → Answered command old new result
         → old.err.count < new.err.count → (answer : Answer)
-        × IsCause (but_err old) (but_err new) command answer × (result ≡ status_of answer) × GrowsByPart old.err new.err (line_for answer) }
+        × IsCause (without_err old) (without_err new) command answer × (result ≡ status_of answer) × GrowsByPart old.err new.err (line_for answer) }
 {}

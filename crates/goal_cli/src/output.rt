@@ -11,8 +11,8 @@ ghost use Rattle.goal_input.specs.Input.{IsReadAs};
 ghost use Rattle.goal_cli.specs.Answer.{goes_to};
 ghost use Rattle.goal_cli.specs.Pages.{text_of, Suits};
 ghost use Rattle.goal_cli.specs.Output.{Input, ending_if, IsMachineFor, IsText, IsShownAs, IsOutput, EndsAs, MayEnd};
-ghost use Rattle.goal_cli.specs.Unmade.{IsGathered};
-ghost use Rattle.goal_cli.specs.Stop.{IsStop, IsPaidRun, IsUnpaid};
+ghost use Rattle.goal_cli.specs.WithoutWork.{IsGathered};
+ghost use Rattle.goal_cli.specs.Stop.{IsStop, IsRunAtCosts, IsRunRefused};
 
 use crate::answer::{Ending, Refusal};
 use crate::pages::{Output, Pages, Whole};
@@ -73,7 +73,7 @@ fn ending_if(stuck: bool) -> Ending
 fn machine_for(alloc: Global, sched: &Sched, text: &[u8]) -> Result<Machine, Stop>
     requires short { length text.now ≤ MAX_INPUT }
     ensures machine { IfOk result (λ machine. IsMachineFor text.now sched.now (machine_model machine)) }
-    ensures stop { IfErr result (λ stop. (name : List ℕ) → IsUnpaid (ByMachine name) text.now sched.now stop) }
+    ensures stop { IfErr result (λ stop. (name : List ℕ) → IsRunRefused (ByMachine name) text.now sched.now stop) }
 {
     let machine = match read_machine(alloc, text) {
         Ok(machine) => machine,
@@ -98,8 +98,8 @@ fn run_with<'a, L: Ledger, M: Ledger, N: Ledger>(
     reads: &mut Steps<N>,
 ) -> Result<Output<'a>, Stop>
     ensures paid { IfOk result (λ output. (text : List ℕ)
-        → IsPaidRun (ByNumbers (numbers params)) how text sched.now (text_of output) output.ending) }
-    ensures stop { IfErr result (λ stop. (text : List ℕ) → IsUnpaid (ByNumbers (numbers params)) text sched.now stop) }
+        → IsRunAtCosts (ByNumbers (numbers params)) how text sched.now (text_of output) output.ending) }
+    ensures stop { IfErr result (λ stop. (text : List ℕ) → IsRunRefused (ByNumbers (numbers params)) text sched.now stop) }
 {
     let run = show_run(alloc, sched, LogGops { params }, how, steps, looks, reads)?;
     let pages = Pages::of_run(run.lines);
@@ -118,8 +118,8 @@ fn run_on<'a, L: Ledger, M: Ledger, N: Ledger>(
 ) -> Result<Output<'a>, Stop>
     requires short { length text.now ≤ MAX_INPUT }
     ensures paid { IfOk result (λ output. (name : List ℕ)
-        → IsPaidRun (ByMachine name) how text.now sched.now (text_of output) output.ending) }
-    ensures stop { IfErr result (λ stop. (name : List ℕ) → IsUnpaid (ByMachine name) text.now sched.now stop) }
+        → IsRunAtCosts (ByMachine name) how text.now sched.now (text_of output) output.ending) }
+    ensures stop { IfErr result (λ stop. (name : List ℕ) → IsRunRefused (ByMachine name) text.now sched.now stop) }
 {
     let machine = machine_for(alloc, sched, text)?;
     let run = show_run(alloc, sched, machine, how, steps, looks, reads)?;
@@ -150,8 +150,8 @@ fn run_counted<'a, L: Ledger, M: Ledger, N: Ledger>(
     requires short { length text.now ≤ MAX_INPUT }
     requires costed { costs.now ≢ Costing.None }
     ensures paid { IfOk result (λ output.
-        IsPaidRun (pricing costs.now) how text.now sched.now (text_of output) output.ending) }
-    ensures stop { IfErr result (λ stop. IsUnpaid (pricing costs.now) text.now sched.now stop) }
+        IsRunAtCosts (pricing costs.now) how text.now sched.now (text_of output) output.ending) }
+    ensures stop { IfErr result (λ stop. IsRunRefused (pricing costs.now) text.now sched.now stop) }
 {
     let mut steps = Steps::<L>::new(for_steps);
     let mut looks = Steps::<M>::new(for_looks);
@@ -175,8 +175,8 @@ fn run_costed<'a>(
     requires short { length text.now ≤ MAX_INPUT }
     requires costed { costs.now ≢ Costing.None }
     ensures paid { IfOk result (λ output.
-        IsPaidRun (pricing costs.now) how text.now sched.now (text_of output) output.ending) }
-    ensures stop { IfErr result (λ stop. IsUnpaid (pricing costs.now) text.now sched.now stop) }
+        IsRunAtCosts (pricing costs.now) how text.now sched.now (text_of output) output.ending) }
+    ensures stop { IfErr result (λ stop. IsRunRefused (pricing costs.now) text.now sched.now stop) }
 {
     run_counted::<Brand, Brand, Brand>(
         alloc,

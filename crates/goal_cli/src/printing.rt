@@ -10,7 +10,7 @@ use goal_limits::NoMemory;
 use std::alloc::Global;
 
 /// Releases the memory of an output. A separate function keeps this out of the proofs of its callers.
-pub fn let_go(output: Output<'_>) {
+pub fn release(output: Output<'_>) {
     let _output = output;
 }
 

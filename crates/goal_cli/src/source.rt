@@ -9,8 +9,8 @@ ghost use Rattle.goal_words.specs.declared.request.View.{View};
 ghost use Rattle.goal_words.specs.Words.{Command, Pricing, asks};
 ghost use Rattle.goal_words.specs.Requests.{requested, IsSized};
 ghost use Rattle.goal_cli.specs.Output.{input_of, machine_of, IsMade, IsFrom};
-ghost use Rattle.goal_cli.specs.Answer.{ForNamed, ForRead, IsReadOut, IsTaken};
-ghost use Rattle.goal_cli.specs.Unmade.{IsUnmade, IsUntold, IsIdle, IsGot, IsTakenFrom, IsGathered};
+ghost use Rattle.goal_cli.specs.Answer.{ForNamed, ForRead, IsReadOut, IsTakenWithinLimit};
+ghost use Rattle.goal_cli.specs.WithoutWork.{HasNoSchedule, IsNotReadWhole, HasNoWork, AreBytesOfFile, IsTakenWithinLimitFrom, IsGathered};
 
 use crate::answer::{Answer, Refusal};
 use goal_base::{Host, ReadAll, read_all};
@@ -41,7 +41,7 @@ fn make_schedule(alloc: Global, what: Collective, ranks: u32, bytes: u64) -> Res
     requires size { bytes ≤ MAX_BYTES }
     ensures made { IfOk result (λ sched. IsMade what ranks bytes sched) }
     ensures unmade { IfErr result (λ answer. (costs : Pricing) (view : View) (host : HostState)
-        → IsUnmade host host (asks (Source.Made what ranks bytes) costs view) answer) }
+        → HasNoSchedule host host (asks (Source.Made what ranks bytes) costs view) answer) }
 {
     match generated(alloc, what, ranks, bytes) {
         Ok(sched) => Ok(sched),
@@ -66,11 +66,11 @@ fn draw(alloc: Global, rounds: u32, seed: u64) -> Result<Sched, Answer>
 fn read_input<H: Host>(alloc: Global, host: &mut H, name: &str) -> Result<Sched, Answer>
     ensures read { IfOk result (λ sched. ForFile (H.state host.old) name.now (λ input. IsReadAs input sched)) }
     ensures input_fault { IfErr result (λ answer. (c : Command) → input_of c ≡ Some name.now
-        → IsUnmade (H.state host.old) (H.state host.new) c answer) }
+        → HasNoSchedule (H.state host.old) (H.state host.new) c answer) }
     ensures counts { OnOk result (SameReadCounts (H.state host.old) (H.state host.new)) }
     ensures kept { KeepsFiles (H.state host.old) (H.state host.new) }
     ensures later { Later (H.state host.old) (H.state host.new) }
-    ensures taken { IsTakenFrom (H.state host.old) (H.state host.new) (Some name.now) }
+    ensures taken { IsTakenWithinLimitFrom (H.state host.old) (H.state host.new) (Some name.now) }
 {
     match read_schedule(alloc, host, name) {
         Ok(sched) => Ok(sched),
@@ -88,11 +88,11 @@ fn schedule_of<H: Host>(alloc: Global, host: &mut H, request: &Request) -> Resul
     requires sized { IsSized (requested request.now) }
     ensures schedule { IfOk result (λ sched. ForNamed (H.state host.old) (input_of (requested request.now))
         (λ schedule. IsFrom request.now.source schedule sched)) }
-    ensures unmade { IfErr result (IsUnmade (H.state host.old) (H.state host.new) (requested request.now)) }
+    ensures unmade { IfErr result (HasNoSchedule (H.state host.old) (H.state host.new) (requested request.now)) }
     ensures counts { OnOk result (SameReadCounts (H.state host.old) (H.state host.new)) }
     ensures kept { KeepsFiles (H.state host.old) (H.state host.new) }
     ensures later { Later (H.state host.old) (H.state host.new) }
-    ensures taken { IsTakenFrom (H.state host.old) (H.state host.new) (input_of (requested request.now)) }
+    ensures taken { IsTakenWithinLimitFrom (H.state host.old) (H.state host.new) (input_of (requested request.now)) }
 {
     match &request.source {
         Source::File(name) => read_input(alloc, host, name.as_str()),
@@ -103,14 +103,14 @@ fn schedule_of<H: Host>(alloc: Global, host: &mut H, request: &Request) -> Resul
 
 // Returns the text of the machine of a command. Without one the text is empty, and the host is not asked.
 fn take_machine<H: Host>(alloc: Global, host: &mut H, request: &Request) -> Result<Vec<u8>, Answer>
-    ensures got { IfOk result (λ text. IsGot (H.state host.old) (machine_of (requested request.now)) text.items) }
+    ensures got { IfOk result (λ text. AreBytesOfFile (H.state host.old) (machine_of (requested request.now)) text.items) }
     ensures short { IfOk result (λ text. length text.items ≤ MAX_INPUT) }
-    ensures untold { IfErr result (IsUntold (H.state host.old) (H.state host.new) (machine_of (requested request.now))) }
+    ensures untold { IfErr result (IsNotReadWhole (H.state host.old) (H.state host.new) (machine_of (requested request.now))) }
     ensures read_out { OnOk result (IsReadOut (H.state host.old) (H.state host.new) (machine_of (requested request.now))) }
     ensures counts { OnOk result (SameReadCounts (H.state host.old) (H.state host.new)) }
     ensures kept { KeepsFiles (H.state host.old) (H.state host.new) }
     ensures later { Later (H.state host.old) (H.state host.new) }
-    ensures taken { IsTakenFrom (H.state host.old) (H.state host.new) (machine_of (requested request.now)) }
+    ensures taken { IsTakenWithinLimitFrom (H.state host.old) (H.state host.new) (machine_of (requested request.now)) }
 {
     match &request.costs {
         Costing::Params(_) | Costing::None => Ok(Vec::new(alloc)),
@@ -139,12 +139,12 @@ pub fn gather<H: Host>(alloc: Global, host: &mut H, request: &Request) -> Result
     ensures work { IfOk result (λ work. ForRead (H.state host.old) (requested request.now)
         (IsGathered (requested request.now) work.sched work.machine.items)) }
     ensures short { IfOk result (λ work. length work.machine.items ≤ MAX_INPUT) }
-    ensures idle { IfErr result (IsIdle (H.state host.old) (H.state host.new) (requested request.now)) }
+    ensures idle { IfErr result (HasNoWork (H.state host.old) (H.state host.new) (requested request.now)) }
     ensures read_out { OnOk result (IsReadOut (H.state host.old) (H.state host.new) (machine_of (requested request.now))) }
     ensures counts { OnOk result (SameReadCounts (H.state host.old) (H.state host.new)) }
     ensures kept { KeepsFiles (H.state host.old) (H.state host.new) }
     ensures later { Later (H.state host.old) (H.state host.new) }
-    ensures taken { IsTaken (Some (requested request.now)) (H.state host.old) (H.state host.new) }
+    ensures taken { IsTakenWithinLimit (Some (requested request.now)) (H.state host.old) (H.state host.new) }
 {
     match schedule_of(alloc, host, request) {
         Ok(sched) => match take_machine(alloc, host, request) {

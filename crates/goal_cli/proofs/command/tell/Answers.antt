@@ -1,5 +1,5 @@
 use Rattle.std.proofs.Common.{rules, inl}
-use Rattle.goal_cli.proofs.AnswerLemmas.{said_as}
+use Rattle.goal_cli.proofs.AnswerLemmas.{says_equal_line}
 use Rattle.goal_cli.proofs.command.tell.Goals as goal
 
 pub returns-in-BadLine-clause-answered : goal.returns-in-BadLine-clause-answered
@@ -12,4 +12,4 @@ pub returns-in-WriteFault-clause-answered : goal.returns-in-WriteFault-clause-an
 returns-in-WriteFault-clause-answered g c = rw c.in-WriteFault.is c.say-in-WriteFault.ensures.said
 
 pub returns-in-Ok-clause-answered : goal.returns-in-Ok-clause-answered
-returns-in-Ok-clause-answered g c = rw c.in-Refused.is (inl (said_as _ _ _ _ c.deref.result.now _ (search rules) c.say-in-Ok.ensures.said))
+returns-in-Ok-clause-answered g c = rw c.in-Refused.is (inl (says_equal_line _ _ _ _ c.deref.result.now _ (search rules) c.say-in-Ok.ensures.said))

@@ -2,7 +2,7 @@ use Rattle.std.proofs.Common.{◌≡◌, Option, None}
 use Rattle.goal_words.specs.Words.{Command}
 use Rattle.goal_cli.specs.declared.answer.Status.{Status}
 use Rattle.goal_cli.specs.declared.answer.Status.TheVariants as status
-use Rattle.goal_cli.specs.World.{World, but_err}
+use Rattle.goal_cli.specs.World.{World, without_err}
 use Rattle.goal_cli.specs.Answer.{Answered}
 use Rattle.goal_cli.specs.Laws.{Answers}
 use Rattle.goal_cli.proofs.AnswerLemmas.{no_line, no_line_told, read_fault, reads_risen, absent_risen, absent_named, absent_machine, told_refusal, cut_off_told, writes_risen, files_risen, done, stuck, not_certified, only_certify, part_or_none, untouched, kept_elsewhere, line_said, nothing_at, part_said, failed_said, machine_read}
@@ -11,61 +11,61 @@ use Rattle.goal_cli.proofs.laws.laws_of_answers.Goals as goal
 line_missed : (command : Option Command) (old new : World) (result : Status) → Answered command old new result → command ≡ None
     → Answers result status.BadLine
 line_missed command old new result w is =
-    no_line_told (but_err old) (but_err new) old.err new.err w.answer result (rw is at w.cause) w.told
+    no_line_told (without_err old) (without_err new) old.err new.err w.answer result (rw is at w.cause) w.told
 
 pub returns-clause-bad_line : goal.returns-clause-bad_line
-returns-clause-bad_line c = λ command old new result w. no_line (but_err old) (but_err new) command old.err new.err w.answer result w.cause w.told
+returns-clause-bad_line c = λ command old new result w. no_line (without_err old) (without_err new) command old.err new.err w.answer result w.cause w.told
 
 pub returns-clause-bad_line_exact : goal.returns-clause-bad_line_exact
 returns-clause-bad_line_exact c = line_missed
 
 pub returns-clause-read_fault : goal.returns-clause-read_fault
-returns-clause-read_fault c = λ command old new result w. read_fault (but_err old) (but_err new) command old.err new.err w.answer result w.cause w.told
+returns-clause-read_fault c = λ command old new result w. read_fault (without_err old) (without_err new) command old.err new.err w.answer result w.cause w.told
 
 pub returns-clause-read_risen : goal.returns-clause-read_risen
-returns-clause-read_risen c = λ command old new result w. reads_risen (but_err old) (but_err new) command old.err new.err w.answer result w.cause w.told
+returns-clause-read_risen c = λ command old new result w. reads_risen (without_err old) (without_err new) command old.err new.err w.answer result w.cause w.told
 
 pub returns-clause-absent_risen : goal.returns-clause-absent_risen
-returns-clause-absent_risen c = λ command old new result w. absent_risen (but_err old) (but_err new) command old.err new.err w.answer result w.cause w.told
+returns-clause-absent_risen c = λ command old new result w. absent_risen (without_err old) (without_err new) command old.err new.err w.answer result w.cause w.told
 
 pub returns-clause-absent_name : goal.returns-clause-absent_name
-returns-clause-absent_name c = λ command old new result w. absent_named (but_err old) (but_err new) command old.err new.err w.answer result w.cause w.told
+returns-clause-absent_name c = λ command old new result w. absent_named (without_err old) (without_err new) command old.err new.err w.answer result w.cause w.told
 
 pub returns-clause-absent_machine : goal.returns-clause-absent_machine
-returns-clause-absent_machine c = λ command old new result w. absent_machine (but_err old) (but_err new) command old.err new.err w.answer result w.cause w.told
+returns-clause-absent_machine c = λ command old new result w. absent_machine (without_err old) (without_err new) command old.err new.err w.answer result w.cause w.told
 
 pub returns-clause-refused : goal.returns-clause-refused
-returns-clause-refused c = λ command old new result w. told_refusal (but_err old) (but_err new) command old.err new.err w.answer result w.cause w.told
+returns-clause-refused c = λ command old new result w. told_refusal (without_err old) (without_err new) command old.err new.err w.answer result w.cause w.told
 
 pub returns-clause-write_fault : goal.returns-clause-write_fault
-returns-clause-write_fault c = λ command old new result w. cut_off_told (but_err old) (but_err new) command old.err new.err w.answer result w.cause w.told
+returns-clause-write_fault c = λ command old new result w. cut_off_told (without_err old) (without_err new) command old.err new.err w.answer result w.cause w.told
 
 pub returns-clause-write_risen : goal.returns-clause-write_risen
-returns-clause-write_risen c = λ command old new result w. writes_risen (but_err old) (but_err new) command old.err new.err w.answer result w.cause w.told
+returns-clause-write_risen c = λ command old new result w. writes_risen (without_err old) (without_err new) command old.err new.err w.answer result w.cause w.told
 
 pub returns-clause-file_risen : goal.returns-clause-file_risen
-returns-clause-file_risen c = λ command old new result w. files_risen (but_err old) (but_err new) command old.err new.err w.answer result w.cause w.told
+returns-clause-file_risen c = λ command old new result w. files_risen (without_err old) (without_err new) command old.err new.err w.answer result w.cause w.told
 
 pub returns-clause-done : goal.returns-clause-done
-returns-clause-done c = λ command old new result w. done (but_err old) (but_err new) command old.err new.err w.answer result w.cause w.told
+returns-clause-done c = λ command old new result w. done (without_err old) (without_err new) command old.err new.err w.answer result w.cause w.told
 
 pub returns-clause-stuck : goal.returns-clause-stuck
-returns-clause-stuck c = λ command old new result w. stuck (but_err old) (but_err new) command old.err new.err w.answer result w.cause w.told
+returns-clause-stuck c = λ command old new result w. stuck (without_err old) (without_err new) command old.err new.err w.answer result w.cause w.told
 
 pub returns-clause-not_certified : goal.returns-clause-not_certified
-returns-clause-not_certified c = λ command old new result w. not_certified (but_err old) (but_err new) command old.err new.err w.answer result w.cause w.told
+returns-clause-not_certified c = λ command old new result w. not_certified (without_err old) (without_err new) command old.err new.err w.answer result w.cause w.told
 
 pub returns-clause-only_certify : goal.returns-clause-only_certify
-returns-clause-only_certify c = λ command old new result w. only_certify (but_err old) (but_err new) command old.err new.err w.answer result w.cause w.told
+returns-clause-only_certify c = λ command old new result w. only_certify (without_err old) (without_err new) command old.err new.err w.answer result w.cause w.told
 
 pub returns-clause-part : goal.returns-clause-part
-returns-clause-part c = λ command old new result w. part_or_none (but_err old) (but_err new) command w.answer w.cause
+returns-clause-part c = λ command old new result w. part_or_none (without_err old) (without_err new) command w.answer w.cause
 
 pub returns-clause-silent : goal.returns-clause-silent
-returns-clause-silent c = λ command old new result w. untouched (but_err old) (but_err new) command old.err new.err w.answer result w.cause w.told
+returns-clause-silent c = λ command old new result w. untouched (without_err old) (without_err new) command old.err new.err w.answer result w.cause w.told
 
 pub returns-clause-elsewhere : goal.returns-clause-elsewhere
-returns-clause-elsewhere c = λ command old new result w. kept_elsewhere (but_err old) (but_err new) command w.answer w.cause
+returns-clause-elsewhere c = λ command old new result w. kept_elsewhere (without_err old) (without_err new) command w.answer w.cause
 
 pub returns-clause-says : goal.returns-clause-says
 returns-clause-says c = λ command old new result w. line_said old.err new.err w.answer result w.told
@@ -74,10 +74,10 @@ pub returns-clause-says_nothing : goal.returns-clause-says_nothing
 returns-clause-says_nothing c = λ command old new result w. nothing_at w.answer result old.err new.err w.told
 
 pub returns-clause-says_part : goal.returns-clause-says_part
-returns-clause-says_part c = λ command old new result w. part_said (but_err old) (but_err new) command old.err new.err w.answer result w.cause w.told
+returns-clause-says_part c = λ command old new result w. part_said (without_err old) (without_err new) command old.err new.err w.answer result w.cause w.told
 
 pub returns-clause-says_failed : goal.returns-clause-says_failed
-returns-clause-says_failed c = λ command old new result w. failed_said (but_err old) (but_err new) command old.err new.err w.answer result w.cause w.told
+returns-clause-says_failed c = λ command old new result w. failed_said (without_err old) (without_err new) command old.err new.err w.answer result w.cause w.told
 
 pub returns-clause-machine_read : goal.returns-clause-machine_read
-returns-clause-machine_read c = λ command old new result w. machine_read (but_err old) (but_err new) command old.err new.err w.answer result w.cause w.told
+returns-clause-machine_read c = λ command old new result w. machine_read (without_err old) (without_err new) command old.err new.err w.answer result w.cause w.told

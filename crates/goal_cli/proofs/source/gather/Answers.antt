@@ -11,14 +11,14 @@ use Rattle.goal_cli.specs.declared.answer.Refusal.{Refusal}
 use Rattle.goal_cli.specs.declared.answer.Refusal.TheVariants as refusal
 use Rattle.goal_cli.specs.Answer.{ForNamed, ForRead, IsReadOut}
 use Rattle.goal_cli.specs.Output.{input_of, machine_of, input_with, IsFrom, IsRefused}
-use Rattle.goal_cli.specs.Unmade.{IsUnmade, IsUntold, IsIdle, IsGot, IsGathered}
+use Rattle.goal_cli.specs.WithoutWork.{HasNoSchedule, IsNotReadWhole, HasNoWork, AreBytesOfFile, IsGathered}
 use Rattle.goal_base.proofs.ForCallers.{later_then, kept_then, counts_then}
 use Rattle.goal_cli.proofs.AnswerLemmas.{for_turned, got_for, idle_refused, read_out_from, taken_both, taken_first}
 use Rattle.goal_cli.proofs.source.gather.Goals as goal
 
 -- the bytes of both files
 gathered_of : (a b : HostState) (c : Command) (sched : List Plan) (text : List ℕ) → Later a b → KeepsFiles a b
-    → ForNamed a (input_of c) (λ schedule. IsFrom c.source schedule sched) → IsGot b (machine_of c) text → ForRead a c (IsGathered c sched text)
+    → ForNamed a (input_of c) (λ schedule. IsFrom c.source schedule sched) → AreBytesOfFile b (machine_of c) text → ForRead a c (IsGathered c sched text)
 gathered_of a b c sched text later kept made got =
     for_turned a (λ s. IsFrom c.source s sched) (λ s. ForNamed a (machine_of c) (λ m. IsFrom c.source s sched × (m ≡ text)))
     (λ s from. got_for a b text (λ m. IsFrom c.source s sched × (m ≡ text)) (machine_of c) later kept got (from, refl)) (input_of c) made
@@ -54,7 +54,7 @@ long_refused a c schedule (Some name) is long = λ t. let k = long.told t in (k.
 
 -- why the machine was not read whole, where the schedule was read
 idle_untold : (a b d : HostState) (c : Command) (Q : List ℕ → Type 0) (why : Answer) → Later a b → KeepsFiles a b → SameReadCounts a b
-    → ForNamed a (input_of c) Q → IsUntold b d (machine_of c) why → IsIdle a d c why
+    → ForNamed a (input_of c) Q → IsNotReadWhole b d (machine_of c) why → HasNoWork a d c why
 idle_untold a b d c Q (answer.Written e) later kept same got untold = untold
 idle_untold a b d c Q answer.BadLine later kept same got untold = untold
 idle_untold a b d c Q (answer.Refused r) later kept same got untold =
@@ -74,7 +74,7 @@ returns-in-Ok-take_machine-2-clause-idle g c =
     let old = g.H.Host.state c.args.host.now in
     let read = g.H.Host.state c.schedule_of.new.host in
     let is : c.in-Err-Refused.field-0 ≡ answer.Refused c.in-Err-Refused.refusal = search rules in
-    let unmade = subst (λ (a : Answer). IsUnmade old read (requested c.args.request.now) a) is c.in-Err-Refused.ensures.unmade in
+    let unmade = subst (λ (a : Answer). HasNoSchedule old read (requested c.args.request.now) a) is c.in-Err-Refused.ensures.unmade in
     let got = c.in-Ok-take_machine-2.ensures in
     rw c.in-Err-Refused.refusal-is
     (idle_refused old read (g.H.Host.state c.take_machine-in-Err-Refused.new.host) (requested c.args.request.now) c.in-Err-Refused.refusal
@@ -157,7 +157,7 @@ returns-in-Err-take_machine-2-clause-idle g c =
     let old = g.H.Host.state c.args.host.now in
     let read = g.H.Host.state c.schedule_of.new.host in
     let is : c.in-Err-Refused.field-0 ≡ answer.Refused c.in-Err-Refused.refusal = search rules in
-    let unmade = subst (λ (a : Answer). IsUnmade old read (requested c.args.request.now) a) is c.in-Err-Refused.ensures.unmade in
+    let unmade = subst (λ (a : Answer). HasNoSchedule old read (requested c.args.request.now) a) is c.in-Err-Refused.ensures.unmade in
     idle_untold old read (g.H.Host.state c.take_machine-in-Err-Refused.new.host) (requested c.args.request.now)
     (λ schedule. (machine : List ℕ) → length machine ≤ MAX_INPUT → IsRefused (requested c.args.request.now) (input_with schedule machine) c.in-Err-Refused.refusal)
     c.in-Err-take_machine-2.answer c.schedule_of.ensures.later c.schedule_of.ensures.kept unmade.1 unmade.0

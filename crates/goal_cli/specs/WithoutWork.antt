@@ -13,42 +13,42 @@ use Rattle.goal_graph.specs.Schedule.{Plan}
 use Rattle.goal_cli.specs.World.{Devices}
 
 -- why there is no schedule, for any machine that is not too long; it may always be out of memory
-abbrev pub IsUnmade : HostState → HostState → Command → Answer → Type 0
-IsUnmade old new c answer.ReadFault = IsSomeAnd (input_of c) (ReadFaulted old new)
-IsUnmade old new c (answer.Refused r) =
+abbrev pub HasNoSchedule : HostState → HostState → Command → Answer → Type 0
+HasNoSchedule old new c answer.ReadFault = IsSomeAnd (input_of c) (ReadFaulted old new)
+HasNoSchedule old new c (answer.Refused r) =
     ForNamed old (input_of c) (λ schedule. (machine : List ℕ) → length machine ≤ input_limit → IsRefused c (input_with schedule machine) r)
     × SameReadCounts old new
-IsUnmade old new c answer.NoMemory = Unit {0}
-IsUnmade old new c _ = ⊥
+HasNoSchedule old new c answer.NoMemory = Unit {0}
+HasNoSchedule old new c _ = ⊥
 
 -- why the file of that name was not read whole
-abbrev pub IsUntold : HostState → HostState → Option (List ℕ) → Answer → Type 0
-IsUntold old new o answer.ReadFault = IsSomeAnd o (ReadFaulted old new)
-IsUntold old new o (answer.Refused r) = (r ≡ refusal.TooLong) × IsSomeAnd o (IsTooLong old) × SameReadCounts old new
-IsUntold old new o answer.NoMemory = Unit {0}
-IsUntold old new o _ = ⊥
+abbrev pub IsNotReadWhole : HostState → HostState → Option (List ℕ) → Answer → Type 0
+IsNotReadWhole old new o answer.ReadFault = IsSomeAnd o (ReadFaulted old new)
+IsNotReadWhole old new o (answer.Refused r) = (r ≡ refusal.TooLong) × IsSomeAnd o (IsTooLong old) × SameReadCounts old new
+IsNotReadWhole old new o answer.NoMemory = Unit {0}
+IsNotReadWhole old new o _ = ⊥
 
 -- why there is nothing to work on
-abbrev pub IsIdle : HostState → HostState → Command → Answer → Type 0
-IsIdle old new c answer.ReadFault = ReadsFaulted old new c
-IsIdle old new c (answer.Refused r) = ForRead old c (λ input. IsRefused c input r) × SameReadCounts old new × IsReadOut old new (machine_of c)
-IsIdle old new c answer.NoMemory = Unit {0}
-IsIdle old new c _ = ⊥
+abbrev pub HasNoWork : HostState → HostState → Command → Answer → Type 0
+HasNoWork old new c answer.ReadFault = ReadsFaulted old new c
+HasNoWork old new c (answer.Refused r) = ForRead old c (λ input. IsRefused c input r) × SameReadCounts old new × IsReadOut old new (machine_of c)
+HasNoWork old new c answer.NoMemory = Unit {0}
+HasNoWork old new c _ = ⊥
 
 -- the bytes are those of the file of that name, and none if there is no name
-abbrev pub IsGot : HostState → Option (List ℕ) → List ℕ → Type 0
-IsGot host None bytes = bytes ≡ []
-IsGot host (Some name) bytes = host.tells ≡ true → file_of host name ≡ Some bytes
+abbrev pub AreBytesOfFile : HostState → Option (List ℕ) → List ℕ → Type 0
+AreBytesOfFile host None bytes = bytes ≡ []
+AreBytesOfFile host (Some name) bytes = host.tells ≡ true → file_of host name ≡ Some bytes
 
 -- at most 2^27+1 bytes of the file of that name were read; without a name nothing was read
-abbrev pub IsTakenFrom : HostState → HostState → Option (List ℕ) → Type 0
-IsTakenFrom old new None = KeepsReading old new
-IsTakenFrom old new (Some name) = SameRest old new ⊎ ReadsAtMost old new name (input_limit + 1)
+abbrev pub IsTakenWithinLimitFrom : HostState → HostState → Option (List ℕ) → Type 0
+IsTakenWithinLimitFrom old new None = KeepsReading old new
+IsTakenWithinLimitFrom old new (Some name) = SameRest old new ⊎ ReadsAtMost old new name (input_limit + 1)
 
 -- the answer was written to `err`, or NoMemory, if there was none for the words of a refusal
-abbrev pub IsToldOr : SinkState → SinkState → Answer → Status → Type 0
-IsToldOr old new (answer.Refused r) s = IsAnswered old new (answer.Refused r) s ⊎ IsAnswered old new answer.NoMemory s
-IsToldOr old new a s = IsAnswered old new a s
+abbrev pub IsAnsweredOrNoMemory : SinkState → SinkState → Answer → Status → Type 0
+IsAnsweredOrNoMemory old new (answer.Refused r) s = IsAnswered old new (answer.Refused r) s ⊎ IsAnswered old new answer.NoMemory s
+IsAnsweredOrNoMemory old new a s = IsAnswered old new a s
 
 -- the schedule that a command works on, and the text of its machine
 abbrev pub IsGathered : Command → List Plan → List ℕ → Input → Type 0
