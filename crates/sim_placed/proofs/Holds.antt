@@ -16,7 +16,7 @@ use Rattle.goal_graph.proofs.ForCallers.{allowed_serve, served_message}
 use Rattle.sim_params.specs.Costs.{CostModel, over, gap, is_eager}
 use Rattle.sim_params.specs.Times.{at_partner, holds_tx, holds_rx, mate, cpu_hold, tx_hold, rx_hold, cpu, tx, rx, Possible}
 use Rattle.sim_placed.proofs.Tails.{whole, newer, on_rank, on_here, on_other, Below, tail_below, below_below}
-use Rattle.sim_placed.proofs.Local.{hap}
+use Rattle.sim_placed.proofs.Local.{has_happened}
 use Rattle.sim_placed.proofs.Mates.{Each, each_interleaving, met_below, mates, met_of_receive}
 
 apart_places : (f : Op → ℕ) (x : OpId) (o : Option Op) (y : OpId) (p : Option Op) → (x.rank ≡ y.rank → ⊥) → same_place f x o y p ≡ false
@@ -66,9 +66,9 @@ module _ (plans : List Plan) (costs : CostModel) (apart : IsApart plans) (w : Li
       hold_by p a.class a.op (kind_at plans a.op) refl (λ e r. same_mate p below a.op r (allowed_serve plans (is_eager plans costs) (plain p) a.op (subst (λ (c : Class). allowed plans (is_eager plans costs) (plain p) c a.op ≡ true) e possible.allowed)).1)
 
   -- what an action holds that has happened
-  pub happened_hold : (p : List Timed) → Each plans costs p → Below p w → (c : Class) (x : OpId) → hap c x p ≡ true → cpu_hold plans costs p c x (kind_at plans x) ≡ cpu_hold plans costs w c x (kind_at plans x)
+  pub happened_hold : (p : List Timed) → Each plans costs p → Below p w → (c : Class) (x : OpId) → has_happened c x p ≡ true → cpu_hold plans costs p c x (kind_at plans x) ≡ cpu_hold plans costs w c x (kind_at plans x)
   happened_hold p each below c x e =
-      (hold_by p c x (kind_at plans x) refl (λ is r. same_mate p below x r (served_message plans (is_eager plans costs) (plain p) x (each_interleaving plans costs p each) (subst (λ (d : Class). hap d x p ≡ true) is e)))).0
+      (hold_by p c x (kind_at plans x) refl (λ is r. same_mate p below x r (served_message plans (is_eager plans costs) (plain p) x (each_interleaving plans costs p each) (subst (λ (d : Class). has_happened d x p ≡ true) is e)))).0
 
   -- until when these actions hold what x uses
   cpu_of : List Timed → OpId → ℕ

@@ -16,7 +16,7 @@ use Rattle.sim_params.specs.Costs.{CostModel, is_eager}
 use Rattle.sim_params.specs.Times.{mate, paired_at, Possible}
 use Rattle.sim_params.proofs.ForCallers.{since_kept, since_new}
 use Rattle.sim_placed.proofs.Tails.{Below, Rises}
-use Rattle.sim_placed.proofs.Local.{hap, at, hap_nothing, hap_cases, hap_below, at_below, at_most}
+use Rattle.sim_placed.proofs.Local.{has_happened, time_happened, has_happened_nothing, has_happened_cases, has_happened_below, time_happened_below, time_happened_at_most}
 
 module _ (plans : List Plan) (costs : CostModel) where
   -- each action was possible after those before it
@@ -34,8 +34,8 @@ module _ (plans : List Plan) (costs : CostModel) where
 
   pub met_below : (p q : List Timed) → Below p q → (m x : OpId) → Met p m x → Met q m x
   met_below p q below m x met = record {
-    arrived = hap_below Arrive m p q below met.arrived;
-    posted = hap_below Post x p q below met.posted;
+    arrived = has_happened_below Arrive m p q below met.arrived;
+    posted = has_happened_below Post x p q below met.posted;
     fit = met.fit;
   }
 
@@ -55,12 +55,12 @@ module _ (plans : List Plan) (costs : CostModel) where
 
     -- they are paired when the later one comes
     abbrev Paired : List Timed → OpId → OpId → Type 0
-    Paired p m x = (paired_at plans costs p m ≡ max (at Arrive m p) (at Post x p)) × (paired_at plans costs p x ≡ max (at Arrive m p) (at Post x p))
+    Paired p m x = (paired_at plans costs p m ≡ max (time_happened Arrive m p) (time_happened Post x p)) × (paired_at plans costs p x ≡ max (time_happened Arrive m p) (time_happened Post x p))
 
     pub paired_later : (p : List Timed) → Each p → Rises p → (m x : OpId) → Met p m x → Paired p m x
-    paired_later [] each rises m x met = absurd (hap_nothing Arrive m met.arrived)
+    paired_later [] each rises m x met = absurd (has_happened_nothing Arrive m met.arrived)
     paired_later (a ∷ p) each rises m x met =
-        go (λ (before : Met p m x). paired_later p each.0 rises.0 m x before) (cases_Bool (hap Arrive m p)) (cases_Bool (hap Post x p))
+        go (λ (before : Met p m x). paired_later p each.0 rises.0 m x before) (cases_Bool (has_happened Arrive m p)) (cases_Bool (has_happened Post x p))
       where
         now : (mate plans costs (a ∷ p) m ≡ Some x) × (mate plans costs (a ∷ p) x ≡ Some m)
         now = mates (a ∷ p) each m x met
@@ -88,27 +88,27 @@ module _ (plans : List Plan) (costs : CostModel) where
             let posted = since_kept (happened Post x) a p before.posted in
             (of_m ∙ (rest.0 ∙ λ i. max (sym arrived i) (sym posted i)), of_x ∙ (rest.1 ∙ λ i. max (sym arrived i) (sym posted i)))
 
-        posts : hap Arrive m p ≡ true → hap Post x p ≡ false → Paired (a ∷ p) m x
+        posts : has_happened Arrive m p ≡ true → has_happened Post x p ≡ false → Paired (a ∷ p) m x
         posts t f =
-            let at_once = new (free_send (λ y other. both_ways _ f (subst (λ (z : OpId). hap Post z p ≡ true) (apart.one_receive m y x other.fit met.fit) other.posted))) (free_receive (λ n other. both_ways _ f other.posted)) in
+            let at_once = new (free_send (λ y other. both_ways _ f (subst (λ (z : OpId). has_happened Post z p ≡ true) (apart.one_receive m y x other.fit met.fit) other.posted))) (free_receive (λ n other. both_ways _ f other.posted)) in
             let arrived = since_kept (happened Arrive m) a p t in
             let posted = since_new (happened Post x) a p f met.posted in
-            let le = at_most Arrive m p a.time rises.1 t in
+            let le = time_happened_at_most Arrive m p a.time rises.1 t in
             (omega (arith, at_once, arrived, posted, le), omega (arith, at_once, arrived, posted, le))
 
-        arrives : hap Arrive m p ≡ false → hap Post x p ≡ true → Paired (a ∷ p) m x
+        arrives : has_happened Arrive m p ≡ false → has_happened Post x p ≡ true → Paired (a ∷ p) m x
         arrives f t =
-            let at_once = new (free_send (λ y other. both_ways _ f other.arrived)) (free_receive (λ n other. both_ways _ f (subst (λ (z : OpId). hap Arrive z p ≡ true) (apart.one_send x n m other.fit met.fit) other.arrived))) in
+            let at_once = new (free_send (λ y other. both_ways _ f other.arrived)) (free_receive (λ n other. both_ways _ f (subst (λ (z : OpId). has_happened Arrive z p ≡ true) (apart.one_send x n m other.fit met.fit) other.arrived))) in
             let arrived = since_new (happened Arrive m) a p f met.arrived in
             let posted = since_kept (happened Post x) a p t in
-            let le = at_most Post x p a.time rises.1 t in
+            let le = time_happened_at_most Post x p a.time rises.1 t in
             (omega (arith, at_once, arrived, posted, le), omega (arith, at_once, arrived, posted, le))
 
-        neither : hap Arrive m p ≡ false → hap Post x p ≡ false → ⊥
+        neither : has_happened Arrive m p ≡ false → has_happened Post x p ≡ false → ⊥
         neither f g =
-            ⊎_elim (λ t. both_ways _ f t) (λ s. ⊎_elim (λ t. both_ways _ g t) (λ t. let one = is_act_class Arrive m (plain_act a) s in let other = is_act_class Post x (plain_act a) t in cc) (hap_cases Post x a p met.posted)) (hap_cases Arrive m a p met.arrived)
+            ⊎_elim (λ t. both_ways _ f t) (λ s. ⊎_elim (λ t. both_ways _ g t) (λ t. let one = is_act_class Arrive m (plain_act a) s in let other = is_act_class Post x (plain_act a) t in cc) (has_happened_cases Post x a p met.posted)) (has_happened_cases Arrive m a p met.arrived)
 
-        go : (Met p m x → Paired p m x) → (hap Arrive m p ≡ true) ⊎ (hap Arrive m p ≡ false) → (hap Post x p ≡ true) ⊎ (hap Post x p ≡ false) → Paired (a ∷ p) m x
+        go : (Met p m x → Paired p m x) → (has_happened Arrive m p ≡ true) ⊎ (has_happened Arrive m p ≡ false) → (has_happened Post x p ≡ true) ⊎ (has_happened Post x p ≡ false) → Paired (a ∷ p) m x
         go rest (inl t) (inl s) =
             let before : Met p m x = record { arrived = t; posted = s; fit = met.fit } in older before (rest before)
         go rest (inl t) (inr g) = posts t g
@@ -117,8 +117,8 @@ module _ (plans : List Plan) (costs : CostModel) where
 
     -- in two parts of one history they are paired at the same time
     module _ (w : List Timed) where
-      same_at : (c : Class) (y : OpId) (p q : List Timed) → Below p w → Below q w → hap c y p ≡ true → hap c y q ≡ true → at c y p ≡ at c y q
-      same_at c y p q below_p below_q t s = sym (at_below c y p w below_p t) ∙ at_below c y q w below_q s
+      same_at : (c : Class) (y : OpId) (p q : List Timed) → Below p w → Below q w → has_happened c y p ≡ true → has_happened c y q ≡ true → time_happened c y p ≡ time_happened c y q
+      same_at c y p q below_p below_q t s = sym (time_happened_below c y p w below_p t) ∙ time_happened_below c y q w below_q s
 
       pub same_paired : (p q : List Timed) → Each p → Each q → Rises p → Rises q → Below p w → Below q w → (m x : OpId) → Met p m x → Met q m x → (paired_at plans costs p m ≡ paired_at plans costs q m) × (paired_at plans costs p x ≡ paired_at plans costs q x)
       same_paired p q each_p each_q rises_p rises_q below_p below_q m x met_p met_q =

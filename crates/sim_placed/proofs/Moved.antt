@@ -21,7 +21,7 @@ use Rattle.goal_graph.proofs.ForCallers.{allowed_fresh, allowed_may, allowed_fro
 use Rattle.sim_params.specs.Costs.{CostModel, flight, flight_one, latency, is_eager}
 use Rattle.sim_params.specs.Times.{since, greatest, mate, cpu, tx, rx, start, met_at, ready, paired_at, there_at, time_of, time, Possible}
 use Rattle.sim_placed.proofs.Tails.{on_rank, Below, Rises}
-use Rattle.sim_placed.proofs.Local.{hap, at, hap_alike, at_alike, at_below}
+use Rattle.sim_placed.proofs.Local.{has_happened, time_happened, has_happened_alike, time_happened_alike, time_happened_below}
 use Rattle.sim_placed.proofs.Mates.{Each, Met, mates, met_of_receive, met_of_send, same_paired}
 use Rattle.sim_placed.proofs.Holds.{happened_hold, same_cpu, same_rx, same_tx}
 
@@ -49,10 +49,10 @@ module _ (plans : List Plan) (costs : CostModel) (apart : IsApart plans) (w : Li
 
     ended_same : (d : Need) → has_ended plans eager (sibling d) (plain q) ≡ has_ended plans eager (sibling d) (plain p)
     ended_same d =
-        sym (hap_alike (last_class (eager (sibling d)) (kind_at plans (sibling d))) (sibling d) p q same)
+        sym (has_happened_alike (last_class (eager (sibling d)) (kind_at plans (sibling d))) (sibling d) p q same)
 
     started_same : (d : Need) → has_started plans (sibling d) (plain q) ≡ has_started plans (sibling d) (plain p)
-    started_same d = sym (hap_alike (first_class (kind_at plans (sibling d))) (sibling d) p q same)
+    started_same d = sym (has_happened_alike (first_class (kind_at plans (sibling d))) (sibling d) p q same)
 
     met_same : (d : Need) → is_met plans eager (plain q) d.when (sibling d) ≡ is_met plans eager (plain p) d.when (sibling d)
     met_same d = go d.when
@@ -73,9 +73,9 @@ module _ (plans : List Plan) (costs : CostModel) (apart : IsApart plans) (w : Li
             let c : Class = last_class (eager (sibling d)) (kind_at plans (sibling d)) in
             let f = sym (ended_same d) ∙ e in
             let hold = happened_hold plans costs apart w each_w q part_q.each part_q.below c (sibling d) e ∙ sym (happened_hold plans costs apart w each_w p part_p.each part_p.below c (sibling d) f) in
-            λ i. sym (at_alike c (sibling d) p q same f) i + hold i
+            λ i. sym (time_happened_alike c (sibling d) p q same f) i + hold i
         go AfterStart e =
-            sym (at_alike (first_class (kind_at plans (sibling d))) (sibling d) p q same (sym (started_same d) ∙ e))
+            sym (time_happened_alike (first_class (kind_at plans (sibling d))) (sibling d) p q same (sym (started_same d) ∙ e))
 
     ready_at : is_ready plans eager (plain q) x ≡ true → ready plans costs q x ≡ ready plans costs p x
     unfolding ready is_ready
@@ -96,20 +96,20 @@ module _ (plans : List Plan) (costs : CostModel) (apart : IsApart plans) (w : Li
 
     -- what an action of x needs of other ranks has happened in p if it has in q
     pub record Crosses (c : Class) : Type 0 where
-      pub posted : c ≡ Data → (y : OpId) → mate plans costs q x ≡ Some y → hap Post y p ≡ true
-      pub arrived : c ≡ Serve → (m : OpId) → mate plans costs q x ≡ Some m → hap Arrive m p ≡ true
-      pub handed : c ≡ Serve → (m : OpId) → mate plans costs q x ≡ Some m → hap Data m q ≡ true → hap Data m p ≡ true
+      pub posted : c ≡ Data → (y : OpId) → mate plans costs q x ≡ Some y → has_happened Post y p ≡ true
+      pub arrived : c ≡ Serve → (m : OpId) → mate plans costs q x ≡ Some m → has_happened Arrive m p ≡ true
+      pub handed : c ≡ Serve → (m : OpId) → mate plans costs q x ≡ Some m → has_happened Data m q ≡ true → has_happened Data m p ≡ true
 
     -- the partner of a send, and that of a receive
     met_data : Crosses Data → IsSend plans x → (y : OpId) → mate plans costs q x ≡ Some y → Met plans costs q x y × Met plans costs p x y
     met_data crosses s y e =
         let met = met_of_send plans costs apart q part_q.each x y s e in
-        (met, record { arrived = hap_alike Arrive x p q same ∙ met.arrived; posted = crosses.posted refl y e; fit = met.fit })
+        (met, record { arrived = has_happened_alike Arrive x p q same ∙ met.arrived; posted = crosses.posted refl y e; fit = met.fit })
 
     met_serve : Crosses Serve → IsReceive plans x → (m : OpId) → mate plans costs q x ≡ Some m → Met plans costs q m x × Met plans costs p m x
     met_serve crosses r m e =
         let met = met_of_receive plans costs apart q m x r e in
-        (met, record { arrived = crosses.arrived refl m e; posted = hap_alike Post x p q same ∙ met.posted; fit = met.fit })
+        (met, record { arrived = crosses.arrived refl m e; posted = has_happened_alike Post x p q same ∙ met.posted; fit = met.fit })
 
     -- that it may happen, and when
     abbrev Moves : Class → Option Kind → Type 0
@@ -127,9 +127,9 @@ module _ (plans : List Plan) (costs : CostModel) (apart : IsApart plans) (w : Li
     moves Post (Some (Send bytes to tag)) crosses e ok = absurd (true≢false (sym ok))
     moves Post None crosses e ok = absurd (true≢false (sym ok))
     moves Arrive (Some (Send bytes to tag)) crosses e ok =
-        let begun = hap_alike Begin x p q same ∙ ok in
+        let begun = has_happened_alike Begin x p q same ∙ ok in
         let first : first_class (kind_at plans x) ≡ Begin = ap first_class e in
-        let started : start plans costs q x ≡ start plans costs p x = ap (λ (c : Class). since (happened c x) q) first ∙ (sym (at_alike Begin x p q same begun) ∙ ap (λ (c : Class). since (happened c x) p) (sym first)) in
+        let started : start plans costs q x ≡ start plans costs p x = ap (λ (c : Class). since (happened c x) q) first ∙ (sym (time_happened_alike Begin x p q same begun) ∙ ap (λ (c : Class). since (happened c x) p) (sym first)) in
         (begun, λ i. started i + (if eager x then flight plans costs x else flight_one plans costs x))
     moves Arrive (Some (Calc nanos)) crosses e ok = absurd (true≢false (sym ok))
     moves Arrive (Some (Recv room from tag)) crosses e ok = absurd (true≢false (sym ok))
@@ -152,17 +152,17 @@ module _ (plans : List Plan) (costs : CostModel) (apart : IsApart plans) (w : Li
             let both = met_serve crosses (record { room = room; from = from; tag = tag; kind = e }) m f in
             let there : mate plans costs p x ≡ Some m = (mates plans costs apart p part_p.each m x both.1).1 in
             let at_same = (same_paired plans costs apart w p q part_p.each part_q.each part_p.rises part_q.rises part_p.below part_q.below m x both.1 both.0).1 in
-            (ap (is_served plans eager (plain p)) there ∙ message (or_cases (eager m) (hap Data m q) served), λ i. max ((ap (there_at plans costs q x) f ∙ (times at_same (eager m) refl served ∙ ap (there_at plans costs p x) (sym there))) i) (max (free_cpu i) (free_rx i)))
+            (ap (is_served plans eager (plain p)) there ∙ message (or_cases (eager m) (has_happened Data m q) served), λ i. max ((ap (there_at plans costs q x) f ∙ (times at_same (eager m) refl served ∙ ap (there_at plans costs p x) (sym there))) i) (max (free_cpu i) (free_rx i)))
           where
-            message : (eager m ≡ true) ⊎ (hap Data m q ≡ true) → (eager m || hap Data m p) ≡ true
-            message (inl t) = or_left (eager m) (hap Data m p) t
-            message (inr t) = or_right (eager m) (hap Data m p) (crosses.handed refl m f t)
+            message : (eager m ≡ true) ⊎ (has_happened Data m q ≡ true) → (eager m || has_happened Data m p) ≡ true
+            message (inl t) = or_left (eager m) (has_happened Data m p) t
+            message (inr t) = or_right (eager m) (has_happened Data m p) (crosses.handed refl m f t)
 
-            times : paired_at plans costs p x ≡ paired_at plans costs q x → (b : Bool) → eager m ≡ b → (b || hap Data m q) ≡ true → (if b then paired_at plans costs q x else since (happened Data m) q + flight plans costs m) ≡ (if b then paired_at plans costs p x else since (happened Data m) p + flight plans costs m)
+            times : paired_at plans costs p x ≡ paired_at plans costs q x → (b : Bool) → eager m ≡ b → (b || has_happened Data m q) ≡ true → (if b then paired_at plans costs q x else since (happened Data m) q + flight plans costs m) ≡ (if b then paired_at plans costs p x else since (happened Data m) p + flight plans costs m)
             times paired true t ok2 = sym paired
             times paired false t ok2 =
                 let handed = crosses.handed refl m f ok2 in
-                let when : at Data m q ≡ at Data m p = sym (at_below Data m q w part_q.below ok2) ∙ at_below Data m p w part_p.below handed in
+                let when : time_happened Data m q ≡ time_happened Data m p = sym (time_happened_below Data m q w part_q.below ok2) ∙ time_happened_below Data m p w part_p.below handed in
                 ap (λ (n : ℕ). n + flight plans costs m) when
     moves Serve (Some (Calc nanos)) crosses e ok = absurd (true≢false (sym ok))
     moves Serve (Some (Send bytes to tag)) crosses e ok = absurd (true≢false (sym ok))
@@ -175,6 +175,6 @@ module _ (plans : List Plan) (costs : CostModel) (apart : IsApart plans) (w : Li
         let fresh = allowed_fresh plans eager (plain q) c x possible.allowed in
         let both = moves c (kind_at plans x) crosses refl (allowed_may plans eager (plain q) c x possible.allowed) in
         record {
-          allowed = allowed_from plans eager (plain p) c x (hap_alike c x p q same ∙ fresh) both.0;
+          allowed = allowed_from plans eager (plain p) c x (has_happened_alike c x p q same ∙ fresh) both.0;
           time = possible.time ∙ both.1;
         }

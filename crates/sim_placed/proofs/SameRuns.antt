@@ -20,8 +20,8 @@ use Rattle.sim_params.specs.Times.{since, mate, start, end, paired_at, there_at,
 use Rattle.sim_params.specs.Run.{IsNext, IsRun, IsCompleteRun}
 use Rattle.sim_params.proofs.ForCallers.{since_kept, since_new}
 use Rattle.sim_placed.specs.PlacedRuns.{TakesTime, IsNextBy, IsRunBy, IsCompleteRunBy}
-use Rattle.sim_placed.proofs.Tails.{IsTail, whole, newer, empty_tail, tail_length, tail_of_tail, shorter_tail, on_rank, on_here, on_other, rank_tail, Below, tail_below, next_of_rank, Frontier, scan, below_both, Rises, rises_tail}
-use Rattle.sim_placed.proofs.Local.{hap, at, hap_nothing, hap_more, hap_cases, hap_below, hap_alike, at_below, at_alike, at_most, at_least}
+use Rattle.sim_placed.proofs.Tails.{IsTail, whole, newer, empty_tail, tail_length, tail_of_tail, shorter_tail, on_rank, on_here, on_other, rank_tail, Below, tail_below, next_of_rank, Frontier, find_frontier, below_both, Rises, rises_tail}
+use Rattle.sim_placed.proofs.Local.{has_happened, time_happened, has_happened_nothing, has_happened_more, has_happened_cases, has_happened_below, has_happened_alike, time_happened_below, time_happened_alike, time_happened_at_most, time_happened_at_least}
 use Rattle.sim_placed.proofs.Mates.{Each, each_interleaving, Met, met_below, mates, met_of_receive, met_of_send, paired_later}
 use Rattle.sim_placed.proofs.Holds.{hold_by}
 use Rattle.sim_placed.proofs.Moved.{IsPart, Crosses, moved}
@@ -53,12 +53,12 @@ not_data e = cc
 not_serve : Arrive ≡ Serve → ⊥
 not_serve e = cc
 
-at_nothing : (c : Class) (x : OpId) (h : List Timed) → hap c x h ≡ false → at c x h ≡ 0
+at_nothing : (c : Class) (x : OpId) (h : List Timed) → has_happened c x h ≡ false → time_happened c x h ≡ 0
 unfolding since
 at_nothing c x [] e = refl
 at_nothing c x (a ∷ h) e =
-    let before : hap c x h ≡ false = false_from_ne_true _ (λ t. both_ways _ e (hap_more c x a h t)) in
-    ap (λ (b : Bool). if b then at c x h else (if hap c x (a ∷ h) then a.time else 0)) before ∙ ap (λ (b : Bool). if b then a.time else 0) e
+    let before : has_happened c x h ≡ false = false_from_ne_true _ (λ t. both_ways _ e (has_happened_more c x a h t)) in
+    ap (λ (b : Bool). if b then time_happened c x h else (if has_happened c x (a ∷ h) then a.time else 0)) before ∙ ap (λ (b : Bool). if b then a.time else 0) e
 
 module _ (plans : List Plan) (costs : CostModel) (apart : IsApart plans) (takes : TakesTime plans costs) where
   abbrev eager : OpId → Bool
@@ -90,23 +90,23 @@ module _ (plans : List Plan) (costs : CostModel) (apart : IsApart plans) (takes 
       go true l = l.0
       go false l = l.1
 
-  start_of_send : (p : List Timed) (m : OpId) → IsSend plans m → start plans costs p m ≡ at Begin m p
+  start_of_send : (p : List Timed) (m : OpId) → IsSend plans m → start plans costs p m ≡ time_happened Begin m p
   start_of_send p m s = ap (λ (k : Option Kind). since (happened (first_class k) m) p) s.kind
 
-  time_of_arrive : (p : List Timed) (m : OpId) → IsSend plans m → time plans costs p Arrive m ≡ at Begin m p + way m
+  time_of_arrive : (p : List Timed) (m : OpId) → IsSend plans m → time plans costs p Arrive m ≡ time_happened Begin m p + way m
   unfolding time
   time_of_arrive p m s =
       ap (λ (k : Option Kind). time_of plans costs p Arrive m k) s.kind ∙ ap (λ (n : ℕ). n + way m) (start_of_send p m s)
 
   -- a send has arrived this long after its begin
-  arrive_time : (p : List Timed) → Each plans costs p → (m : OpId) → IsSend plans m → hap Arrive m p ≡ true → at Arrive m p ≡ at Begin m p + way m
-  arrive_time [] each m s e = absurd (hap_nothing Arrive m e)
-  arrive_time (a ∷ p) each m s e = go (λ t. arrive_time p each.0 m s t) (cases_Bool (hap Arrive m p))
+  arrive_time : (p : List Timed) → Each plans costs p → (m : OpId) → IsSend plans m → has_happened Arrive m p ≡ true → time_happened Arrive m p ≡ time_happened Begin m p + way m
+  arrive_time [] each m s e = absurd (has_happened_nothing Arrive m e)
+  arrive_time (a ∷ p) each m s e = go (λ t. arrive_time p each.0 m s t) (cases_Bool (has_happened Arrive m p))
     where
-      begun : hap Begin m p ≡ true → at Begin m (a ∷ p) ≡ at Begin m p
+      begun : has_happened Begin m p ≡ true → time_happened Begin m (a ∷ p) ≡ time_happened Begin m p
       begun t = since_kept (happened Begin m) a p t
 
-      new : hap Arrive m p ≡ false → (hap Arrive m p ≡ true) ⊎ (is_act Arrive m (plain_act a) ≡ true) → at Arrive m (a ∷ p) ≡ at Begin m (a ∷ p) + way m
+      new : has_happened Arrive m p ≡ false → (has_happened Arrive m p ≡ true) ⊎ (is_act Arrive m (plain_act a) ≡ true) → time_happened Arrive m (a ∷ p) ≡ time_happened Begin m (a ∷ p) + way m
       new f (inl t) = absurd (both_ways _ f t)
       new f (inr t) =
           let class = is_act_class Arrive m (plain_act a) t in
@@ -115,22 +115,22 @@ module _ (plans : List Plan) (costs : CostModel) (apart : IsApart plans) (takes 
           let when : a.time ≡ time plans costs p Arrive m = each.1.time ∙ λ i. time plans costs p (class i) (op i) in
           since_new (happened Arrive m) a p f e ∙ (when ∙ (time_of_arrive p m s ∙ ap (λ (n : ℕ). n + way m) (sym (begun (allowed_arrive plans eager (plain p) m ok).1))))
 
-      go : (hap Arrive m p ≡ true → at Arrive m p ≡ at Begin m p + way m) → (hap Arrive m p ≡ true) ⊎ (hap Arrive m p ≡ false) → at Arrive m (a ∷ p) ≡ at Begin m (a ∷ p) + way m
+      go : (has_happened Arrive m p ≡ true → time_happened Arrive m p ≡ time_happened Begin m p + way m) → (has_happened Arrive m p ≡ true) ⊎ (has_happened Arrive m p ≡ false) → time_happened Arrive m (a ∷ p) ≡ time_happened Begin m (a ∷ p) + way m
       go rest (inl t) =
           since_kept (happened Arrive m) a p t ∙ (rest t ∙ ap (λ (n : ℕ). n + way m) (sym (begun (arrived_begun plans eager (plain p) m (each_interleaving plans costs p each.0) t))))
-      go rest (inr f) = new f (hap_cases Arrive m a p e)
+      go rest (inr f) = new f (has_happened_cases Arrive m a p e)
 
   -- a send transfers its data no sooner than its request has arrived
-  data_arrived : (p : List Timed) → Each plans costs p → (m : OpId) → IsSend plans m → hap Data m p ≡ true → hap Arrive m p ≡ true
+  data_arrived : (p : List Timed) → Each plans costs p → (m : OpId) → IsSend plans m → has_happened Data m p ≡ true → has_happened Arrive m p ≡ true
   data_arrived p each m s e =
       let o = cases_some (mate plans costs p m) (data_paired plans eager (plain p) m (each_interleaving plans costs p each) e) in
       (met_of_send plans costs apart p each m o.0 s o.1).arrived
 
-  data_later : (p : List Timed) → Each plans costs p → Rises p → (m : OpId) → IsSend plans m → hap Data m p ≡ true → at Arrive m p ≤ at Data m p
-  data_later [] each rises m s e = absurd (hap_nothing Data m e)
-  data_later (a ∷ p) each rises m s e = go (λ t. data_later p each.0 rises.0 m s t) (cases_Bool (hap Data m p))
+  data_later : (p : List Timed) → Each plans costs p → Rises p → (m : OpId) → IsSend plans m → has_happened Data m p ≡ true → time_happened Arrive m p ≤ time_happened Data m p
+  data_later [] each rises m s e = absurd (has_happened_nothing Data m e)
+  data_later (a ∷ p) each rises m s e = go (λ t. data_later p each.0 rises.0 m s t) (cases_Bool (has_happened Data m p))
     where
-      new : hap Data m p ≡ false → (hap Data m p ≡ true) ⊎ (is_act Data m (plain_act a) ≡ true) → at Arrive m (a ∷ p) ≤ at Data m (a ∷ p)
+      new : has_happened Data m p ≡ false → (has_happened Data m p ≡ true) ⊎ (is_act Data m (plain_act a) ≡ true) → time_happened Arrive m (a ∷ p) ≤ time_happened Data m (a ∷ p)
       new f (inl t) = absurd (both_ways _ f t)
       new f (inr t) =
           let class = is_act_class Data m (plain_act a) t in
@@ -138,30 +138,30 @@ module _ (plans : List Plan) (costs : CostModel) (apart : IsApart plans) (takes 
           let ok : allowed plans eager (plain p) Data m ≡ true = subst (λ (y : OpId). allowed plans eager (plain p) Data y ≡ true) op (subst (λ (c : Class). allowed plans eager (plain p) c a.op ≡ true) class each.1.allowed) in
           let o = cases_some (mate plans costs p m) (allowed_data plans eager (plain p) m ok).2 in
           let arrived = (met_of_send plans costs apart p each.0 m o.0 s o.1).arrived in
-          let le = at_most Arrive m p a.time rises.1 arrived in
+          let le = time_happened_at_most Arrive m p a.time rises.1 arrived in
           let kept = since_kept (happened Arrive m) a p arrived in
           let here = since_new (happened Data m) a p f e in
           omega (arith, le, kept, here)
 
-      go : (hap Data m p ≡ true → at Arrive m p ≤ at Data m p) → (hap Data m p ≡ true) ⊎ (hap Data m p ≡ false) → at Arrive m (a ∷ p) ≤ at Data m (a ∷ p)
+      go : (has_happened Data m p ≡ true → time_happened Arrive m p ≤ time_happened Data m p) → (has_happened Data m p ≡ true) ⊎ (has_happened Data m p ≡ false) → time_happened Arrive m (a ∷ p) ≤ time_happened Data m (a ∷ p)
       go rest (inl t) =
           let le = rest t in
           let kept = since_kept (happened Data m) a p t in
           let arrived = since_kept (happened Arrive m) a p (data_arrived p each.0 m s t) in
           omega (arith, le, kept, arrived)
-      go rest (inr f) = new f (hap_cases Data m a p e)
+      go rest (inr f) = new f (has_happened_cases Data m a p e)
 
-  data_large : (p : List Timed) → Each plans costs p → (m : OpId) → hap Data m p ≡ true → eager m ≡ false
-  data_large [] each m e = absurd (hap_nothing Data m e)
-  data_large (a ∷ p) each m e = go (λ t. data_large p each.0 m t) (hap_cases Data m a p e)
+  data_large : (p : List Timed) → Each plans costs p → (m : OpId) → has_happened Data m p ≡ true → eager m ≡ false
+  data_large [] each m e = absurd (has_happened_nothing Data m e)
+  data_large (a ∷ p) each m e = go (λ t. data_large p each.0 m t) (has_happened_cases Data m a p e)
     where
-      go : (hap Data m p ≡ true → eager m ≡ false) → (hap Data m p ≡ true) ⊎ (is_act Data m (plain_act a) ≡ true) → eager m ≡ false
+      go : (has_happened Data m p ≡ true → eager m ≡ false) → (has_happened Data m p ≡ true) ⊎ (is_act Data m (plain_act a) ≡ true) → eager m ≡ false
       go rest (inl t) = rest t
       go rest (inr t) =
           (allowed_data plans eager (plain p) m (subst (λ (y : OpId). allowed plans eager (plain p) Data y ≡ true) (is_act_op Data m (plain_act a) t) (subst (λ (c : Class). allowed plans eager (plain p) c a.op ≡ true) (is_act_class Data m (plain_act a) t) each.1.allowed))).1
 
   -- bounds of when actions are possible
-  data_bound : (q : List Timed) → Each plans costs q → Rises q → (m y : OpId) → IsSend plans m → Met plans costs q m y → at Post y q + latency plans costs m ≤ time plans costs q Data m
+  data_bound : (q : List Timed) → Each plans costs q → Rises q → (m y : OpId) → IsSend plans m → Met plans costs q m y → time_happened Post y q + latency plans costs m ≤ time plans costs q Data m
   unfolding time
   data_bound q each rises m y s met =
       let paired = (paired_later plans costs apart q each rises m y met).0 in
@@ -181,17 +181,17 @@ module _ (plans : List Plan) (costs : CostModel) (apart : IsApart plans) (takes 
 
     -- what happens before n in the whole has happened in p
     abbrev Older : List Timed → ℕ → Type 0
-    Older p n = (c : Class) (y : OpId) → hap c y h ≡ true → at c y h < n → hap c y p ≡ true
+    Older p n = (c : Class) (y : OpId) → has_happened c y h ≡ true → time_happened c y h < n → has_happened c y p ≡ true
 
     -- an arrival that is not in p yet is possible there
-    arrival : (p q : List Timed) (n : ℕ) → Part p → Part q → Older p n → (x m : OpId) → IsSend plans m → fits plans x m ≡ true → (m.rank ≡ x.rank → ⊥) → hap Arrive m q ≡ true → at Arrive m q ≤ n → hap Arrive m p ≡ false → Possible plans costs p (record { time = at Arrive m q; class = Arrive; op = m })
+    arrival : (p q : List Timed) (n : ℕ) → Part p → Part q → Older p n → (x m : OpId) → IsSend plans m → fits plans x m ≡ true → (m.rank ≡ x.rank → ⊥) → has_happened Arrive m q ≡ true → time_happened Arrive m q ≤ n → has_happened Arrive m p ≡ false → Possible plans costs p (record { time = time_happened Arrive m q; class = Arrive; op = m })
     arrival p q n part_p part_q older x m s fit ne arrived le fresh =
         let begun = arrived_begun plans eager (plain q) m (each_interleaving plans costs q part_q.each) arrived in
         let when = arrive_time q part_q.each m s arrived in
         let some = way_some x m s fit ne in
-        let whole_at = at_below Begin m q h part_q.below begun in
-        let there = older Begin m (hap_below Begin m q h part_q.below begun) (omega (arith, whole_at, when, some, le)) in
-        let same : at Begin m p ≡ at Begin m q = sym (at_below Begin m p h part_p.below there) ∙ whole_at in
+        let whole_at = time_happened_below Begin m q h part_q.below begun in
+        let there = older Begin m (has_happened_below Begin m q h part_q.below begun) (omega (arith, whole_at, when, some, le)) in
+        let same : time_happened Begin m p ≡ time_happened Begin m q = sym (time_happened_below Begin m p h part_p.below there) ∙ whole_at in
         record {
           allowed = allowed_from plans eager (plain p) Arrive m fresh (ap (λ (k : Option Kind). may plans eager (plain p) Arrive m k) s.kind ∙ there);
           time = when ∙ (ap (λ (k : ℕ). k + way m) (sym same) ∙ sym (time_of_arrive p m s));
@@ -199,7 +199,7 @@ module _ (plans : List Plan) (costs : CostModel) (apart : IsApart plans) (takes 
 
     -- what an action needs of other ranks has happened in p, except an arrival at the same time
     crosses_by : (p q : List Timed) (n : ℕ) (part_p : Part p) (part_q : Part q) (x : OpId) (same : on_rank x.rank p ≡ on_rank x.rank q) (c : Class) (t : ℕ) → Older p n → t ≤ n → Possible plans costs q (record { time = t; class = c; op = x })
-        → ((m : OpId) → c ≡ Serve → IsSend plans m → fits plans x m ≡ true → (m.rank ≡ x.rank → ⊥) → hap Arrive m q ≡ true → at Arrive m q ≡ n → t ≡ n → hap Arrive m p ≡ false → ⊥)
+        → ((m : OpId) → c ≡ Serve → IsSend plans m → fits plans x m ≡ true → (m.rank ≡ x.rank → ⊥) → has_happened Arrive m q ≡ true → time_happened Arrive m q ≡ n → t ≡ n → has_happened Arrive m p ≡ false → ⊥)
         → Crosses plans costs apart h each_h p q part_p part_q x same c
     crosses_by p q n part_p part_q x same c t older le possible late =
         record { posted = posted; arrived = arrived; handed = handed }
@@ -211,16 +211,16 @@ module _ (plans : List Plan) (costs : CostModel) (apart : IsApart plans) (takes 
         when d e = possible.time ∙ ap (λ (b : Class). time plans costs q b x) e
 
         -- by the rank's own actions
-        own : (d : Class) (y : OpId) → y.rank ≡ x.rank → hap d y q ≡ true → hap d y p ≡ true
+        own : (d : Class) (y : OpId) → y.rank ≡ x.rank → has_happened d y q ≡ true → has_happened d y p ≡ true
         own d y e there =
-            hap_alike d y p q (subst (λ (r : ℕ). on_rank r p ≡ on_rank r q) (sym e) same) ∙ there
+            has_happened_alike d y p q (subst (λ (r : ℕ). on_rank r p ≡ on_rank r q) (sym e) same) ∙ there
 
-        sooner : (d : Class) (y : OpId) → hap d y q ≡ true → at d y q < n → hap d y p ≡ true
+        sooner : (d : Class) (y : OpId) → has_happened d y q ≡ true → time_happened d y q < n → has_happened d y p ≡ true
         sooner d y there less =
-            let is = at_below d y q h part_q.below there in
-            older d y (hap_below d y q h part_q.below there) (omega (arith, is, less))
+            let is = time_happened_below d y q h part_q.below there in
+            older d y (has_happened_below d y q h part_q.below there) (omega (arith, is, less))
 
-        posted : c ≡ Data → (y : OpId) → mate plans costs q x ≡ Some y → hap Post y p ≡ true
+        posted : c ≡ Data → (y : OpId) → mate plans costs q x ≡ Some y → has_happened Post y p ≡ true
         posted e y m =
             let s = (allowed_data plans eager (plain q) x (of_class Data e)).0 in
             let met = met_of_send plans costs apart q part_q.each x y s m in
@@ -229,31 +229,31 @@ module _ (plans : List Plan) (costs : CostModel) (apart : IsApart plans) (takes 
             ⊎_elim (λ f. own Post y f met.posted) (λ ne. let l = (lags y x s met.fit (λ f. ne (sym f))).2 in sooner Post y met.posted (omega (arith, bound, is, l, le))) (cases_eq y.rank x.rank)
 
         -- the message of a receive that is served
-        ready_of : c ≡ Serve → (m : OpId) → mate plans costs q x ≡ Some m → IsReceive plans x × ((eager m ≡ true) ⊎ (hap Data m q ≡ true))
+        ready_of : c ≡ Serve → (m : OpId) → mate plans costs q x ≡ Some m → IsReceive plans x × ((eager m ≡ true) ⊎ (has_happened Data m q ≡ true))
         ready_of e m is =
             let ok = allowed_serve plans eager (plain q) x (of_class Serve e) in
-            (ok.0, or_cases (eager m) (hap Data m q) (sym (ap (is_served plans eager (plain q)) is) ∙ ok.1))
+            (ok.0, or_cases (eager m) (has_happened Data m q) (sym (ap (is_served plans eager (plain q)) is) ∙ ok.1))
 
         -- it is served no sooner than it has arrived
-        arrive_bound : (m : OpId) → IsSend plans m → IsReceive plans x → Met plans costs q m x → mate plans costs q x ≡ Some m → (eager m ≡ true) ⊎ (hap Data m q ≡ true) → at Arrive m q ≤ time plans costs q Serve x
+        arrive_bound : (m : OpId) → IsSend plans m → IsReceive plans x → Met plans costs q m x → mate plans costs q x ≡ Some m → (eager m ≡ true) ⊎ (has_happened Data m q ≡ true) → time_happened Arrive m q ≤ time plans costs q Serve x
         arrive_bound m s r met e told = go (eager m) refl (serve_bound q part_q.each part_q.rises x m r met e)
           where
-            go : (b : Bool) → eager m ≡ b → (if b then paired_at plans costs q x else since (happened Data m) q + flight plans costs m) ≤ time plans costs q Serve x → at Arrive m q ≤ time plans costs q Serve x
+            go : (b : Bool) → eager m ≡ b → (if b then paired_at plans costs q x else since (happened Data m) q + flight plans costs m) ≤ time plans costs q Serve x → time_happened Arrive m q ≤ time plans costs q Serve x
             go true f bound =
                 let paired = (paired_later plans costs apart q part_q.each part_q.rises m x met).1 in omega (arith, paired, bound)
             go false f bound =
                 ⊎_elim (λ u. absurd (both_ways _ f u)) (λ there. let l = data_later q part_q.each part_q.rises m s there in omega (arith, l, bound)) told
 
-        arrived : c ≡ Serve → (m : OpId) → mate plans costs q x ≡ Some m → hap Arrive m p ≡ true
+        arrived : c ≡ Serve → (m : OpId) → mate plans costs q x ≡ Some m → has_happened Arrive m p ≡ true
         arrived e m is =
             let told = ready_of e m is in
             let met = met_of_receive plans costs apart q m x told.0 is in
             let s = fits_send plans x m met.fit in
             let bound = arrive_bound m s told.0 met is told.1 in
             let now = when Serve e in
-            ⊎_elim (λ f. own Arrive m f met.arrived) (λ ne. ⊎_elim (λ less. sooner Arrive m met.arrived less) (λ over. ⊎_elim (λ there. there) (λ none. absurd (late m e s met.fit ne met.arrived (omega (arith, bound, now, le, over)) (omega (arith, bound, now, le, over)) none)) (cases_Bool (hap Arrive m p))) (cases_lt (at Arrive m q) n)) (cases_eq m.rank x.rank)
+            ⊎_elim (λ f. own Arrive m f met.arrived) (λ ne. ⊎_elim (λ less. sooner Arrive m met.arrived less) (λ over. ⊎_elim (λ there. there) (λ none. absurd (late m e s met.fit ne met.arrived (omega (arith, bound, now, le, over)) (omega (arith, bound, now, le, over)) none)) (cases_Bool (has_happened Arrive m p))) (cases_lt (time_happened Arrive m q) n)) (cases_eq m.rank x.rank)
 
-        handed : c ≡ Serve → (m : OpId) → mate plans costs q x ≡ Some m → hap Data m q ≡ true → hap Data m p ≡ true
+        handed : c ≡ Serve → (m : OpId) → mate plans costs q x ≡ Some m → has_happened Data m q ≡ true → has_happened Data m p ≡ true
         handed e m is there =
             let told = ready_of e m is in
             let met = met_of_receive plans costs apart q m x told.0 is in
@@ -285,7 +285,7 @@ module _ (plans : List Plan) (costs : CostModel) (apart : IsApart plans) (takes 
       -- what is before the next action of a part
       older_tail : (a : Timed) (p : List Timed) → IsTail (a ∷ p) h → Older p a.time
       older_tail a p t c y there less =
-          ⊎_elim (λ e. e) (λ f. let le = at_least c y a p h t rises_h there f in absurd (omega (arith, le, less))) (cases_Bool (hap c y p))
+          ⊎_elim (λ e. e) (λ f. let le = time_happened_at_least c y a p h t rises_h there f in absurd (omega (arith, le, less))) (cases_Bool (has_happened c y p))
 
       next_tail : (a : Timed) (p : List Timed) → IsTail (a ∷ p) h → IsNext plans costs p a
       next_tail a p t = (run_tail (a ∷ p) h t run.run).1
@@ -293,9 +293,9 @@ module _ (plans : List Plan) (costs : CostModel) (apart : IsApart plans) (takes 
       -- in a history above q, all has happened that an action possible after q needs of other ranks
       crosses_up : (p q : List Timed) (part_p : Part p) (part_q : Part q) → Below q p → (x : OpId) (same : on_rank x.rank p ≡ on_rank x.rank q) (c : Class) (t : ℕ) → Possible plans costs q (record { time = t; class = c; op = x }) → Crosses plans costs apart h each_h p q part_p part_q x same c
       crosses_up p q part_p part_q below x same c t possible = record {
-        posted = λ e y m. let s = (allowed_data plans eager (plain q) x (subst (λ (b : Class). allowed plans eager (plain q) b x ≡ true) e possible.allowed)).0 in hap_below Post y q p below (met_of_send plans costs apart q part_q.each x y s m).posted;
-        arrived = λ e m is. let r = (allowed_serve plans eager (plain q) x (subst (λ (b : Class). allowed plans eager (plain q) b x ≡ true) e possible.allowed)).0 in hap_below Arrive m q p below (met_of_receive plans costs apart q m x r is).arrived;
-        handed = λ e m is there. hap_below Data m q p below there;
+        posted = λ e y m. let s = (allowed_data plans eager (plain q) x (subst (λ (b : Class). allowed plans eager (plain q) b x ≡ true) e possible.allowed)).0 in has_happened_below Post y q p below (met_of_send plans costs apart q part_q.each x y s m).posted;
+        arrived = λ e m is. let r = (allowed_serve plans eager (plain q) x (subst (λ (b : Class). allowed plans eager (plain q) b x ≡ true) e possible.allowed)).0 in has_happened_below Arrive m q p below (met_of_receive plans costs apart q m x r is).arrived;
+        handed = λ e m is there. has_happened_below Data m q p below there;
       }
 
       moved_up : (p q : List Timed) → Part p → Part q → Below q p → (a : Timed) → on_rank a.op.rank p ≡ on_rank a.op.rank q → Possible plans costs q a → Possible plans costs p a
@@ -330,7 +330,7 @@ module _ (plans : List Plan) (costs : CostModel) (apart : IsApart plans) (takes 
           part_a = tail_part p (tail_of_tail p (a ∷ p) h (newer whole) tail_a)
 
           older_q : Older q f.time
-          older_q c y there less = hap_below c y u q below_f (older_tail f u tail_f c y there less)
+          older_q c y there less = has_happened_below c y u q below_f (older_tail f u tail_f c y there less)
 
           not_after_f : b.time ≤ f.time
           not_after_f =
@@ -373,9 +373,9 @@ module _ (plans : List Plan) (costs : CostModel) (apart : IsApart plans) (takes 
           serve_place : (c : Class) → c ≡ Serve → place c ≡ 1
           serve_place c e = ap place e
 
-          late_in_p : (m : OpId) → b.class ≡ Serve → IsSend plans m → fits plans b.op m ≡ true → (m.rank ≡ b.op.rank → ⊥) → hap Arrive m q ≡ true → at Arrive m q ≡ a.time → b.time ≡ a.time → hap Arrive m p ≡ false → ⊥
+          late_in_p : (m : OpId) → b.class ≡ Serve → IsSend plans m → fits plans b.op m ≡ true → (m.rank ≡ b.op.rank → ⊥) → has_happened Arrive m q ≡ true → time_happened Arrive m q ≡ a.time → b.time ≡ a.time → has_happened Arrive m p ≡ false → ⊥
           late_in_p m is s fit ne there when same_time fresh =
-              let e : Timed = record { time = at Arrive m q; class = Arrive; op = m } in
+              let e : Timed = record { time = time_happened Arrive m q; class = Arrive; op = m } in
               let possible = arrival p q a.time part_a part_q (older_tail a p tail_a) b.op m s fit ne there (omega (arith, when)) fresh in
               let low : place a.class ≤ 0 = ⊎_elim (λ less. absurd (next_a.least e possible (inr (when, inl less)))) (λ le. le) (cases_lt 0 (place a.class)) in
               let class_a = place_same a.class Arrive (omega (arith, low)) in
@@ -397,9 +397,9 @@ module _ (plans : List Plan) (costs : CostModel) (apart : IsApart plans) (takes 
           place_a =
               ⊎_elim (λ less. absurd (next_a.least b possible_b (inr (sym same_time, inl less)))) (λ le. le) (cases_lt (place b.class) (place a.class))
 
-          late_in_q : (m : OpId) → a.class ≡ Serve → IsSend plans m → fits plans a.op m ≡ true → (m.rank ≡ a.op.rank → ⊥) → hap Arrive m p ≡ true → at Arrive m p ≡ f.time → a.time ≡ f.time → hap Arrive m q ≡ false → ⊥
+          late_in_q : (m : OpId) → a.class ≡ Serve → IsSend plans m → fits plans a.op m ≡ true → (m.rank ≡ a.op.rank → ⊥) → has_happened Arrive m p ≡ true → time_happened Arrive m p ≡ f.time → a.time ≡ f.time → has_happened Arrive m q ≡ false → ⊥
           late_in_q m is s fit ne there when at_once fresh =
-              let e : Timed = record { time = at Arrive m p; class = Arrive; op = m } in
+              let e : Timed = record { time = time_happened Arrive m p; class = Arrive; op = m } in
               let possible = arrival q p f.time part_q part_a older_q a.op m s fit ne there (omega (arith, when)) fresh in
               let least = place_least e possible (when ∙ (sym at_once ∙ same_time)) in
               let one = serve_place a.class is in
@@ -433,7 +433,7 @@ module _ (plans : List Plan) (costs : CostModel) (apart : IsApart plans) (takes 
                   subst (λ (l : List Timed). IsTail l (on_rank b.op.rank h)) (on_here b.op.rank a p rank_a ∙ ((λ i. same_action i ∷ same_a i) ∙ sym (on_here b.op.rank b q refl))) (rank_tail b.op.rank (a ∷ p) h tail_a)
 
         step : Below (b ∷ q) h
-        step = ⊎_elim over found (scan h q part_q.below h whole)
+        step = ⊎_elim over found (find_frontier h q part_q.below h whole)
           where
             over : Below h q → Below (b ∷ q) h
             over below = absurd (none_gone (below_both h q below part_q.below b.op.rank))
@@ -461,7 +461,7 @@ module _ (plans : List Plan) (costs : CostModel) (apart : IsApart plans) (takes 
           part = run_part to k rises c.run
 
           under : Below h k
-          under = ⊎_elim (λ below. below) (λ n. absurd (left n)) (scan h k part.below h whole)
+          under = ⊎_elim (λ below. below) (λ n. absurd (left n)) (find_frontier h k part.below h whole)
             where
               left : Frontier h k → ⊥
               left n =
@@ -471,9 +471,9 @@ module _ (plans : List Plan) (costs : CostModel) (apart : IsApart plans) (takes 
         alike : (r : ℕ) → on_rank r h ≡ on_rank r k
         alike = same_actions to k rises c
 
-        since_same : (d : Class) (x : OpId) → at d x h ≡ at d x k
+        since_same : (d : Class) (x : OpId) → time_happened d x h ≡ time_happened d x k
         since_same d x =
-            ⊎_elim (λ t. at_alike d x h k (alike x.rank) t) (λ f. at_nothing d x h f ∙ sym (at_nothing d x k (sym (hap_alike d x h k (alike x.rank)) ∙ f))) (cases_Bool (hap d x h))
+            ⊎_elim (λ t. time_happened_alike d x h k (alike x.rank) t) (λ f. at_nothing d x h f ∙ sym (at_nothing d x k (sym (has_happened_alike d x h k (alike x.rank)) ∙ f))) (cases_Bool (has_happened d x h))
 
         under : Below h k
         under r = subst (λ (l : List Timed). IsTail (on_rank r h) l) (alike r) whole

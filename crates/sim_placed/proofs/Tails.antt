@@ -82,10 +82,10 @@ next_of_rank r s (b ∷ h) t = ⊎_elim (here (next_of_rank r s h)) (there (next
 abbrev pub Frontier : List Timed → List Timed → Type 0
 Frontier h q = (f : Timed) × (p : List Timed) × IsTail (f ∷ p) h × Below p q × (on_rank f.op.rank p ≡ on_rank f.op.rank q)
 
-pub scan : (h q : List Timed) → Below q h → (u : List Timed) → IsTail u h → Below u q ⊎ Frontier h q
-scan h q below [] t = inl (λ r. empty_tail (on_rank r q))
-scan h q below (a ∷ u) t =
-    ⊎_elim (λ under. step under) (λ found. inr found) (scan h q below u (tail_of_tail u (a ∷ u) h (newer whole) t))
+pub find_frontier : (h q : List Timed) → Below q h → (u : List Timed) → IsTail u h → Below u q ⊎ Frontier h q
+find_frontier h q below [] t = inl (λ r. empty_tail (on_rank r q))
+find_frontier h q below (a ∷ u) t =
+    ⊎_elim (λ under. step under) (λ found. inr found) (find_frontier h q below u (tail_of_tail u (a ∷ u) h (newer whole) t))
   where
     r : ℕ
     r = a.op.rank
