@@ -65,8 +65,8 @@ contains_take n xs x (k, inside, e) =
 
 -- the targets of a list of stuck operations
 module _ (list : List Stuck) (order : IsInOrder list) (listed : NamesListed list) where
-  target : (i : ℕ) → i < length list → (j : ℕ) × IsTarget list i j
-  target i inside = go (named (get_or list i none_stuck).why) refl
+  target_exists : (i : ℕ) → i < length list → (j : ℕ) × IsTarget list i j
+  target_exists i inside = go (named (get_or list i none_stuck).why) refl
     where
       go : (o : Option OpId) → named (get_or list i none_stuck).why ≡ o → (j : ℕ) × IsTarget list i j
       go (Some y) e =
@@ -74,15 +74,15 @@ module _ (list : List Stuck) (order : IsInOrder list) (listed : NamesListed list
           (p.0, target_named list i p.0 none_stuck y order inside p.1 e p.2)
       go None e = (i, target_alone list i none_stuck order inside e)
 
-  pub follower : (t : ℕ → ℕ) × Tracks list t
-  follower = (λ i. go i (cases_lt i (length list)), λ i inside. on i inside (cases_lt i (length list)))
+  pub targets_exist : (t : ℕ → ℕ) × Tracks list t
+  targets_exist = (λ i. go i (cases_lt i (length list)), λ i inside. on i inside (cases_lt i (length list)))
     where
       go : (i : ℕ) → (i < length list) ⊎ (length list ≤ i) → ℕ
-      go i (inl inside) = (target i inside).0
+      go i (inl inside) = (target_exists i inside).0
       go i (inr past) = 0
 
       on : (i : ℕ) → i < length list → (c : (i < length list) ⊎ (length list ≤ i)) → IsTarget list i (go i c)
-      on i inside (inl h) = (target i h).1
+      on i inside (inl h) = (target_exists i h).1
       on i inside (inr past) = absurd (omega (arith, inside, past))
 
 module _ (list : List Stuck) where
@@ -171,7 +171,7 @@ module _ (list : List Stuck) where
   head_listed x c head = map_contains (knot_at list) (filter (is_head list) (stuck_ops list)) x (filter_contains (is_head list) (stuck_ops list) x c head)
 
 pub one_knot_each : OneKnotEach
-one_knot_each list x order listed c = go (follower list order listed) (place_of list x c)
+one_knot_each list x order listed c = go (targets_exist list order listed) (place_of list x c)
   where
     go : (t : ℕ → ℕ) × Tracks list t → ((i : ℕ) × (i < length list) × (op_at list i ≡ x)) → (k : Knot) × HasKnot list x k
     go (t, tracks) (i, inside, at) =
@@ -200,9 +200,9 @@ one_knot_each list x order listed c = go (follower list order listed) (place_of 
             let there : IsHeadOf t i p.0 = head_from t i p.0 p.0 (leads_on t i b p.0 (record { steps = leads.steps; there = refl }) (leads_back t p.0 b g.back l)) g in
             sym is ∙ ap (knot_at list) (sym p.2 ∙ ap (op_at list) (one_head t i p.0 h there a))
 
-none_from : (o : Option OpId) → is_none o ≡ true → o ≡ None
-none_from None e = refl
-none_from (Some x) e = absurd (cc)
+is_none_means : (o : Option OpId) → is_none o ≡ true → o ≡ None
+is_none_means None e = refl
+is_none_means (Some x) e = absurd (cc)
 
 -- an operation that is alone is the only member of its knot
 alone_members : (list : List Stuck) (x : OpId) → next list x ≡ None → members list x ≡ x ∷ []
@@ -221,7 +221,7 @@ lone_are_alone list k c lone = go (knot_head list k c)
   where
     go : ((x : OpId) × Contains (stuck_ops list) x × (is_head list x ≡ true) × (knot_at list x ≡ k)) → (x : OpId) × (k.members ≡ x ∷ []) × (next list x ≡ None)
     go (x, cx, head, is) =
-        let none : next list x ≡ None = none_from (next list x) (ap (λ (j : Knot). j.lone) is ∙ lone) in
+        let none : next list x ≡ None = is_none_means (next list x) (ap (λ (j : Knot). j.lone) is ∙ lone) in
         (x, ap (λ (j : Knot). j.members) (sym is) ∙ alone_members list x none, none)
 
 -- following an operation that is alone stays there
@@ -244,7 +244,7 @@ some_op x = Some x
 
 -- no member of a ring is alone
 member_waits : (list : List Stuck) (x y : OpId) → IsInOrder list → NamesListed list → Contains (stuck_ops list) x → is_head list x ≡ true → is_none (next list x) ≡ false → Contains (members list x) y → next list y ≡ Some (step list y)
-member_waits list x y order listed cx head ring c = go (next list y) refl (follower list order listed) (place_of list x cx) (member_follows list x y c)
+member_waits list x y order listed cx head ring c = go (next list y) refl (targets_exist list order listed) (place_of list x cx) (member_follows list x y c)
   where
     clash : next list y ≡ None → (t : ℕ → ℕ) → Tracks list t → (i : ℕ) → i < length list → op_at list i ≡ x → (k : ℕ) → follow list k x ≡ y → ⊥
     clash none t tracks i inside at k e =
@@ -271,7 +271,7 @@ rings_are_closed list k order listed c ring = go (knot_head list k c)
         subst P is (map_alike (next list) (λ (y : OpId). Some (step list y)) m (λ y cy. member_waits list x y order listed cx head (ap (λ (j : Knot). j.lone) is ∙ ring) cy) ∙ sym (map_twice Some (step list) m) ∙ ap (map Some) (ring_steps list x head))
 
 pub none_left_out : NoneLeftOut
-none_left_out list x n order listed c back = go (follower list order listed) (place_of list x c)
+none_left_out list x n order listed c back = go (targets_exist list order listed) (place_of list x c)
   where
     go : (t : ℕ → ℕ) × Tracks list t → ((i : ℕ) × (i < length list) × (op_at list i ≡ x)) → (k : Knot) × Contains (knots list) k × Contains k.members x
     go (t, tracks) (i, inside, at) =
@@ -299,7 +299,7 @@ one_head_each list order t tracks j inside = go (has_head t (length list) (close
 
 pub behind_add_up : BehindAddUp
 unfolding knots behind
-behind_add_up list order listed = go (follower list order listed)
+behind_add_up list order listed = go (targets_exist list order listed)
   where
     go : (t : ℕ → ℕ) × Tracks list t → sum_by (λ (k : Knot). k.behind) (knots list) ≡ length list
     go (t, tracks) =

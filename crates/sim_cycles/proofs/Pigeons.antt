@@ -13,32 +13,32 @@ find_value f v (suc m) = go (find_value f v m) (cases_eq (f m) v)
     go (inr none) (inr other) = inr (λ i h e. ⊎_elim (λ below. none i below e) (λ above. let same : i ≡ m = omega arith in other (sym (sym e ∙ (λ j. f (same j))))) (cases_lt i m))
 
 -- the numbers without v, without a gap
-squeeze : ℕ → ℕ → ℕ
-squeeze v x = cond (ltb v x) (x - 1) x
+close_gap : ℕ → ℕ → ℕ
+close_gap v x = cond (ltb v x) (x - 1) x
 
-squeeze_above : (v x : ℕ) → v < x → squeeze v x ≡ x - 1
-unfolding squeeze
-squeeze_above v x h = cond-true (ltb v x) (x - 1) x (lt-ltb v x h)
+close_gap_above : (v x : ℕ) → v < x → close_gap v x ≡ x - 1
+unfolding close_gap
+close_gap_above v x h = cond-true (ltb v x) (x - 1) x (lt-ltb v x h)
 
-squeeze_below : (v x : ℕ) → x ≤ v → squeeze v x ≡ x
-unfolding squeeze
-squeeze_below v x h = cond-false (ltb v x) (x - 1) x (le-ltb v x h)
+close_gap_below : (v x : ℕ) → x ≤ v → close_gap v x ≡ x
+unfolding close_gap
+close_gap_below v x h = cond-false (ltb v x) (x - 1) x (le-ltb v x h)
 
-squeeze_fits : (n v x : ℕ) → v < suc n → x < suc n → (x ≡ v → ⊥) → squeeze v x < n
-squeeze_fits n v x hv hx other = go (cases_lt v x)
+close_gap_fits : (n v x : ℕ) → v < suc n → x < suc n → (x ≡ v → ⊥) → close_gap v x < n
+close_gap_fits n v x hv hx other = go (cases_lt v x)
   where
-    go : (v < x) ⊎ (x ≤ v) → squeeze v x < n
-    go (inl above) = omega (arith, squeeze_above v x above)
-    go (inr below) = omega (arith, squeeze_below v x below, other)
+    go : (v < x) ⊎ (x ≤ v) → close_gap v x < n
+    go (inl above) = omega (arith, close_gap_above v x above)
+    go (inr below) = omega (arith, close_gap_below v x below, other)
 
-squeeze_same : (v x y : ℕ) → (x ≡ v → ⊥) → (y ≡ v → ⊥) → squeeze v x ≡ squeeze v y → x ≡ y
-squeeze_same v x y nx ny e = go (cases_lt v x) (cases_lt v y)
+close_gap_injective : (v x y : ℕ) → (x ≡ v → ⊥) → (y ≡ v → ⊥) → close_gap v x ≡ close_gap v y → x ≡ y
+close_gap_injective v x y nx ny e = go (cases_lt v x) (cases_lt v y)
   where
     go : (v < x) ⊎ (x ≤ v) → (v < y) ⊎ (y ≤ v) → x ≡ y
-    go (inl a) (inl b) = omega (arith, squeeze_above v x a, squeeze_above v y b)
-    go (inl a) (inr b) = omega (arith, squeeze_above v x a, squeeze_below v y b, ny)
-    go (inr a) (inl b) = omega (arith, squeeze_below v x a, squeeze_above v y b, nx)
-    go (inr a) (inr b) = omega (arith, squeeze_below v x a, squeeze_below v y b)
+    go (inl a) (inl b) = omega (arith, close_gap_above v x a, close_gap_above v y b)
+    go (inl a) (inr b) = omega (arith, close_gap_above v x a, close_gap_below v y b, ny)
+    go (inr a) (inl b) = omega (arith, close_gap_below v x a, close_gap_above v y b, nx)
+    go (inr a) (inr b) = omega (arith, close_gap_below v x a, close_gap_below v y b)
 
 -- f is equal at two of the numbers up to n
 pub record Collides (f : ℕ → ℕ) (n : ℕ) : Type 0 where
@@ -48,18 +48,18 @@ pub record Collides (f : ℕ → ℕ) (n : ℕ) : Type 0 where
   pub within : second ≤ n
   pub same : f first ≡ f second
 
-pub collides : (n : ℕ) (f : ℕ → ℕ) → ((i : ℕ) → i ≤ n → f i < n) → Collides f n
-collides zero f fits = absurd (omega (arith, fits 0 (omega arith)))
-collides (suc n) f fits = go (find_value f (f (suc n)) (suc n)) (collides n (λ i. squeeze (f (suc n)) (f i)))
+pub two_collide : (n : ℕ) (f : ℕ → ℕ) → ((i : ℕ) → i ≤ n → f i < n) → Collides f n
+two_collide zero f fits = absurd (omega (arith, fits 0 (omega arith)))
+two_collide (suc n) f fits = go (find_value f (f (suc n)) (suc n)) (two_collide n (λ i. close_gap (f (suc n)) (f i)))
   where
-    go : ((i : ℕ) × (i < suc n) × (f i ≡ f (suc n))) ⊎ ((i : ℕ) → i < suc n → f i ≡ f (suc n) → ⊥) → (((i : ℕ) → i ≤ n → squeeze (f (suc n)) (f i) < n) → Collides (λ i. squeeze (f (suc n)) (f i)) n) → Collides f (suc n)
+    go : ((i : ℕ) × (i < suc n) × (f i ≡ f (suc n))) ⊎ ((i : ℕ) → i < suc n → f i ≡ f (suc n) → ⊥) → (((i : ℕ) → i ≤ n → close_gap (f (suc n)) (f i) < n) → Collides (λ i. close_gap (f (suc n)) (f i)) n) → Collides f (suc n)
     go (inl (i, h, e)) rest = record { first = i; second = suc n; in_order = h; within = omega arith; same = e }
     go (inr other) rest =
-        let r = rest (λ i h. squeeze_fits n (f (suc n)) (f i) (fits (suc n) (omega arith)) (fits i (omega arith)) (other i (omega arith))) in
+        let r = rest (λ i h. close_gap_fits n (f (suc n)) (f i) (fits (suc n) (omega arith)) (fits i (omega arith)) (other i (omega arith))) in
         record {
           first = r.first;
           second = r.second;
           in_order = r.in_order;
           within = omega (arith, r.within);
-          same = squeeze_same (f (suc n)) (f r.first) (f r.second) (other r.first (omega (arith, r.in_order, r.within))) (other r.second (omega (arith, r.within))) r.same;
+          same = close_gap_injective (f (suc n)) (f r.first) (f r.second) (other r.first (omega (arith, r.in_order, r.within))) (other r.second (omega (arith, r.within))) r.same;
         }

@@ -48,8 +48,8 @@ before_on x y z (inl p) (inr q) = inl (omega (arith, p, q.0))
 before_on x y z (inr p) (inl q) = inl (omega (arith, p.0, q))
 before_on x y z (inr p) (inr q) = inr (p.0 ∙ q.0, omega (arith, p.1, q.1))
 
-pub parted : (list : List Stuck) (x : OpId) → IsInOrder list → IsPartitionedBy (is_earlier x) list
-parted list x order i j d le inside e = go (cases_lt i j)
+pub partitioned_by_earlier : (list : List Stuck) (x : OpId) → IsInOrder list → IsPartitionedBy (is_earlier x) list
+partitioned_by_earlier list x order i j d le inside e = go (cases_lt i j)
   where
     at : (k : ℕ) → k < length list → op_at list k ≡ (get_or list k d).op
     at k h = op_read list k d h
@@ -58,8 +58,8 @@ parted list x order i j d le inside e = go (cases_lt i j)
     go (inl less) = earlier_true x (get_or list i d) (before_on _ (get_or list j d).op _ (let P : OpId → Type 0 = λ y. IsBefore y (get_or list j d).op in subst P (at i (omega (arith, less, inside))) (let Q : OpId → Type 0 = λ y. IsBefore (op_at list i) y in subst Q (at j inside) (before_at list order i j less inside))) (earlier_means x (get_or list j d) e))
     go (inr more) = let same : j ≡ i = omega (arith, more, le) in ap (λ k. is_earlier x (get_or list k d)) (sym same) ∙ e
 
-pub there : (list : List Stuck) (x : OpId) (r : ℕ) → IsInOrder list → Contains (stuck_ops list) x → IsPartitionPoint (λ s. is_earlier x s ≡ true) (λ s. is_earlier x s ≡ false) list r → (r < length list) × (op_at list r ≡ x)
-there list x r order listed point = go (place_of list x listed)
+pub partition_point_is_place : (list : List Stuck) (x : OpId) (r : ℕ) → IsInOrder list → Contains (stuck_ops list) x → IsPartitionPoint (λ s. is_earlier x s ≡ true) (λ s. is_earlier x s ≡ false) list r → (r < length list) × (op_at list r ≡ x)
+partition_point_is_place list x r order listed point = go (place_of list x listed)
   where
     go : ((k : ℕ) × (k < length list) × (op_at list k ≡ x)) → (r < length list) × (op_at list r ≡ x)
     go (k, inside, e) = on (cases_order r k)

@@ -31,15 +31,15 @@ is_before-true x y (inr r) = or_right _ _ (and_from _ _ (eq-eqb x.rank y.rank r.
 pub before_from_test : (x y : OpId) → is_before x y ≡ true → IsBefore x y
 before_from_test x y e = ⊎_elim (λ l. inl (ltb-true x.rank y.rank l)) (λ r. let p = and_parts _ _ r in inr (eqb-true x.rank y.rank p.0, ltb-true x.op y.op p.1)) (or_cases _ _ e)
 
-not_itself : (x : OpId) → IsBefore x x → ⊥
-not_itself x (inl l) = omega (arith, l)
-not_itself x (inr r) = omega (arith, r.1)
+not_before_itself : (x : OpId) → IsBefore x x → ⊥
+not_before_itself x (inl l) = omega (arith, l)
+not_before_itself x (inr r) = omega (arith, r.1)
 
-not_both : (x y : OpId) → IsBefore x y → IsBefore y x → ⊥
-not_both x y (inl a) (inl b) = omega (arith, a, b)
-not_both x y (inl a) (inr b) = omega (arith, a, b.0)
-not_both x y (inr a) (inl b) = omega (arith, a.0, b)
-not_both x y (inr a) (inr b) = omega (arith, a.1, b.1)
+not_before_each_other : (x y : OpId) → IsBefore x y → IsBefore y x → ⊥
+not_before_each_other x y (inl a) (inl b) = omega (arith, a, b)
+not_before_each_other x y (inl a) (inr b) = omega (arith, a, b.0)
+not_before_each_other x y (inr a) (inl b) = omega (arith, a.0, b)
+not_before_each_other x y (inr a) (inr b) = omega (arith, a.1, b.1)
 
 AllPairs-tail : {X : Type 0} (R : X → X → Type 0) (x : X) (xs : List X) → AllPairs R (x ∷ xs) → AllPairs R xs
 AllPairs-tail R x xs h = λ i j d l b. h (suc i) (suc j) d (omega (arith, l)) (omega (arith, b))
@@ -71,17 +71,17 @@ module _ (list : List Stuck) where
       where
         go : (i ≡ j) ⊎ ((i < j) ⊎ (j < i)) → i ≡ j
         go (inl same) = same
-        go (inr (inl less)) = absurd (not_itself (op_at list j) (let P : OpId → Type 0 = λ x. IsBefore x (op_at list j) in subst P e (before_at i j less hj)))
-        go (inr (inr more)) = absurd (not_itself (op_at list j) (let P : OpId → Type 0 = λ x. IsBefore (op_at list j) x in subst P e (before_at j i more hi)))
+        go (inr (inl less)) = absurd (not_before_itself (op_at list j) (let P : OpId → Type 0 = λ x. IsBefore x (op_at list j) in subst P e (before_at i j less hj)))
+        go (inr (inr more)) = absurd (not_before_itself (op_at list j) (let P : OpId → Type 0 = λ x. IsBefore (op_at list j) x in subst P e (before_at j i more hi)))
 
     -- places are in the order of their operations
     pub place_before : (i j : ℕ) → i < length list → j < length list → IsBefore (op_at list i) (op_at list j) → i < j
     place_before i j hi hj b = go (cases_order i j)
       where
         go : (i ≡ j) ⊎ ((i < j) ⊎ (j < i)) → i < j
-        go (inl same) = absurd (not_itself (op_at list j) (let P : ℕ → Type 0 = λ k. IsBefore (op_at list k) (op_at list j) in subst P same b))
+        go (inl same) = absurd (not_before_itself (op_at list j) (let P : ℕ → Type 0 = λ k. IsBefore (op_at list k) (op_at list j) in subst P same b))
         go (inr (inl less)) = less
-        go (inr (inr more)) = absurd (not_both (op_at list i) (op_at list j) b (before_at j i more hi))
+        go (inr (inr more)) = absurd (not_before_each_other (op_at list i) (op_at list j) b (before_at j i more hi))
 
 -- what is at the operation is found
 find_at : (list : List Stuck) (i : ℕ) (d : Stuck) (x : OpId) → IsInOrder list → i < length list → (get_or list i d).op ≡ x → find (λ (s : Stuck). same_op s.op x) list ≡ Some (get_or list i d)
@@ -95,7 +95,7 @@ find_at (s ∷ rest) (suc i) d x order inside e =
         let same : s.op ≡ x = same_op_true s.op x t in
         let first : IsBefore s.op (get_or (stuck_ops rest) i (record { rank = 0; op = 0 })) = order zero (suc i) (record { rank = 0; op = 0 }) (omega arith) (omega (arith, inside, long_ops rest)) in
         let at : get_or (stuck_ops rest) i (record { rank = 0; op = 0 }) ≡ x = op_read rest i d (omega (arith, inside)) ∙ e in
-        not_itself x (let P : OpId → Type 0 = λ y. IsBefore y x in subst P same (let Q : OpId → Type 0 = λ y. IsBefore s.op y in subst Q at first))
+        not_before_itself x (let P : OpId → Type 0 = λ y. IsBefore y x in subst P same (let Q : OpId → Type 0 = λ y. IsBefore s.op y in subst Q at first))
 
 -- what the reason at a place names
 pub next_at : (list : List Stuck) (i : ℕ) (d : Stuck) → IsInOrder list → i < length list → next list (op_at list i) ≡ named (get_or list i d).why

@@ -19,8 +19,8 @@ use Rattle.sim_cycles.proofs.PlacesLemmas.{none_op, long_ops, op_read, one_place
 use Rattle.sim_cycles.proofs.KnotLemmas.{before_first-stop, before_first-go, head_test, comes_test, count_alike}
 
 -- another head is counted
-pub counted : (heads counts : List ℕ) (at r : ℕ) → at < length heads → length counts ≡ length heads → get_or heads at 0 < length heads → ((i : ℕ) → i < length heads → get_or counts i 0 ≡ count_by (λ (h : ℕ). h == i) (take at heads)) → r ≡ get_or counts (get_or heads at 0) 0 → (i : ℕ) → i < length heads → get_or (set counts (get_or heads at 0) (r + 1)) i 0 ≡ count_by (λ (h : ℕ). h == i) (take (at + 1) heads)
-counted heads counts at r inside long below each is i hi = go (cases_eq i (get_or heads at 0))
+pub counted_one_more : (heads counts : List ℕ) (at r : ℕ) → at < length heads → length counts ≡ length heads → get_or heads at 0 < length heads → ((i : ℕ) → i < length heads → get_or counts i 0 ≡ count_by (λ (h : ℕ). h == i) (take at heads)) → r ≡ get_or counts (get_or heads at 0) 0 → (i : ℕ) → i < length heads → get_or (set counts (get_or heads at 0) (r + 1)) i 0 ≡ count_by (λ (h : ℕ). h == i) (take (at + 1) heads)
+counted_one_more heads counts at r inside long below each is i hi = go (cases_eq i (get_or heads at 0))
   where
     go : ((i ≡ get_or heads at 0) ⊎ (i ≡ get_or heads at 0 → ⊥)) → get_or (set counts (get_or heads at 0) (r + 1)) i 0 ≡ count_by (λ (h : ℕ). h == i) (take (at + 1) heads)
     go (inl e) =

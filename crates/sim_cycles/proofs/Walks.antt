@@ -2,7 +2,7 @@
 use Rattle.std.proofs.Common.{ℕ, zero, suc, ◌+◌, ◌-◌, ◌<◌, ◌≤◌, ◌≡◌, ◌⊎◌, inl, inr, ⊎_elim, refl, sym, ap, ◌∙◌, subst, arith, zero-add}
 use Rattle.std.proofs.lemmas.Bool.{cases_lt}
 use Rattle.sim_cycles.specs.Walks.{after, Leads, ComesBack, IsHeadOf}
-use Rattle.sim_cycles.proofs.Pigeons.{Collides, collides}
+use Rattle.sim_cycles.proofs.Pigeons.{Collides, two_collide}
 
 -- f has a least value at the numbers up to p
 pub least_at : (f : ℕ → ℕ) (p : ℕ) → (j : ℕ) × (j ≤ p) × ((i : ℕ) → i ≤ p → f j ≤ f i)
@@ -95,9 +95,9 @@ module _ (t : ℕ → ℕ) where
   head_from x y h r a = record { comes = leads_on x y h r a.comes; back = a.back; least = a.least }
 
   -- a number that comes back after p + 1 steps leads only to those of the first steps
-  round : (c p : ℕ) → after t (suc p) c ≡ c → (k : ℕ) → (j : ℕ) × (j ≤ p) × (after t k c ≡ after t j c)
-  round c p back zero = (0, omega arith, refl)
-  round c p back (suc k) = go (round c p back k)
+  multiples_of_a_round : (c p : ℕ) → after t (suc p) c ≡ c → (k : ℕ) → (j : ℕ) × (j ≤ p) × (after t k c ≡ after t j c)
+  multiples_of_a_round c p back zero = (0, omega arith, refl)
+  multiples_of_a_round c p back (suc k) = go (multiples_of_a_round c p back k)
     where
       go : ((j : ℕ) × (j ≤ p) × (after t k c ≡ after t j c)) → (j : ℕ) × (j ≤ p) × (after t (suc k) c ≡ after t j c)
       go (j, within, e) = on (cases_lt j p)
@@ -117,7 +117,7 @@ module _ (t : ℕ → ℕ) where
       steps = p;
       there = sym (after_first p h) ∙ ap (after t (suc p)) place ∙ sym (after_add j (suc p) c) ∙ ap (λ m. after t m c) (let e : j + suc p ≡ suc p + j = omega arith in e) ∙ after_add (suc p) j c ∙ ap (after t j) whole ∙ sym place;
     };
-    least = λ k. let r = round c p whole (j + k) in omega (arith, least r.0 r.1, r.2, after_add j k c, ap (after t k) place);
+    least = λ k. let r = multiples_of_a_round c p whole (j + k) in omega (arith, least r.0 r.1, r.2, after_add j k c, ap (after t k) place);
   }
 
   -- a number that comes back has a head
@@ -135,7 +135,7 @@ module _ (t : ℕ → ℕ) where
 
     -- two of the first steps lead to one number
     meets : (x : ℕ) → x < n → Collides (λ k. after t k x) n
-    meets x h = collides n (λ k. after t k x) (λ k _. after_below k x h)
+    meets x h = two_collide n (λ k. after t k x) (λ k _. after_below k x h)
 
     -- a way of any length has a short one
     shorter : (fuel k x : ℕ) → x < n → k ≤ fuel → (j : ℕ) × (j < n) × (after t j x ≡ after t k x)
