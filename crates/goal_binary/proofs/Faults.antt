@@ -26,8 +26,8 @@ use Rattle.goal_binary.proofs.Limits.{body_gives}
 use Rattle.goal_binary.proofs.Opening.{front_bytes, plans_is, IsOpened, IsClosed, opened_is, open_or_closed}
 
 -- the meaning of plans that end at a place
-abbrev ended : ℕ → List Plan × ℕ → Result (List Plan) FileFault
-ended len x = cond (ltb x.1 len) (Err (fault.Extra x.1)) (Ok x.0)
+abbrev whole_or_extra : ℕ → List Plan × ℕ → Result (List Plan) FileFault
+whole_or_extra len x = cond (ltb x.1 len) (Err (fault.Extra x.1)) (Ok x.0)
 
 abbrev failed : FileFault → Result (List Plan) FileFault
 failed f = Err f
@@ -38,13 +38,13 @@ err_is d f e = cc
 ltb-true : (m n : ℕ) → ltb m n ≡ true → m < n
 ltb-true m n h = grind (arith, nat_tests)
 
-meaning_ok : (bytes : List ℕ) (x : List Plan × ℕ) → plans_at bytes ≡ Ok x → meaning bytes ≡ ended (length bytes) x
+meaning_ok : (bytes : List ℕ) (x : List Plan × ℕ) → plans_at bytes ≡ Ok x → meaning bytes ≡ whole_or_extra (length bytes) x
 unfolding meaning
-meaning_ok bytes x e = ap (λ (r : Read (List Plan)). r >>= λ x. ended (length bytes) x) e
+meaning_ok bytes x e = ap (λ (r : Read (List Plan)). r >>= λ x. whole_or_extra (length bytes) x) e
 
 meaning_err : (bytes : List ℕ) (f : FileFault) → plans_at bytes ≡ Err f → meaning bytes ≡ Err f
 unfolding meaning
-meaning_err bytes f e = ap (λ (r : Read (List Plan)). r >>= λ x. ended (length bytes) x) e
+meaning_err bytes f e = ap (λ (r : Read (List Plan)). r >>= λ x. whole_or_extra (length bytes) x) e
 
 opened_plans : (l : Layout) (bytes : List ℕ) → IsOpened l bytes → plans_at bytes ≡ body l bytes 12
 opened_plans l bytes open_so = plans_is bytes ∙ ap (λ (r : Read Layout). r >>= λ layout. body layout.0 bytes layout.1) (opened_is l bytes open_so)
@@ -52,7 +52,7 @@ opened_plans l bytes open_so = plans_is bytes ∙ ap (λ (r : Read Layout). r >>
 closed_plans : (bytes : List ℕ) (f : FileFault) → opening_at bytes ≡ Err f → plans_at bytes ≡ Err f
 closed_plans bytes f e = plans_is bytes ∙ ap (λ (r : Read Layout). r >>= λ layout. body layout.0 bytes layout.1) e
 
-ok_or_extra : (len n : ℕ) (plans found : List Plan) → ended len (plans, n) ≡ Ok found → plans ≡ found
+ok_or_extra : (len n : ℕ) (plans found : List Plan) → whole_or_extra len (plans, n) ≡ Ok found → plans ≡ found
 ok_or_extra len n plans found e = go (ltb n len) e
   where
     go : (b : Bool) → cond b (Err (fault.Extra n)) (Ok plans) ≡ Ok found → plans ≡ found
@@ -89,22 +89,22 @@ within_limits bytes fits plans means = elim (open_or_closed bytes fits) [
 
 module _ (l : Layout) where
   -- bytes after which reading can continue begin a file
-  begins : (front : List ℕ) → IsBytes front → IsOpened l front → Completed (body l) 12 front → BeginAFile l front
-  begins front fits open_so c =
+  opened_begins_a_file : (front : List ℕ) → IsBytes front → IsOpened l front → Completed (body l) 12 front → BeginAFile l front
+  opened_begins_a_file front fits open_so c =
       let whole = front ++ c.tail in
       let same : take 12 whole ≡ take 12 front = take-append-le 12 front c.tail open_so.whole in
       let opened = opened_too l front whole 12 (omega arith) open_so.whole same open_so in
       let all = IsBytes-append front c.tail fits c.fits in
       record { plans = c.value; more = c.tail; have_file = have_file l whole all opened c.value (length whole) c.is; is = whole_is l whole all c.value opened c.is }
 
-  shorter : (xs ys : List ℕ) → BeginAFile l (xs ++ ys) → BeginAFile l xs
-  shorter xs ys b = record { plans = b.plans; more = ys ++ b.more; have_file = b.have_file; is = sym (append_assoc xs ys b.more) ∙ b.is }
+  prefix_begins_a_file : (xs ys : List ℕ) → BeginAFile l (xs ++ ys) → BeginAFile l xs
+  prefix_begins_a_file xs ys b = record { plans = b.plans; more = ys ++ b.more; have_file = b.have_file; is = sym (append_assoc xs ys b.more) ∙ b.is }
 
 front_fits : IsBytes (137 ∷ 71 ∷ 79 ∷ 65 ∷ 76 ∷ 13 ∷ 10 ∷ 26 ∷ 2 ∷ 0 ∷ 0 ∷ 0 ∷ [])
 front_fits i = grind arith
 
 front_begins : BeginAFile Packed (front_bytes Packed)
-front_begins = begins Packed (front_bytes Packed) front_fits (record { whole = omega arith; front = refl }) ((body_reads Packed).starts (front_bytes Packed))
+front_begins = opened_begins_a_file Packed (front_bytes Packed) front_fits (record { whole = omega arith; front = refl }) ((body_reads Packed).starts (front_bytes Packed))
 
 module _ (bytes : List ℕ) (fits : IsBytes bytes) where
   closed_true : (f : FileFault) → IsClosed bytes f → IsTrueOf bytes f
@@ -117,7 +117,7 @@ module _ (bytes : List ℕ) (fits : IsBytes bytes) where
       is_width = (omega arith, omega arith);
       begins = omega arith;
       is_cut = omega arith;
-      before = shorter Packed [] (front_bytes Packed) front_begins;
+      before = prefix_begins_a_file Packed [] (front_bytes Packed) front_begins;
     }
     | inr magic ↦ record {
       length_is = why.0;
@@ -127,7 +127,7 @@ module _ (bytes : List ℕ) (fits : IsBytes bytes) where
       is_width = (omega arith, omega arith);
       begins = magic.1;
       is_cut = magic.2;
-      before = subst (BeginAFile Packed) (sym magic.0) (shorter Packed MAGIC (spelled_u32 (version_of Packed)) front_begins);
+      before = subst (BeginAFile Packed) (sym magic.0) (prefix_begins_a_file Packed MAGIC (spelled_u32 (version_of Packed)) front_begins);
     }
   ]
   closed_true fault.Magic why = why
@@ -151,7 +151,7 @@ module _ (bytes : List ℕ) (fits : IsBytes bytes) where
     stopped_true f s how = go f how
       where
         before : BeginAFile l (take s.place bytes)
-        before = begins l (take s.place bytes) (IsBytes-take s.place bytes fits) (opened_too l bytes (take s.place bytes) s.place s.from s.within (take-take s.place s.place bytes (omega arith)) open_so) s.done
+        before = opened_begins_a_file l (take s.place bytes) (IsBytes-take s.place bytes fits) (opened_too l bytes (take s.place bytes) s.place s.from s.within (take-take s.place s.place bytes (omega arith)) open_so) s.done
 
         go : (f : FileFault) → Halts (body l) bytes 12 s.place s.width f → IsTrueOf bytes f
         go (fault.Short n) how = record { length_is = how.0; layout = l; at = s.place; width = s.width; is_width = s.is_width; begins = omega (arith, how.0, s.within); is_cut = how.1; before = before }

@@ -12,7 +12,7 @@ use Rattle.goal_binary.specs.declared.layout.Layout.{Layout}
 use Rattle.goal_binary.specs.declared.layout.Layout.TheVariants.{Fixed, Packed}
 use Rattle.goal_binary.specs.Fields.{Read, ◌>>=◌, allow, byte_or_short, byte_at, u32_at, u64_at, byte_up_to, u32_up_to, u64_up_to, some_byte_at}
 use Rattle.goal_binary.specs.Laws.{IsWidth}
-use Rattle.goal_binary.proofs.Steps.{IsBytes, ok_is}
+use Rattle.goal_binary.proofs.Steps.{IsBytes, ok_injective}
 use Rattle.goal_binary.proofs.FieldsTaken.{leb-le}
 use Rattle.goal_binary.proofs.Readers.{Completed, Halts, Stop, Reads, field, reads_as}
 
@@ -28,8 +28,8 @@ pub record CanPass (l : Layout) (width : ℕ) (value : List ℕ → ℕ) (test :
 abbrev pub pair : ℕ → ℕ → ℕ × ℕ
 pair x a = (x, a)
 
-abbrev pub any : ℕ → Type 0
-any n = Unit {0}
+abbrev pub any_number : ℕ → Type 0
+any_number n = Unit {0}
 
 pub take_all : (n : ℕ) (xs : List ℕ) → length xs ≡ n → take n xs ≡ xs
 take_all n xs len = ap (take n) (sym (append-nil xs)) ∙ take_at xs [] n len
@@ -47,8 +47,8 @@ pub error_is : (d f : FileFault) → fault_of d ≡ fault_of f → d ≡ f
 error_is d f e = cc
 
 -- what is between two places is the same in bytes that are the same up to the later place
-between : (at width : ℕ) (xs ys : List ℕ) → take (at + width) xs ≡ take (at + width) ys → take width (drop at xs) ≡ take width (drop at ys)
-between at width xs ys same = sym (drop-take at width xs) ∙ ap (drop at) same ∙ drop-take at width ys
+same_field_bytes : (at width : ℕ) (xs ys : List ℕ) → take (at + width) xs ≡ take (at + width) ys → take width (drop at xs) ≡ take width (drop at ys)
+same_field_bytes at width xs ys same = sym (drop-take at width xs) ∙ ap (drop at) same ∙ drop-take at width ys
 
 pub long_enough : (n : ℕ) (xs ys : List ℕ) → take n xs ≡ take n ys → n ≤ length ys → n ≤ length xs
 long_enough n xs ys same le = omega (arith, ap length same, length-take n xs, length-take n ys)
@@ -69,7 +69,7 @@ passes_from width value test some bytes at x after e = go (ltb (length bytes - a
     go true good is passed e = absurd cc
     go false false is passed e = absurd cc
     go false true is passed e =
-        let both = ok_is (value (take width (drop at bytes)), at + width) (x, after) e in
+        let both = ok_injective (value (take width (drop at bytes)), at + width) (x, after) e in
         record {
           room = omega (arith, ltb-false _ _ is, some);
           passed = passed;
@@ -84,8 +84,8 @@ module _ {V : ℕ → Type 0} (l : Layout) (width : ℕ) (value : List ℕ → �
       let long : ltb (length bytes - at) width ≡ false = le-ltb _ _ (omega arith) in
       rw (long, is) refl
 
-  completed : (at : ℕ) (front : List ℕ) → length front ≡ at → Completed (field width value test) at front
-  completed at front len =
+  field_completed : (at : ℕ) (front : List ℕ) → length front ≡ at → Completed (field width value test) at front
+  field_completed at front len =
       let behind : drop at (front ++ can.text) ≡ can.text = drop_at front can.text at len in
       let taken : take width (drop at (front ++ can.text)) ≡ can.text = ap (take width) behind ∙ take_all width can.text can.len in
       let joined = length-append front can.text in
@@ -98,15 +98,15 @@ module _ {V : ℕ → Type 0} (l : Layout) (width : ℕ) (value : List ℕ → �
         is = field_is (front ++ can.text) at (value can.text) room (ap value taken) ∙ ap (λ (b : Bool). allow b at (value can.text, at + width)) can.passes ∙ ap (λ (p : ℕ). Ok (value can.text, p)) place;
       }
 
-  stops : (bytes : List ℕ) (at : ℕ) (fault : FileFault) → at ≤ length bytes → field width value test bytes at ≡ Err fault → Stop l (field width value test) bytes at fault
+  field_stops : (bytes : List ℕ) (at : ℕ) (fault : FileFault) → at ≤ length bytes → field width value test bytes at ≡ Err fault → Stop l (field width value test) bytes at fault
   unfolding field
-  stops bytes at fault le e = go (ltb (length bytes - at) width) (test (value (take width (drop at bytes)))) refl refl e
+  field_stops bytes at fault le e = go (ltb (length bytes - at) width) (test (value (take width (drop at bytes)))) refl refl e
     where
       front_len : length (take at bytes) ≡ at
       front_len = omega (arith, length-take at bytes, le)
 
       made : (f : FileFault) → Halts (field width value test) bytes at at width f → Stop l (field width value test) bytes at f
-      made f how = record { place = at; width = width; from = omega arith; within = le; is_width = can.is_width; done = completed at (take at bytes) front_len; how = how }
+      made f how = record { place = at; width = width; from = omega arith; within = le; is_width = can.is_width; done = field_completed at (take at bytes) front_len; how = how }
 
       go : (short good : Bool) → ltb (length bytes - at) width ≡ short → test (value (take width (drop at bytes))) ≡ good
           → cond short (Err (Short (length bytes))) (allow good at (pair (value (take width (drop at bytes))) (at + width))) ≡ Err fault → Stop l (field width value test) bytes at fault
@@ -119,7 +119,7 @@ module _ {V : ℕ → Type 0} (l : Layout) (width : ℕ) (value : List ℕ → �
             refl,
             room,
             λ other same.
-                field_is other at (value (take width (drop at bytes))) (long_enough (at + width) other bytes same room) (ap value (between at width other bytes same))
+                field_is other at (value (take width (drop at bytes))) (long_enough (at + width) other bytes same room) (ap value (same_field_bytes at width other bytes same))
                 ∙ ap (λ (b : Bool). allow b at (value (take width (drop at bytes)), at + width)) passed,
           ))
 
@@ -131,11 +131,11 @@ module _ {V : ℕ → Type 0} (l : Layout) (width : ℕ) (value : List ℕ → �
     same = λ bytes other at x after le e same.
         let p = passes_from width value test can.some bytes at x after e in
         let alike : take (at + width) other ≡ take (at + width) bytes = subst (λ (n : ℕ). take n other ≡ take n bytes) (sym p.after_is) same in
-        field_is other at (value (take width (drop at bytes))) (long_enough (at + width) other bytes alike p.room) (ap value (between at width other bytes alike))
+        field_is other at (value (take width (drop at bytes))) (long_enough (at + width) other bytes alike p.room) (ap value (same_field_bytes at width other bytes alike))
         ∙ ap (λ (b : Bool). allow b at (value (take width (drop at bytes)), at + width)) p.passed
         ∙ ap (λ (y : ℕ × ℕ). Ok y) (pair_is _ x _ after p.value_is p.after_is);
-    starts = λ front. completed (length front) front refl;
-    stops = stops;
+    starts = λ front. field_completed (length front) front refl;
+    stops = field_stops;
   }
 
 -- a test of what is read
@@ -143,8 +143,8 @@ one_test : (short : Bool) (f : FileFault) (n : ℕ × ℕ) (test : ℕ → Bool)
 one_test true f n test at = refl
 one_test false f n test at = refl
 
-abbrev pub always : ℕ → Bool
-always n = true
+abbrev pub passes_always : ℕ → Bool
+passes_always n = true
 
 -- a byte, as a list of one
 abbrev pub first_of : List ℕ → ℕ
@@ -164,7 +164,7 @@ zero_bytes n i =
       | inr le ↦ rw (get_or_past (replicate n none) i none (omega (arith, length-replicate n none))) (omega arith)
     ]
 
-pub byte_is : (bytes : List ℕ) (at : ℕ) → byte_at bytes at ≡ field 1 first_of always bytes at
+pub byte_is : (bytes : List ℕ) (at : ℕ) → byte_at bytes at ≡ field 1 first_of passes_always bytes at
 unfolding byte_at field
 byte_is bytes at = elim (cases_lt at (length bytes)) [
   | inl inside ↦
@@ -187,15 +187,15 @@ is_one : (l : Layout) → IsWidth l 1
 is_one Fixed = inl refl
 is_one Packed = (omega arith, omega arith)
 
-pub byte_reads : (l : Layout) → Reads l any byte_at
-byte_reads l = reads_as (field 1 first_of always) byte_at byte_is (field_reads l 1 first_of always (zeros_can l 1 first_of always (omega arith) (is_one l) refl) (λ n passed. tt))
+pub byte_reads : (l : Layout) → Reads l any_number byte_at
+byte_reads l = reads_as (field 1 first_of passes_always) byte_at byte_is (field_reads l 1 first_of passes_always (zeros_can l 1 first_of passes_always (omega arith) (is_one l) refl) (λ n passed. tt))
 
-pub u32_is : (bytes : List ℕ) (at : ℕ) → u32_at bytes at ≡ field 4 value_32 always bytes at
+pub u32_is : (bytes : List ℕ) (at : ℕ) → u32_at bytes at ≡ field 4 value_32 passes_always bytes at
 unfolding field u32_at
 u32_is bytes at = refl
 
-pub u32_reads : Reads Fixed any u32_at
-u32_reads = reads_as (field 4 value_32 always) u32_at u32_is (field_reads Fixed 4 value_32 always (zeros_can Fixed 4 value_32 always (omega arith) (inr (inl refl)) refl) (λ n passed. tt))
+pub u32_reads : Reads Fixed any_number u32_at
+u32_reads = reads_as (field 4 value_32 passes_always) u32_at u32_is (field_reads Fixed 4 value_32 passes_always (zeros_can Fixed 4 value_32 passes_always (omega arith) (inr (inl refl)) refl) (λ n passed. tt))
 
 abbrev pub up_to : ℕ → ℕ → Bool
 up_to most n = leb n most
@@ -216,14 +216,14 @@ one_byte : IsBytes (1 ∷ [])
 one_byte i = grind arith
 
 -- a byte that is not 0
-pub some_byte_reads : (l : Layout) → Reads l any some_byte_at
+pub some_byte_reads : (l : Layout) → Reads l any_number some_byte_at
 unfolding some_byte_at
 some_byte_reads l =
     reads_as (field 1 first_of (ltb 0)) some_byte_at (byte_test (ltb 0))
     (field_reads l 1 first_of (ltb 0) (record { some = omega arith; is_width = is_one l; text = 1 ∷ []; len = refl; fits = one_byte; passes = refl }) (λ n passed. tt))
 
 -- a byte that passes a test which 0 passes
-pub byte_tested_reads : (l : Layout) (test : ℕ → Bool) → test 0 ≡ true → Reads l any (λ bytes at. byte_at bytes at >>= λ x. allow (test x.0) at x)
+pub byte_tested_reads : (l : Layout) (test : ℕ → Bool) → test 0 ≡ true → Reads l any_number (λ bytes at. byte_at bytes at >>= λ x. allow (test x.0) at x)
 byte_tested_reads l test zero_passes =
     reads_as (field 1 first_of test) (λ bytes at. byte_at bytes at >>= λ x. allow (test x.0) at x) (byte_test test)
     (field_reads l 1 first_of test (zeros_can l 1 first_of test (omega arith) (is_one l) zero_passes) (λ n passed. tt))

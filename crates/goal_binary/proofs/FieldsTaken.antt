@@ -15,7 +15,7 @@ use Rattle.goal_binary.specs.declared.fault.FileFault.TheVariants.{Short, Magic}
 use Rattle.goal_binary.specs.declared.layout.TheConstants.{MAGIC}
 use Rattle.goal_binary.specs.File.{spelled_u32, spelled_u64}
 use Rattle.goal_binary.specs.Fields.{Read, ◌>>=◌, allow, byte_or_short, byte_at, word_at, u32_at, u64_at, byte_up_to, u32_up_to, u64_up_to, magic_at}
-use Rattle.goal_binary.proofs.Steps.{IsBytes, bind_ok, allow_ok, ok_is, Takes}
+use Rattle.goal_binary.proofs.Steps.{IsBytes, bind_ok, allow_ok, ok_injective, Takes}
 
 pub leb-le : (m n : ℕ) → leb m n ≡ true → m ≤ n
 leb-le m n h = grind (arith, nat_tests)
@@ -55,7 +55,7 @@ module _ (bytes : List ℕ) where
           let inside = slice_get_within bytes at b is in
           let here = get_or_from_slice_get bytes at b 0 is in
           let front : drop at bytes ≡ b ∷ drop (at + 1) bytes = drop_more bytes at 0 inside ∙ ap (λ (n : ℕ). n ∷ drop (at + 1) bytes) here in
-          subst (λ (y : ℕ × ℕ). Takes bytes at (y.0 ∷ []) y.1) (ok_is (b, at + 1) x e) (record { parts = front })
+          subst (λ (y : ℕ × ℕ). Takes bytes at (y.0 ∷ []) y.1) (ok_injective (b, at + 1) x e) (record { parts = front })
 
   module _ (fits : IsBytes bytes) where
     word_taken : (w : Width) (wide : IsWide w) (at : ℕ) (x : ℕ × ℕ) → word_at bytes w at ≡ Ok x → Takes bytes at (to_le_bytes w x.0) x.1
@@ -106,5 +106,5 @@ module _ (bytes : List ℕ) where
       go true same d e = absurd cc
       go false false d e = absurd cc
       go false true d e =
-          let there : 8 ≡ after = ok_is 8 after e in
+          let there : 8 ≡ after = ok_injective 8 after e in
           subst (λ (n : ℕ). Takes bytes 0 MAGIC n) there (record { parts = sym (take-append-drop 8 bytes) ∙ ap (λ (front : List ℕ). front ++ drop 8 bytes) (sym (d.0 refl)) })

@@ -7,7 +7,7 @@ use Rattle.goal_binary.specs.declared.form.Form.{Form}
 use Rattle.goal_binary.specs.File.{spelled_u32, spelled_u64, op_bytes, note_bytes, fixed_op, fixed_dep, fixed_note, when_code, note_fields}
 use Rattle.goal_binary.specs.Fields.{◌>>=◌, byte_at, u32_at, byte_up_to, u32_up_to, u64_up_to}
 use Rattle.goal_binary.specs.Reading.{most_flags, form_of, most_nic, most_peer, most_tag, most_size, kind_of, when_of, note_of, form_at, fixed_op_at, fixed_dep_at, fixed_note_at}
-use Rattle.goal_binary.proofs.Steps.{IsBytes, bind_ok, ok_is, Takes, Takes-then}
+use Rattle.goal_binary.proofs.Steps.{IsBytes, bind_ok, ok_injective, Takes, Takes-then}
 use Rattle.goal_binary.proofs.FieldsTaken.{byte_taken, u32_taken, u64_taken, byte_up_to_ok, u32_up_to_ok, u64_up_to_ok}
 
 -- the numbers of an operation, which its fields may have
@@ -63,7 +63,7 @@ module _ (bytes : List ℕ) where
       let b = bind_ok (byte_up_to bytes (most_flags a.0.0) a.0.1) (λ flags. Ok (form_of a.0.0 flags.0, flags.1)) x a.2 in
       let k = byte_up_to_ok bytes 2 at a.0 a.1 in
       let f = byte_up_to_ok bytes (most_flags a.0.0) a.0.1 b.0 b.1 in
-      let is = ok_is (form_of a.0.0 b.0.0, b.0.1) x b.2 in
+      let is = ok_injective (form_of a.0.0 b.0.0, b.0.1) x b.2 in
       let both = Takes-then bytes at (a.0.0 ∷ []) a.0.1 (b.0.0 ∷ []) b.0.1 (byte_taken bytes at a.0 k.0) (byte_taken bytes a.0.1 b.0 f.0) in
       record {
         kind = a.0.0;
@@ -89,7 +89,7 @@ module _ (bytes : List ℕ) where
         let when : Takes bytes b.0.1 (spelled_u32 (when_code (when_of c.0.0))) c.0.1 = rw (when_of-code c.0.0 t.1) t.0 in
         let all = Takes-then bytes at _ a.0.1 _ c.0.1 (u32_taken bytes fits at a.0 a.1) (Takes-then bytes a.0.1 _ b.0.1 _ c.0.1 (u32_taken bytes fits a.0.1 b.0 b.1) when) in
         let made : Dep × ℕ = (record { later = a.0.0; earlier = b.0.0; when = when_of c.0.0 }, c.0.1) in
-        subst (λ (y : Dep × ℕ). Takes bytes at (fixed_dep y.0) y.1) {x = made} (ok_is made x c.2) all
+        subst (λ (y : Dep × ℕ). Takes bytes at (fixed_dep y.0) y.1) {x = made} (ok_injective made x c.2) all
 
     pub fixed_note_taken : (at : ℕ) (x : Note × ℕ) → fixed_note_at bytes at ≡ Ok x → Takes bytes at (fixed_note x.0) x.1
     unfolding fixed_note_at fixed_note
@@ -103,7 +103,7 @@ module _ (bytes : List ℕ) where
         Takes-then bytes at _ a.0.1 _ d.0.1 k.0 (Takes-then bytes a.0.1 _ b.0.1 _ d.0.1 (u32_taken bytes fits a.0.1 b.0 b.1)
         (Takes-then bytes b.0.1 _ c.0.1 _ d.0.1 (u32_taken bytes fits b.0.1 c.0 c.1) (u32_taken bytes fits c.0.1 d.0 d.1))) in
         let made : Note × ℕ = (note_of a.0.0 b.0.0 c.0.0 d.0.0, d.0.1) in
-        subst (λ (y : Note × ℕ). Takes bytes at (fixed_note y.0) y.1) {x = made} (ok_is made x d.2) (rw (note_of-fields a.0.0 b.0.0 c.0.0 d.0.0 k.1) all)
+        subst (λ (y : Note × ℕ). Takes bytes at (fixed_note y.0) y.1) {x = made} (ok_injective made x d.2) (rw (note_of-fields a.0.0 b.0.0 c.0.0 d.0.0 k.1) all)
 
     -- the fields of an operation, one after another
     op_taken : (at cpu_at nic_at peer_at tag_at unused_at size_at after : ℕ) (kind flags cpu nic peer tag size : ℕ) → AreFields kind flags nic peer tag → Takes bytes at (kind ∷ flags ∷ []) cpu_at → Takes bytes cpu_at (cpu ∷ []) nic_at → Takes bytes nic_at (nic ∷ []) peer_at → Takes bytes peer_at (spelled_u32 peer) tag_at → Takes bytes tag_at (spelled_u32 tag) unused_at → Takes bytes unused_at (spelled_u32 0) size_at → Takes bytes size_at (spelled_u64 size) after → Takes bytes at (fixed_op (made_op kind flags cpu nic peer tag size)) after
@@ -150,4 +150,4 @@ module _ (bytes : List ℕ) where
         let size = u64_up_to_ok bytes (most_size a.0.0) z.0.1 s.0 s.1 in
         let spelled = formed at a.0.1 b.0.1 c.0.1 d.0.1 g.0.1 z.0.1 s.0.1 a.0.0 b.0.0 c.0.0 d.0.0 g.0.0 s.0.0 (form_taken at a.0 a.1) nic.1 peer.1 tag.1 (byte_taken bytes a.0.1 b.0 b.1) (byte_taken bytes b.0.1 c.0 nic.0) peer.0 tag.0 none (u64_taken bytes fits z.0.1 s.0 size.0) in
         let made : Op × ℕ = (record { kind = kind_of a.0.0 d.0.0 g.0.0 s.0.0; cpu = b.0.0; nic = c.0.0 }, s.0.1) in
-        subst (λ (y : Op × ℕ). Takes bytes at (fixed_op y.0) y.1) {x = made} (ok_is made x s.2) spelled
+        subst (λ (y : Op × ℕ). Takes bytes at (fixed_op y.0) y.1) {x = made} (ok_injective made x s.2) spelled

@@ -27,11 +27,11 @@ pub record Agree {A : Type 0} (len : ℕ) (place : A → ℕ) (cut whole : Resul
   pub is : (cut ≡ failed A (Short len)) ⊎ ((whole ≡ cut) × IsPlaced len place cut)
 
 -- the place after a value
-abbrev pub behind : {A : Type 0} → A × ℕ → ℕ
-behind x = x.1
+abbrev pub end_of : {A : Type 0} → A × ℕ → ℕ
+end_of x = x.1
 
-abbrev pub itself : ℕ → ℕ
-itself n = n
+abbrev pub identity : ℕ → ℕ
+identity n = n
 
 same_err : (A B : Type 0) (f g : FileFault) → failed A f ≡ failed A g → failed B f ≡ failed B g
 same_err A B f g e = cc
@@ -59,7 +59,7 @@ module _ (len : ℕ) where
 
 -- a reader gives the same for a prefix as for the whole, or finds that the prefix is short
 module _ {l : Layout} {A : Type 0} {V : A → Type 0} {P : Reader A} (reads : Reads l V P) (bytes more : List ℕ) where
-  halts_follow : (at place width : ℕ) (fault : FileFault) → Halts P bytes at place width fault → P bytes at ≡ Err fault → Agree (length bytes) behind (P bytes at) (P (bytes ++ more) at)
+  halts_follow : (at place width : ℕ) (fault : FileFault) → Halts P bytes at place width fault → P bytes at ≡ Err fault → Agree (length bytes) end_of (P bytes at) (P (bytes ++ more) at)
   halts_follow at place width (Short n) how e = record { is = inl (e ∙ ap (λ (k : ℕ). Err (Short k)) how.0) }
   halts_follow at place width (Field p) how e =
       let same = how.2 (bytes ++ more) (take-append-le (place + width) bytes more how.1) in
@@ -70,10 +70,10 @@ module _ {l : Layout} {A : Type 0} {V : A → Type 0} {P : Reader A} (reads : Re
   halts_follow at place width (Plan rule) how e = absurd how
   halts_follow at place width NoMemory how e = absurd how
 
-  pub reads_follow : (at : ℕ) → at ≤ length bytes → Agree (length bytes) behind (P bytes at) (P (bytes ++ more) at)
+  pub reads_follow : (at : ℕ) → at ≤ length bytes → Agree (length bytes) end_of (P bytes at) (P (bytes ++ more) at)
   reads_follow at le = go (P bytes at) refl
     where
-      go : (r : Read A) → P bytes at ≡ r → Agree (length bytes) behind (P bytes at) (P (bytes ++ more) at)
+      go : (r : Read A) → P bytes at ≡ r → Agree (length bytes) end_of (P bytes at) (P (bytes ++ more) at)
       go (Ok x) e =
           let inside = reads.inside bytes at x.0 x.1 le e in
           let same = reads.same bytes (bytes ++ more) at x.0 x.1 le e (take-append-le x.1 bytes more inside.1) in
@@ -83,7 +83,7 @@ module _ {l : Layout} {A : Type 0} {V : A → Type 0} {P : Reader A} (reads : Re
           halts_follow at s.place s.width fault s.how e
 
 module _ (bytes more : List ℕ) where
-  magic_follows : Agree (length bytes) itself (magic_at bytes) (magic_at (bytes ++ more))
+  magic_follows : Agree (length bytes) identity (magic_at bytes) (magic_at (bytes ++ more))
   unfolding magic_at
   magic_follows = elim (cases_lt (length bytes) 8) [
     | inl short ↦ record { is = inl (rw (lt-ltb _ _ short) refl) }
@@ -91,26 +91,26 @@ module _ (bytes more : List ℕ) where
         let here : ltb (length bytes) 8 ≡ false = le-ltb _ _ long in
         let there : ltb (length (bytes ++ more)) 8 ≡ false = le-ltb _ _ (omega (arith, length-append bytes more)) in
         let front : take 8 (bytes ++ more) ≡ take 8 bytes = take-append-le 8 bytes more long in
-        rw (here, there, front) (agree_test (length bytes) itself (bytes_eq MAGIC (take 8 bytes)) 8 Magic long)
+        rw (here, there, front) (agree_test (length bytes) identity (bytes_eq MAGIC (take 8 bytes)) 8 Magic long)
   ]
 
-  named_follows : (version : ℕ) (o : Option Layout) (after : ℕ) → after ≤ length bytes → Agree (length bytes) behind (named version o after) (named version o after)
+  named_follows : (version : ℕ) (o : Option Layout) (after : ℕ) → after ≤ length bytes → Agree (length bytes) end_of (named version o after) (named version o after)
   named_follows version None after within = record { is = inr (refl, tt) }
   named_follows version (Some l) after within = record { is = inr (refl, within) }
 
-  layout_follows : (at : ℕ) → at ≤ length bytes → Agree (length bytes) behind (layout_at bytes at) (layout_at (bytes ++ more) at)
+  layout_follows : (at : ℕ) → at ≤ length bytes → Agree (length bytes) end_of (layout_at bytes at) (layout_at (bytes ++ more) at)
   unfolding layout_at
   layout_follows at le =
-      agree_then (length bytes) behind behind (u32_at bytes at) (u32_at (bytes ++ more) at) (λ n. named n.0 (layout_of n.0) n.1) (λ n. named n.0 (layout_of n.0) n.1)
+      agree_then (length bytes) end_of end_of (u32_at bytes at) (u32_at (bytes ++ more) at) (λ n. named n.0 (layout_of n.0) n.1) (λ n. named n.0 (layout_of n.0) n.1)
       (reads_follow u32_reads bytes more at le) (λ n within. named_follows n.0 (layout_of n.0) n.1 within)
 
-  opening_follows : Agree (length bytes) behind (opening_at bytes) (opening_at (bytes ++ more))
+  opening_follows : Agree (length bytes) end_of (opening_at bytes) (opening_at (bytes ++ more))
   unfolding opening_at
   opening_follows =
-      agree_then (length bytes) itself behind (magic_at bytes) (magic_at (bytes ++ more)) (layout_at bytes) (layout_at (bytes ++ more)) magic_follows (λ m within. layout_follows m within)
+      agree_then (length bytes) identity end_of (magic_at bytes) (magic_at (bytes ++ more)) (layout_at bytes) (layout_at (bytes ++ more)) magic_follows (λ m within. layout_follows m within)
 
-  pub plans_follow : Agree (length bytes) behind (plans_at bytes) (plans_at (bytes ++ more))
+  pub plans_follow : Agree (length bytes) end_of (plans_at bytes) (plans_at (bytes ++ more))
   unfolding plans_at
   plans_follow =
-      agree_then (length bytes) behind behind (opening_at bytes) (opening_at (bytes ++ more)) (λ layout. body layout.0 bytes layout.1) (λ layout. body layout.0 (bytes ++ more) layout.1) opening_follows
+      agree_then (length bytes) end_of end_of (opening_at bytes) (opening_at (bytes ++ more)) (λ layout. body layout.0 bytes layout.1) (λ layout. body layout.0 (bytes ++ more) layout.1) opening_follows
       (λ layout within. reads_follow (body_reads layout.0) bytes more layout.1 within)

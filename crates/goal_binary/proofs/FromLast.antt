@@ -7,7 +7,7 @@ use Rattle.std.proofs.lemmas.Option.{slice_get_past, slice_get-get_or}
 use Rattle.goal_binary.specs.declared.fault.FileFault.{FileFault}
 use Rattle.goal_binary.specs.declared.fault.FileFault.TheVariants.{Short}
 use Rattle.goal_binary.specs.Fields.{◌>>=◌, byte_or_short, byte_at, below, groups_at}
-use Rattle.goal_binary.proofs.Steps.{ok_is}
+use Rattle.goal_binary.proofs.Steps.{ok_injective}
 use Rattle.goal_binary.proofs.Packed.{read_of, step_is, none_is}
 
 module _ (bytes : List ℕ) where
@@ -60,7 +60,7 @@ module _ (bytes : List ℕ) where
   last_group zero at x some low e = absurd (omega (arith, some))
   last_group (suc left) at x some low e = elim (cases_lt at (length bytes)) [
     | inl inside ↦
-        let same = ok_is (get_or bytes at 0, at + 1) x (sym (byte_there at inside) ∙ e) in
+        let same = ok_injective (get_or bytes at 0, at + 1) x (sym (byte_there at inside) ∙ e) in
         step_is bytes left at ∙ rw (byte_there at inside, lt-ltb (get_or bytes at 0) 128 (low inside), ← same) refl
     | inr past ↦ let none = sym (byte_not_there at past) ∙ e in absurd cc
   ]

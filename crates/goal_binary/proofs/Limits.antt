@@ -17,10 +17,10 @@ use Rattle.goal_binary.specs.declared.layout.Layout.TheVariants.{Fixed, Packed}
 use Rattle.goal_binary.specs.Fitting.{OpFits, DepFits, PlanFits}
 use Rattle.goal_binary.specs.Fields.{Read, ◌>>=◌, allow, byte_at, u32_at, byte_up_to, u32_up_to, u64_up_to, packed_up_to, some_byte_at, count_at, rank_count_at}
 use Rattle.goal_binary.specs.Reading.{form_of, most_nic, most_peer, most_tag, most_size, has_peer, has_tag, note_of, is_head, head_of, list_at, form_at, fixed_op_at, fixed_dep_at, fixed_note_at, head_byte_at, head_at, some_byte_if, packed_u32_at, packed_u32_if, packed_op_at, packed_dep_at, packed_note_at, op_at, dep_at, note_at, rank_at, ranks_at}
-use Rattle.goal_binary.proofs.Steps.{IsBytes, bind_ok, ok_is}
+use Rattle.goal_binary.proofs.Steps.{IsBytes, bind_ok, ok_injective}
 use Rattle.goal_binary.proofs.FieldsTaken.{IsBytes-drop, IsBytes-take, leb-le}
 use Rattle.goal_binary.proofs.Readers.{Reader, then, give, field}
-use Rattle.goal_binary.proofs.FieldsRead.{passes_from, first_of, value_32, value_64, always, up_to, byte_is, byte_test, short_is, u32_is, u32_test, u64_test}
+use Rattle.goal_binary.proofs.FieldsRead.{passes_from, first_of, value_32, value_64, passes_always, up_to, byte_is, byte_test, short_is, u32_is, u32_test, u64_test}
 use Rattle.goal_binary.proofs.NumbersTaken.{packed_up_to_ok}
 use Rattle.goal_binary.proofs.PackedItems.{IsHead, head_is}
 use Rattle.goal_binary.proofs.ItemsRead.{made_op, made_dep, halved_dep}
@@ -43,7 +43,7 @@ gives_then {P = P} {Q = Q} first second = record {
 
 gives_it : {A : Type 0} {V : A → Type 0} (x : A) → V x → Gives V (give x)
 unfolding give
-gives_it {A = A} {V = V} x v = record { valid = λ bytes fits at y after e. subst V (ap (λ (p : A × ℕ). p.0) (ok_is (x, at) (y, after) e)) v }
+gives_it {A = A} {V = V} x v = record { valid = λ bytes fits at y after e. subst V (ap (λ (p : A × ℕ). p.0) (ok_injective (x, at) (y, after) e)) v }
 
 gives_as : {A : Type 0} {V : A → Type 0} (P R : Reader A) → ((bytes : List ℕ) (at : ℕ) → R bytes at ≡ P bytes at) → Gives V P → Gives V R
 gives_as P R is gives = record { valid = λ bytes fits at x after e. gives.valid bytes fits at x after (sym (is bytes at) ∙ e) }
@@ -64,10 +64,10 @@ value_64-lt : (text : List ℕ) → IsBytes text → value_64 text < 2 ^ 64
 value_64-lt text fits = omega (arith, fits 0, fits 1, fits 2, fits 3, fits 4, fits 5, fits 6, fits 7)
 
 byte_gives : Gives (λ n. n < 2 ^ 8) byte_at
-byte_gives = gives_as (field 1 first_of always) byte_at byte_is (field_gives 1 first_of always (omega arith) (λ text len fits passed. omega (arith, fits 0)))
+byte_gives = gives_as (field 1 first_of passes_always) byte_at byte_is (field_gives 1 first_of passes_always (omega arith) (λ text len fits passed. omega (arith, fits 0)))
 
 u32_gives : Gives (λ n. n < 2 ^ 32) u32_at
-u32_gives = gives_as (field 4 value_32 always) u32_at u32_is (field_gives 4 value_32 always (omega arith) (λ text len fits passed. value_32-lt text fits))
+u32_gives = gives_as (field 4 value_32 passes_always) u32_at u32_is (field_gives 4 value_32 passes_always (omega arith) (λ text len fits passed. value_32-lt text fits))
 
 -- a number of this number of bits that is at most the limit
 record IsUpTo (most bits n : ℕ) : Type 0 where
@@ -101,9 +101,9 @@ some_of n = Some n
 some_is : (n v : ℕ) → some_of n ≡ some_of v → n ≡ v
 some_is n v e = cc
 
-unless : (any : Bool) (n bound v : ℕ) → n < bound → cond any None (some_of n) ≡ Some v → v < bound
-unless true n bound v lt e = absurd cc
-unless false n bound v lt e = omega (arith, lt, some_is n v e)
+unless_below : (any : Bool) (n bound v : ℕ) → n < bound → cond any None (some_of n) ≡ Some v → v < bound
+unless_below true n bound v lt e = absurd cc
+unless_below false n bound v lt e = omega (arith, lt, some_is n v e)
 
 -- numbers that an operation of this form may have
 record AreNumbers (f : Form) (peer tag size cpu nic : ℕ) : Type 0 where
@@ -126,7 +126,7 @@ op_fits form.Send peer tag size cpu nic a = record {
   value = le-leb size MAX_BYTES a.size_below;
 }
 op_fits (form.Recv any_source any_tag) peer tag size cpu nic a = record {
-  width = record { kind = (a.size_width, λ v e. unless any_source peer (2 ^ 32) v a.peer_width e, λ v e. unless any_tag tag (2 ^ 32) v a.tag_width e); cpu = a.cpu_width; nic = a.nic_width };
+  width = record { kind = (a.size_width, λ v e. unless_below any_source peer (2 ^ 32) v a.peer_width e, λ v e. unless_below any_tag tag (2 ^ 32) v a.tag_width e); cpu = a.cpu_width; nic = a.nic_width };
   value = le-leb size MAX_BYTES a.size_below;
 }
 
@@ -173,7 +173,7 @@ record IsThere (there : Bool) (bits n : ℕ) : Type 0 where
   none : there ≡ false → n ≡ 0
 
 number_pair : (x y m n : ℕ) → ◌≡◌ {A = Read ℕ} (Ok (x, m)) (Ok (y, n)) → x ≡ y
-number_pair x y m n e = ap (λ (p : ℕ × ℕ). p.0) (ok_is (x, m) (y, n) e)
+number_pair x y m n e = ap (λ (p : ℕ × ℕ). p.0) (ok_injective (x, m) (y, n) e)
 
 some_byte_gives : (there : Bool) → Gives (IsThere there 8) (λ bytes at. some_byte_if bytes there at)
 unfolding some_byte_if some_byte_at
@@ -205,14 +205,14 @@ nic_of zero flags some = absurd (omega (arith, some))
 nic_of (suc zero) flags some = refl
 nic_of (suc (suc k)) flags some = refl
 
-is_over : (m n : ℕ) → n < m → leb m n ≡ false
-is_over m n h = grind (arith, nat_tests)
+leb_over : (m n : ℕ) → n < m → leb m n ≡ false
+leb_over m n h = grind (arith, nat_tests)
 
 has_room : (head : ℕ) → IsHead head → HasRoom (head_of head)
 has_room head good = go (ltb head 32) refl good.nic_fits
   where
     go : (b : Bool) → ltb head 32 ≡ b → (b || ltb 0 (head % 4)) ≡ true → HasRoom (head_of head)
-    go true is e = inl (is_over 32 head (short_is head 32 is))
+    go true is e = inl (leb_over 32 head (short_is head 32 is))
     go false is e = inr (nic_of (head % 4) (head / 4 % 4) (short_is 0 (head % 4) e))
 
 head_gives : Gives HasRoom head_at
@@ -304,15 +304,15 @@ rank_gives l ops deps notes =
       notes = All-from_recursion IsNoteInWidth note_list ns;
     }))))))))
 
-one_more : (before : List Plan) (p : Plan) → All PlanFits before → PlanFits p → All PlanFits (before ++ p ∷ [])
-one_more before p all fits = All-append PlanFits before (p ∷ []) all (All-from_recursion PlanFits (p ∷ []) (fits, tt))
+all_plans_push : (before : List Plan) (p : Plan) → All PlanFits before → PlanFits p → All PlanFits (before ++ p ∷ [])
+all_plans_push before p all fits = All-append PlanFits before (p ∷ []) all (All-from_recursion PlanFits (p ∷ []) (fits, tt))
 
 ranks_give : (l : Layout) (n : ℕ) (before : List Plan) → All PlanFits before → Gives (All PlanFits) (λ bytes at. ranks_at bytes l n before at)
 unfolding ranks_at then give
 ranks_give l zero before all = gives_as _ (λ bytes at. ranks_at bytes l zero before at) (λ bytes at. refl) (gives_it {V = All PlanFits} before all)
 ranks_give l (suc n) before all =
     gives_as _ (λ bytes at. ranks_at bytes l (suc n) before at) (λ bytes at. refl)
-    (gives_then (rank_gives l (op_count before) (dep_count before) (note_count before)) (λ p fits. ranks_give l n (before ++ p ∷ []) (one_more before p all fits)))
+    (gives_then (rank_gives l (op_count before) (dep_count before) (note_count before)) (λ p fits. ranks_give l n (before ++ p ∷ []) (all_plans_push before p all fits)))
 
 pub body_gives : (l : Layout) → Gives (All PlanFits) (body l)
 body_gives l =

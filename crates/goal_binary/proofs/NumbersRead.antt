@@ -16,13 +16,13 @@ use Rattle.goal_binary.proofs.FieldsRead.{pair, short_is, error_is, u32_tested_r
 use Rattle.goal_binary.proofs.Packed.{read_of, field_ends, groups_again-low, groups_cut, groups_same, packed_ok}
 
 -- a packed number that passes a test
-abbrev pub tested : (ℕ → Bool) → Reader ℕ
-tested test bytes at = packed_at bytes at >>= λ x. allow (test x.0) at x
+abbrev pub tested_number : (ℕ → Bool) → Reader ℕ
+tested_number test bytes at = packed_at bytes at >>= λ x. allow (test x.0) at x
 
-abbrev judged : (ℕ → Bool) → ℕ → Read (Option ℕ) → Read ℕ
-judged test at read = (read >>= λ number. given at number.0 number.1) >>= λ x. allow (test x.0) at x
+abbrev test_result : (ℕ → Bool) → ℕ → Read (Option ℕ) → Read ℕ
+test_result test at read = (read >>= λ number. given at number.0 number.1) >>= λ x. allow (test x.0) at x
 
-tested_is : (test : ℕ → Bool) (bytes : List ℕ) (at : ℕ) → tested test bytes at ≡ judged test at (groups_at bytes 10 at)
+tested_is : (test : ℕ → Bool) (bytes : List ℕ) (at : ℕ) → tested_number test bytes at ≡ test_result test at (groups_at bytes 10 at)
 unfolding packed_at
 tested_is test bytes at = refl
 
@@ -31,23 +31,23 @@ record Passes (test : ℕ → Bool) (bytes : List ℕ) (at x after : ℕ) : Type
   read : groups_at bytes 10 at ≡ Ok (read_of (Some x) after)
   passed : test x ≡ true
 
-passes_from : (test : ℕ → Bool) (bytes : List ℕ) (at x after : ℕ) → tested test bytes at ≡ Ok (x, after) → Passes test bytes at x after
+passes_from : (test : ℕ → Bool) (bytes : List ℕ) (at x after : ℕ) → tested_number test bytes at ≡ Ok (x, after) → Passes test bytes at x after
 passes_from test bytes at x after e =
     let a = bind_ok (packed_at bytes at) (λ x. allow (test x.0) at x) (x, after) e in
     let t = allow_ok (test a.0.0) at a.0 (x, after) a.2 in
     let found = subst (λ (y : ℕ × ℕ). (packed_at bytes at ≡ Ok y) × (test y.0 ≡ true)) t.1 (a.1, t.0) in
     record { read = (packed_ok bytes at (x, after) found.0).read; passed = found.1 }
 
-passes_is : (test : ℕ → Bool) (bytes : List ℕ) (at x after : ℕ) → Passes test bytes at x after → tested test bytes at ≡ Ok (x, after)
+passes_is : (test : ℕ → Bool) (bytes : List ℕ) (at x after : ℕ) → Passes test bytes at x after → tested_number test bytes at ≡ Ok (x, after)
 passes_is test bytes at x after p =
-    tested_is test bytes at ∙ ap (judged test at) p.read ∙ ap (λ (b : Bool). allow b at (pair x after)) p.passed
+    tested_is test bytes at ∙ ap (test_result test at) p.read ∙ ap (λ (b : Bool). allow b at (pair x after)) p.passed
 
 -- a whole field whose number does not pass
 abbrev Fails : (ℕ → Bool) → Option ℕ → Type 0
 Fails test None = Unit {0}
 Fails test (Some n) = test n ≡ false
 
-fails_is : (test : ℕ → Bool) (at : ℕ) (v : Option ℕ) (after : ℕ) → Fails test v → judged test at (Ok (read_of v after)) ≡ Err (Field at)
+fails_is : (test : ℕ → Bool) (at : ℕ) (v : Option ℕ) (after : ℕ) → Fails test v → test_result test at (Ok (read_of v after)) ≡ Err (Field at)
 fails_is test at None after fails = refl
 fails_is test at (Some n) after fails = ap (λ (b : Bool). allow b at (pair n after)) fails
 
@@ -55,8 +55,8 @@ module _ {V : ℕ → Type 0} (test : ℕ → Bool) (valid : (n : ℕ) → test 
   first_fits : IsBytes (first ∷ [])
   first_fits i = grind (arith, low)
 
-  completed : (at : ℕ) (front : List ℕ) → length front ≡ at → Completed (tested test) at front
-  completed at front len =
+  number_completed : (at : ℕ) (front : List ℕ) → length front ≡ at → Completed (tested_number test) at front
+  number_completed at front len =
       let bytes = front ++ first ∷ [] in
       let r = groups_again-low bytes 9 at first [] low (drop_at front (first ∷ []) at len) in
       let ends = field_ends bytes 9 at (Some first) r.place r.is in
@@ -69,16 +69,16 @@ module _ {V : ℕ → Type 0} (test : ℕ → Bool) (valid : (n : ℕ) → test 
         is = passes_is test bytes at first r.place (record { read = r.is; passed = first_passes }) ∙ ap (λ (p : ℕ). Ok (first, p)) place;
       }
 
-  stops : (bytes : List ℕ) (at : ℕ) (fault : FileFault) → at ≤ length bytes → tested test bytes at ≡ Err fault → Stop Packed (tested test) bytes at fault
-  stops bytes at fault le e = go (groups_at bytes 10 at) refl (sym (tested_is test bytes at) ∙ e)
+  number_stops : (bytes : List ℕ) (at : ℕ) (fault : FileFault) → at ≤ length bytes → tested_number test bytes at ≡ Err fault → Stop Packed (tested_number test) bytes at fault
+  number_stops bytes at fault le e = go (groups_at bytes 10 at) refl (sym (tested_is test bytes at) ∙ e)
     where
       front_len : length (take at bytes) ≡ at
       front_len = omega (arith, length-take at bytes, le)
 
-      made : (width : ℕ) (f : FileFault) → (0 < width) × (width ≤ 10) → Halts (tested test) bytes at at width f → Stop Packed (tested test) bytes at f
-      made width f is_width how = record { place = at; width = width; from = omega arith; within = le; is_width = is_width; done = completed at (take at bytes) front_len; how = how }
+      made : (width : ℕ) (f : FileFault) → (0 < width) × (width ≤ 10) → Halts (tested_number test) bytes at at width f → Stop Packed (tested_number test) bytes at f
+      made width f is_width how = record { place = at; width = width; from = omega arith; within = le; is_width = is_width; done = number_completed at (take at bytes) front_len; how = how }
 
-      bad : (v : Option ℕ) (after : ℕ) → groups_at bytes 10 at ≡ Ok (read_of v after) → Fails test v → Stop Packed (tested test) bytes at (Field at)
+      bad : (v : Option ℕ) (after : ℕ) → groups_at bytes 10 at ≡ Ok (read_of v after) → Fails test v → Stop Packed (tested_number test) bytes at (Field at)
       bad v after is fails =
           let ends = field_ends bytes 9 at v after is in
           let place : at + (after - at) ≡ after = omega (arith, ends.from) in
@@ -87,21 +87,21 @@ module _ {V : ℕ → Type 0} (test : ℕ → Bool) (valid : (n : ℕ) → test 
             omega (arith, place, ends.inside),
             λ other same.
                 let alike : take after other ≡ take after bytes = subst (λ (n : ℕ). take n other ≡ take n bytes) place same in
-                tested_is test other at ∙ ap (judged test at) (groups_same bytes other 10 at v after le is alike) ∙ fails_is test at v after fails,
+                tested_is test other at ∙ ap (test_result test at) (groups_same bytes other 10 at v after le is alike) ∙ fails_is test at v after fails,
           )
 
-      decided : (n after : ℕ) (b : Bool) → test n ≡ b → groups_at bytes 10 at ≡ Ok (read_of (Some n) after) → allow b at (pair n after) ≡ Err fault → Stop Packed (tested test) bytes at fault
+      decided : (n after : ℕ) (b : Bool) → test n ≡ b → groups_at bytes 10 at ≡ Ok (read_of (Some n) after) → allow b at (pair n after) ≡ Err fault → Stop Packed (tested_number test) bytes at fault
       decided n after true passed is e = absurd cc
-      decided n after false passed is e = subst (λ (f : FileFault). Stop Packed (tested test) bytes at f) (error_is (Field at) fault e) (bad (Some n) after is passed)
+      decided n after false passed is e = subst (λ (f : FileFault). Stop Packed (tested_number test) bytes at f) (error_is (Field at) fault e) (bad (Some n) after is passed)
 
-      go : (r : Read (Option ℕ)) → groups_at bytes 10 at ≡ r → judged test at r ≡ Err fault → Stop Packed (tested test) bytes at fault
+      go : (r : Read (Option ℕ)) → groups_at bytes 10 at ≡ r → test_result test at r ≡ Err fault → Stop Packed (tested_number test) bytes at fault
       go (Err d) is e =
           let cut = groups_cut bytes 10 at d le is in
-          subst (λ (f : FileFault). Stop Packed (tested test) bytes at f) (cut.0 ∙ error_is d fault e) (made 10 (Short (length bytes)) (omega arith, omega arith) (refl, cut.1))
-      go (Ok (None, after)) is e = subst (λ (f : FileFault). Stop Packed (tested test) bytes at f) (error_is (Field at) fault e) (bad None after is tt)
+          subst (λ (f : FileFault). Stop Packed (tested_number test) bytes at f) (cut.0 ∙ error_is d fault e) (made 10 (Short (length bytes)) (omega arith, omega arith) (refl, cut.1))
+      go (Ok (None, after)) is e = subst (λ (f : FileFault). Stop Packed (tested_number test) bytes at f) (error_is (Field at) fault e) (bad None after is tt)
       go (Ok (Some n, after)) is e = decided n after (test n) refl is e
 
-  pub tested_reads : Reads Packed V (tested test)
+  pub tested_reads : Reads Packed V (tested_number test)
   tested_reads = record {
     inside = λ bytes at x after le e.
         let p = passes_from test bytes at x after e in
@@ -110,15 +110,15 @@ module _ {V : ℕ → Type 0} (test : ℕ → Bool) (valid : (n : ℕ) → test 
     same = λ bytes other at x after le e same.
         let p = passes_from test bytes at x after e in
         passes_is test other at x after (record { read = groups_same bytes other 10 at (Some x) after le p.read same; passed = p.passed });
-    starts = λ front. completed (length front) front refl;
-    stops = stops;
+    starts = λ front. number_completed (length front) front refl;
+    stops = number_stops;
   }
 
 -- a packed number that is at most the limit
 pub packed_up_to_reads : (most : ℕ) → Reads Packed (λ n. n ≤ most) (λ bytes at. packed_up_to bytes most at)
 unfolding packed_up_to
 packed_up_to_reads most =
-    reads_as (tested (λ n. leb n most)) (λ bytes at. packed_up_to bytes most at) (λ bytes at. refl)
+    reads_as (tested_number (λ n. leb n most)) (λ bytes at. packed_up_to bytes most at) (λ bytes at. refl)
     (tested_reads (λ n. leb n most) (λ n passed. leb-le n most passed) 0 (omega arith) (le-leb 0 most (omega arith)))
 
 -- a number that passes a test, which 0 or 1 passes
@@ -128,9 +128,9 @@ unfolding number_at
 number_reads Fixed test valid start =
     reads_as (λ bytes at. u32_at bytes at >>= λ x. allow (test x.0) at x) (λ bytes at. number_at bytes Fixed at >>= λ x. allow (test x.0) at x) (λ bytes at. refl) (u32_tested_reads test valid start)
 number_reads Packed test valid (inl zero_passes) =
-    reads_as (tested test) (λ bytes at. number_at bytes Packed at >>= λ x. allow (test x.0) at x) (λ bytes at. refl) (tested_reads test valid 0 (omega arith) zero_passes)
+    reads_as (tested_number test) (λ bytes at. number_at bytes Packed at >>= λ x. allow (test x.0) at x) (λ bytes at. refl) (tested_reads test valid 0 (omega arith) zero_passes)
 number_reads Packed test valid (inr one_passes) =
-    reads_as (tested test) (λ bytes at. number_at bytes Packed at >>= λ x. allow (test x.0) at x) (λ bytes at. refl) (tested_reads test valid 1 (omega arith) one_passes)
+    reads_as (tested_number test) (λ bytes at. number_at bytes Packed at >>= λ x. allow (test x.0) at x) (λ bytes at. refl) (tested_reads test valid 1 (omega arith) one_passes)
 
 pub count_reads : (l : Layout) (limit before : ℕ) → before ≤ limit → Reads l (λ n. before + n ≤ limit) (λ bytes at. count_at bytes l limit before at)
 unfolding count_at

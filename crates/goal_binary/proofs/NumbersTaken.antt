@@ -7,7 +7,7 @@ use Rattle.goal_binary.specs.declared.layout.Layout.TheVariants.{Fixed, Packed}
 use Rattle.goal_binary.specs.Layouts.{version_of, layout_of}
 use Rattle.goal_binary.specs.File.{spelled_u32, spelled_count}
 use Rattle.goal_binary.specs.Fields.{allow, named, u32_at, packed_at, packed_up_to, number_at, count_at, magic_at, layout_at, opening_at, rank_count_at}
-use Rattle.goal_binary.proofs.Steps.{IsBytes, bind_ok, allow_ok, ok_is, Takes, Takes-then}
+use Rattle.goal_binary.proofs.Steps.{IsBytes, bind_ok, allow_ok, ok_injective, Takes, Takes-then}
 use Rattle.goal_binary.proofs.FieldsTaken.{u32_taken, magic_taken, up_to_ok}
 use Rattle.goal_binary.proofs.Packed.{packed_taken}
 
@@ -55,7 +55,7 @@ module _ (bytes : List ℕ) where
         go : (n : ℕ × ℕ) (o : Option Layout) → layout_of n.0 ≡ o → named n.0 o n.1 ≡ Ok x → Takes bytes at (spelled_u32 n.0) n.1 → Takes bytes at (spelled_u32 (version_of x.0)) x.1
         go n None is e t = absurd cc
         go n (Some l) is e t =
-            subst (λ (y : Layout × ℕ). Takes bytes at (spelled_u32 (version_of y.0)) y.1) (ok_is (layout_pair l n.1) x e)
+            subst (λ (y : Layout × ℕ). Takes bytes at (spelled_u32 (version_of y.0)) y.1) (ok_injective (layout_pair l n.1) x e)
             (subst (λ (v : ℕ). Takes bytes at (spelled_u32 v) n.1) (sym (named_so n.0 l is)) t)
 
     pub opening_taken : (x : Layout × ℕ) → opening_at bytes ≡ Ok x → Takes bytes 0 (MAGIC ++ spelled_u32 (version_of x.0)) x.1

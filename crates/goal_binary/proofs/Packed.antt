@@ -8,11 +8,11 @@ use Rattle.goal_binary.specs.declared.fault.FileFault.TheVariants.{Short}
 use Rattle.goal_binary.specs.File.{groups, packed}
 use Rattle.goal_binary.specs.Fields.{Read, ◌>>=◌, byte_or_short, byte_at, below, given, groups_at, packed_at}
 use Rattle.goal_binary.proofs.Groups.{Fits, fits_10, groups-low, groups-high}
-use Rattle.goal_binary.proofs.Steps.{IsBytes, bind_ok, ok_is, Takes, Takes-then}
+use Rattle.goal_binary.proofs.Steps.{IsBytes, bind_ok, ok_injective, Takes, Takes-then}
 use Rattle.goal_binary.proofs.FieldsTaken.{IsBytes-drop, IsBytes-take, byte_taken}
 use Rattle.goal_binary.proofs.FieldsAgain.{IsReadAs, byte_again}
 use Rattle.goal_binary.proofs.Readers.{take-shorter}
-use Rattle.goal_binary.proofs.FieldsRead.{passes_from, first_of, always, byte_is, byte_reads, short_is, error_is}
+use Rattle.goal_binary.proofs.FieldsRead.{passes_from, first_of, passes_always, byte_is, byte_reads, short_is, error_is}
 use Rattle.goal_binary.specs.declared.layout.Layout.TheVariants.{Packed}
 
 abbrev some_of : ℕ → Option ℕ
@@ -56,7 +56,7 @@ above_is n high lt =
 module _ (bytes : List ℕ) where
   byte_place : (at : ℕ) (x : ℕ × ℕ) → byte_at bytes at ≡ Ok x → (x.1 ≡ at + 1) × (at < length bytes)
   byte_place at x e =
-      let p = passes_from 1 first_of always (omega arith) bytes at x.0 x.1 (sym (byte_is bytes at) ∙ e) in
+      let p = passes_from 1 first_of passes_always (omega arith) bytes at x.0 x.1 (sym (byte_is bytes at) ∙ e) in
       (sym p.after_is, omega (arith, p.room))
 
   byte_missing : (at : ℕ) (f : FileFault) → byte_at bytes at ≡ Err f → (Short (length bytes) ≡ f) × (length bytes ≤ at)
@@ -73,10 +73,10 @@ option_error : (d f : FileFault) → option_fault d ≡ option_fault f → d ≡
 option_error d f e = cc
 
 -- the groups after the first
-abbrev rest_of : (bytes : List ℕ) (left : ℕ) → ℕ × ℕ → Bool → Read (Option ℕ)
-rest_of bytes left group low = cond low (Ok (Some group.0, group.1)) (groups_at bytes left group.1 >>= λ others. Ok (read_of (below (group.0 - 128) others.0) others.1))
+abbrev groups_after : (bytes : List ℕ) (left : ℕ) → ℕ × ℕ → Bool → Read (Option ℕ)
+groups_after bytes left group low = cond low (Ok (Some group.0, group.1)) (groups_at bytes left group.1 >>= λ others. Ok (read_of (below (group.0 - 128) others.0) others.1))
 
-pub step_is : (bytes : List ℕ) (left at : ℕ) → groups_at bytes (suc left) at ≡ (byte_at bytes at >>= λ group. rest_of bytes left group (ltb group.0 128))
+pub step_is : (bytes : List ℕ) (left at : ℕ) → groups_at bytes (suc left) at ≡ (byte_at bytes at >>= λ group. groups_after bytes left group (ltb group.0 128))
 unfolding groups_at
 step_is bytes left at = refl
 
@@ -90,16 +90,16 @@ module _ (bytes : List ℕ) (fits : IsBytes bytes) where
   AreTaken left = (at v after : ℕ) → groups_at bytes left at ≡ Ok (read_of (Some v) after) → Takes bytes at (groups left v) after
 
   rest_taken : (left at v after : ℕ) (group : ℕ × ℕ) → AreTaken left → Takes bytes at (group.0 ∷ []) group.1 → group.0 < 256 → (low : Bool) → ltb group.0 128 ≡ low
-      → rest_of bytes left group low ≡ Ok (read_of (Some v) after) → Takes bytes at (groups (suc left) v) after
+      → groups_after bytes left group low ≡ Ok (read_of (Some v) after) → Takes bytes at (groups (suc left) v) after
   rest_taken left at v after group lower takes width true is e =
-      let same = ok_is (read_of (Some group.0) group.1) (read_of (Some v) after) e in
+      let same = ok_injective (read_of (Some group.0) group.1) (read_of (Some v) after) e in
       let v_is : group.0 ≡ v = some_is group.0 v (ap (λ (p : Option ℕ × ℕ). p.0) same) in
       let place : group.1 ≡ after = ap (λ (p : Option ℕ × ℕ). p.1) same in
       let low : v < 128 = omega (arith, v_is, short_is group.0 128 is) in
       rw (groups-low left v low, ← v_is, ← place) takes
   rest_taken left at v after group lower takes width false is e =
       let o = bind_ok (groups_at bytes left group.1) (λ others. Ok (read_of (below (group.0 - 128) others.0) others.1)) (read_of (Some v) after) e in
-      let same = ok_is (read_of (below (group.0 - 128) o.0.0) o.0.1) (read_of (Some v) after) o.2 in
+      let same = ok_injective (read_of (below (group.0 - 128) o.0.0) o.0.1) (read_of (Some v) after) o.2 in
       let a = is_above (group.0 - 128) o.0.0 v (ap (λ (p : Option ℕ × ℕ). p.0) same) in
       let place : o.0.1 ≡ after = ap (λ (p : Option ℕ × ℕ). p.1) same in
       let read : groups_at bytes left group.1 ≡ Ok (read_of (Some a.n) after) = o.1 ∙ ap (λ (p : Option ℕ × ℕ). Ok p) (both_are o.0.0 (Some a.n) o.0.1 after a.is place) in
@@ -114,20 +114,20 @@ module _ (bytes : List ℕ) (fits : IsBytes bytes) where
 
   byte_bound : (at : ℕ) (x : ℕ × ℕ) → byte_at bytes at ≡ Ok x → x.0 < 256
   byte_bound at x e =
-      let p = passes_from 1 first_of always (omega arith) bytes at x.0 x.1 (sym (byte_is bytes at) ∙ e) in
+      let p = passes_from 1 first_of passes_always (omega arith) bytes at x.0 x.1 (sym (byte_is bytes at) ∙ e) in
       let here : get_or (take 1 (drop at bytes)) 0 0 < 256 = IsBytes-take 1 (drop at bytes) (IsBytes-drop at bytes fits) 0 in
       omega (arith, here, p.value_is)
 
   step_taken : (left : ℕ) → AreTaken left → AreTaken (suc left)
   step_taken left lower at v after e =
-      let a = bind_ok (byte_at bytes at) (λ group. rest_of bytes left group (ltb group.0 128)) (read_of (Some v) after) (sym (step_is bytes left at) ∙ e) in
+      let a = bind_ok (byte_at bytes at) (λ group. groups_after bytes left group (ltb group.0 128)) (read_of (Some v) after) (sym (step_is bytes left at) ∙ e) in
       rest_taken left at v after a.0 lower (byte_taken bytes at a.0 a.1) (byte_bound at a.0 a.1) (ltb a.0.0 128) refl a.2
 
   groups_taken : (left : ℕ) → AreTaken left
   groups_taken zero at v after e = let none = sym (none_is bytes at) ∙ e in absurd (no_number at v after none)
     where
       no_number : (at v after : ℕ) → ◌≡◌ {A = Read (Option ℕ)} (Ok (read_of None at)) (Ok (read_of (Some v) after)) → ⊥
-      no_number at v after e = let same = ap (λ (p : Option ℕ × ℕ). p.0) (ok_is (read_of None at) (read_of (Some v) after) e) in absurd cc
+      no_number at v after e = let same = ap (λ (p : Option ℕ × ℕ). p.0) (ok_injective (read_of None at) (read_of (Some v) after) e) in absurd cc
   groups_taken (suc left) at v after e = step_taken left (groups_taken left) at v after e
 
 -- groups of a number are read
@@ -168,25 +168,25 @@ module _ (bytes : List ℕ) where
   abbrev End : ℕ → Type 0
   End left = (at : ℕ) (v : Option ℕ) (after : ℕ) → at ≤ length bytes → groups_at bytes left at ≡ Ok (read_of v after) → EndsAt left at after
 
-  rest_ends : (left at : ℕ) (v : Option ℕ) (after : ℕ) (group : ℕ × ℕ) → End left → group.1 ≡ at + 1 → at < length bytes → (low : Bool) → rest_of bytes left group low ≡ Ok (read_of v after) → EndsAt left (at + 1) after
+  rest_ends : (left at : ℕ) (v : Option ℕ) (after : ℕ) (group : ℕ × ℕ) → End left → group.1 ≡ at + 1 → at < length bytes → (low : Bool) → groups_after bytes left group low ≡ Ok (read_of v after) → EndsAt left (at + 1) after
   rest_ends left at v after group lower place within true e =
-      let same : group.1 ≡ after = ap (λ (p : Option ℕ × ℕ). p.1) (ok_is (read_of (Some group.0) group.1) (read_of v after) e) in
+      let same : group.1 ≡ after = ap (λ (p : Option ℕ × ℕ). p.1) (ok_injective (read_of (Some group.0) group.1) (read_of v after) e) in
       record { from = omega (arith, same, place); inside = omega (arith, same, place, within); few = omega (arith, same, place) }
   rest_ends left at v after group lower place within false e =
       let o = bind_ok (groups_at bytes left group.1) (λ others. Ok (read_of (below (group.0 - 128) others.0) others.1)) (read_of v after) e in
-      let same : o.0.1 ≡ after = ap (λ (p : Option ℕ × ℕ). p.1) (ok_is (read_of (below (group.0 - 128) o.0.0) o.0.1) (read_of v after) o.2) in
+      let same : o.0.1 ≡ after = ap (λ (p : Option ℕ × ℕ). p.1) (ok_injective (read_of (below (group.0 - 128) o.0.0) o.0.1) (read_of v after) o.2) in
       let ends = lower group.1 o.0.0 o.0.1 (omega (arith, place, within)) o.1 in
       record { from = omega (arith, ends.from, same, place); inside = omega (arith, ends.inside, same); few = omega (arith, ends.few, same, place) }
 
   step_ends : (left : ℕ) → End left → (at : ℕ) (v : Option ℕ) (after : ℕ) → groups_at bytes (suc left) at ≡ Ok (read_of v after) → EndsAt left (at + 1) after
   step_ends left lower at v after e =
-      let a = bind_ok (byte_at bytes at) (λ group. rest_of bytes left group (ltb group.0 128)) (read_of v after) (sym (step_is bytes left at) ∙ e) in
+      let a = bind_ok (byte_at bytes at) (λ group. groups_after bytes left group (ltb group.0 128)) (read_of v after) (sym (step_is bytes left at) ∙ e) in
       let place = byte_place bytes at a.0 a.1 in
       rest_ends left at v after a.0 lower place.0 place.1 (ltb a.0.0 128) a.2
 
   groups_end : (left : ℕ) → End left
   groups_end zero at v after le e =
-      let same : at ≡ after = ap (λ (p : Option ℕ × ℕ). p.1) (ok_is (read_of None at) (read_of v after) (sym (none_is bytes at) ∙ e)) in
+      let same : at ≡ after = ap (λ (p : Option ℕ × ℕ). p.1) (ok_injective (read_of None at) (read_of v after) (sym (none_is bytes at) ∙ e)) in
       record { from = omega (arith, same); inside = omega (arith, same, le); few = omega (arith, same) }
   groups_end (suc left) at v after le e =
       let ends = step_ends left (groups_end left) at v after e in
@@ -200,7 +200,7 @@ module _ (bytes : List ℕ) where
   abbrev AreCut : ℕ → Type 0
   AreCut left = (at : ℕ) (f : FileFault) → at ≤ length bytes → groups_at bytes left at ≡ Err f → (Short (length bytes) ≡ f) × (length bytes < at + left)
 
-  rest_cut : (left at : ℕ) (f : FileFault) (group : ℕ × ℕ) → AreCut left → group.1 ≡ at + 1 → at < length bytes → (low : Bool) → rest_of bytes left group low ≡ Err f → (Short (length bytes) ≡ f) × (length bytes < at + suc left)
+  rest_cut : (left at : ℕ) (f : FileFault) (group : ℕ × ℕ) → AreCut left → group.1 ≡ at + 1 → at < length bytes → (low : Bool) → groups_after bytes left group low ≡ Err f → (Short (length bytes) ≡ f) × (length bytes < at + suc left)
   rest_cut left at f group lower place within true e = absurd cc
   rest_cut left at f group lower place within false e = go (groups_at bytes left group.1) refl e
     where
@@ -214,7 +214,7 @@ module _ (bytes : List ℕ) where
   step_cut : (left : ℕ) → AreCut left → AreCut (suc left)
   step_cut left lower at f le e = go (byte_at bytes at) refl (sym (step_is bytes left at) ∙ e)
     where
-      go : (r : Read ℕ) → byte_at bytes at ≡ r → (r >>= λ group. rest_of bytes left group (ltb group.0 128)) ≡ Err f → (Short (length bytes) ≡ f) × (length bytes < at + suc left)
+      go : (r : Read ℕ) → byte_at bytes at ≡ r → (r >>= λ group. groups_after bytes left group (ltb group.0 128)) ≡ Err f → (Short (length bytes) ≡ f) × (length bytes < at + suc left)
       go (Ok group) is e =
           let place = byte_place bytes at group is in
           rest_cut left at f group lower place.0 place.1 (ltb group.0 128) e
@@ -231,28 +231,28 @@ module _ (bytes other : List ℕ) where
   abbrev AreSame : ℕ → Type 0
   AreSame left = (at : ℕ) (v : Option ℕ) (after : ℕ) → at ≤ length bytes → groups_at bytes left at ≡ Ok (read_of v after) → take after other ≡ take after bytes → groups_at other left at ≡ Ok (read_of v after)
 
-  rest_same : (left at : ℕ) (v : Option ℕ) (after : ℕ) (group : ℕ × ℕ) → AreSame left → group.1 ≤ length bytes → (low : Bool) → rest_of bytes left group low ≡ Ok (read_of v after) → take after other ≡ take after bytes
-      → rest_of other left group low ≡ Ok (read_of v after)
+  rest_same : (left at : ℕ) (v : Option ℕ) (after : ℕ) (group : ℕ × ℕ) → AreSame left → group.1 ≤ length bytes → (low : Bool) → groups_after bytes left group low ≡ Ok (read_of v after) → take after other ≡ take after bytes
+      → groups_after other left group low ≡ Ok (read_of v after)
   rest_same left at v after group lower within true e same = e
   rest_same left at v after group lower within false e same =
       let o = bind_ok (groups_at bytes left group.1) (λ others. Ok (read_of (below (group.0 - 128) others.0) others.1)) (read_of v after) e in
-      let place : o.0.1 ≡ after = ap (λ (p : Option ℕ × ℕ). p.1) (ok_is (read_of (below (group.0 - 128) o.0.0) o.0.1) (read_of v after) o.2) in
+      let place : o.0.1 ≡ after = ap (λ (p : Option ℕ × ℕ). p.1) (ok_injective (read_of (below (group.0 - 128) o.0.0) o.0.1) (read_of v after) o.2) in
       let alike : take o.0.1 other ≡ take o.0.1 bytes = subst (λ (n : ℕ). take n other ≡ take n bytes) (sym place) same in
       ap (λ (r : Read (Option ℕ)). r >>= λ others. Ok (read_of (below (group.0 - 128) others.0) others.1)) (lower group.1 o.0.0 o.0.1 within o.1 alike) ∙ o.2
 
   step_same : (left : ℕ) → AreSame left → AreSame (suc left)
   step_same left lower at v after le e same =
-      let a = bind_ok (byte_at bytes at) (λ group. rest_of bytes left group (ltb group.0 128)) (read_of v after) (sym (step_is bytes left at) ∙ e) in
+      let a = bind_ok (byte_at bytes at) (λ group. groups_after bytes left group (ltb group.0 128)) (read_of v after) (sym (step_is bytes left at) ∙ e) in
       let place = byte_place bytes at a.0 a.1 in
       let ends = field_ends bytes left at v after e in
       let alike : take a.0.1 other ≡ take a.0.1 bytes = take-shorter a.0.1 after other bytes (omega (arith, place.0, ends.from)) same in
       let byte : byte_at other at ≡ Ok a.0 = (byte_reads Packed).same bytes other at a.0.0 a.0.1 le a.1 alike in
-      step_is other left at ∙ ap (λ (r : Read ℕ). r >>= λ group. rest_of other left group (ltb group.0 128)) byte
+      step_is other left at ∙ ap (λ (r : Read ℕ). r >>= λ group. groups_after other left group (ltb group.0 128)) byte
       ∙ rest_same left at v after a.0 lower (omega (arith, place.0, place.1)) (ltb a.0.0 128) a.2 same
 
   pub groups_same : (left : ℕ) → AreSame left
   groups_same zero at v after le e same =
-      let is = ok_is (read_of None at) (read_of v after) (sym (none_is bytes at) ∙ e) in
+      let is = ok_injective (read_of None at) (read_of v after) (sym (none_is bytes at) ∙ e) in
       none_is other at ∙ ap (λ (p : Option ℕ × ℕ). Ok p) is
   groups_same (suc left) at v after le e same = step_same left (groups_same left) at v after le e same
 
@@ -267,12 +267,12 @@ packed_step bytes at = ap (λ (r : Read (Option ℕ)). r >>= λ number. given at
     above group (Ok others) = refl
     above group (Err f) = refl
 
-    by_size : (group : ℕ × ℕ) (low : Bool) → (rest_of bytes 9 group low >>= λ number. given at number.0 number.1)
+    by_size : (group : ℕ × ℕ) (low : Bool) → (groups_after bytes 9 group low >>= λ number. given at number.0 number.1)
         ≡ cond low (Ok (group.0, group.1)) (groups_at bytes 9 group.1 >>= λ others. given at (below (group.0 - 128) others.0) others.1)
     by_size group true = refl
     by_size group false = above group (groups_at bytes 9 group.1)
 
-    first : (r : Read ℕ) → ((r >>= λ group. rest_of bytes 9 group (ltb group.0 128)) >>= λ number. given at number.0 number.1)
+    first : (r : Read ℕ) → ((r >>= λ group. groups_after bytes 9 group (ltb group.0 128)) >>= λ number. given at number.0 number.1)
         ≡ (r >>= λ group. cond (ltb group.0 128) (Ok (group.0, group.1)) (groups_at bytes 9 group.1 >>= λ others. given at (below (group.0 - 128) others.0) others.1))
     first (Ok group) = by_size group (ltb group.0 128)
     first (Err f) = refl
@@ -289,7 +289,7 @@ packed_ok bytes at x e =
   where
     go : (v : Option ℕ) (after : ℕ) → groups_at bytes 10 at ≡ Ok (read_of v after) → given at v after ≡ Ok x → IsPackedAt bytes at x.0 x.1
     go None after is e = absurd cc
-    go (Some n) after is e = subst (λ (y : ℕ × ℕ). IsPackedAt bytes at y.0 y.1) (ok_is (n, after) x e) (record { read = is })
+    go (Some n) after is e = subst (λ (y : ℕ × ℕ). IsPackedAt bytes at y.0 y.1) (ok_injective (n, after) x e) (record { read = is })
 
 pub packed_taken : (bytes : List ℕ) → IsBytes bytes → (at : ℕ) (x : ℕ × ℕ) → packed_at bytes at ≡ Ok x → Takes bytes at (packed x.0) x.1
 packed_taken bytes fits at x e = groups_taken bytes fits 10 at x.0 x.1 (packed_ok bytes at x e).read
@@ -306,6 +306,6 @@ packed_apart m n xs ys few_m few_n joined =
     let bytes = packed m ++ xs in
     let a = packed_again bytes 0 m xs few_m refl in
     let b = packed_again bytes 0 n ys few_n joined in
-    let same = ok_is (m, a.place) (n, b.place) (sym a.is ∙ b.is) in
+    let same = ok_injective (m, a.place) (n, b.place) (sym a.is ∙ b.is) in
     let place : a.place ≡ b.place = ap (λ (p : ℕ × ℕ). p.1) same in
     (ap (λ (p : ℕ × ℕ). p.0) same, sym a.rest_is ∙ ap (λ (k : ℕ). drop k bytes) place ∙ b.rest_is)

@@ -24,8 +24,8 @@ use Rattle.goal_binary.proofs.PackedItems.{is_some, joined, IsHead, parts_of, he
 abbrev form_in : Kind → Form
 form_in k = form_of (kind_code k) (flags_of k)
 
-abbrev told : Op → Head
-told o = record { form = form_in o.kind; has_cpu = is_some o.cpu; has_nic = is_some o.nic }
+abbrev head_of_op : Op → Head
+head_of_op o = record { form = form_in o.kind; has_cpu = is_some o.cpu; has_nic = is_some o.nic }
 
 abbrev joined_in : Op → ℕ
 joined_in o = joined (kind_code o.kind) (flags_of o.kind) (is_some o.cpu) (is_some o.nic)
@@ -133,7 +133,7 @@ module _ (bytes : List ℕ) where
   op_steps at head cpu nic peer tag size a b c d e f = rw (a, b, c, d, e, f) refl
 
   -- the head and its parts
-  op_head : (o : Op) (at : ℕ) (rest : List ℕ) → OpFits o → drop at bytes ≡ head_code o ∷ rest → IsReadAs bytes (head_at bytes at) (told o) rest
+  op_head : (o : Op) (at : ℕ) (rest : List ℕ) → OpFits o → drop at bytes ≡ head_code o ∷ rest → IsReadAs bytes (head_at bytes at) (head_of_op o) rest
   op_head o at rest fits h =
       let k = o.kind in
       let all = kind_fits k o.nic fits.width.kind fits.width.nic fits.value in
@@ -145,7 +145,7 @@ module _ (bytes : List ℕ) where
         flags_fit = rw (p.kind_is, p.flags_are) all.fields.flags_fit;
         nic_fits = no_nic (kind_code k) o.nic (calc_no_nic k o.nic (peer_of k) (tag_of k) (size_of k) all) (joined_in o) p.nic_is p.kind_is;
       } in
-      let same : head_of (joined_in o) ≡ told o = rw (p.kind_is, p.flags_are, p.cpu_is, p.nic_is) refl in
+      let same : head_of (joined_in o) ≡ head_of_op o = rw (p.kind_is, p.flags_are, p.cpu_is, p.nic_is) refl in
       subst (λ (t : Head). IsReadAs bytes (head_at bytes at) t rest) same (head_again at (joined_in o) rest good (h ∙ ap (λ (n : ℕ). n ∷ rest) (code_is o)))
 
   pub packed_op_again : (o : Op) (at : ℕ) (rest : List ℕ) → OpFits o → drop at bytes ≡ packed_op o ++ rest → IsReadAs bytes (packed_op_at bytes at) o rest
@@ -167,7 +167,7 @@ module _ (bytes : List ℕ) where
       let s = packed_up_to_again bytes (most_size f) g.place (size_of k) rest all.size_width all.size_fits g.rest_is in
       record {
         place = s.place;
-        is = op_steps at (told o, a.place) (o.cpu, b.place) (o.nic, c.place) (peer_of k, d.place) (tag_of k, g.place) (size_of k, s.place) a.is b.is c.is d.is g.is s.is
+        is = op_steps at (head_of_op o, a.place) (o.cpu, b.place) (o.nic, c.place) (peer_of k, d.place) (tag_of k, g.place) (size_of k, s.place) a.is b.is c.is d.is g.is s.is
             ∙ ap (λ (kind : Kind). Ok (record { kind = kind; cpu = o.cpu; nic = o.nic }, s.place)) (kind_again k);
         rest_is = s.rest_is;
       }

@@ -7,7 +7,7 @@ use Rattle.goal_binary.specs.declared.form.Head.{Head}
 use Rattle.goal_binary.specs.File.{packed, when_code, byte_unless_zero, head_code, packed_note_bytes, packed_note_fields, packed_op, packed_dep, packed_note}
 use Rattle.goal_binary.specs.Fields.{Read, ◌>>=◌, allow, byte_at, byte_up_to, packed_up_to, some_byte_at}
 use Rattle.goal_binary.specs.Reading.{has_peer, has_tag, most_size, kind_of, when_of, note_of, is_head, head_of, head_byte_at, head_at, some_byte_if, packed_u32_at, packed_u32_if, packed_op_at, packed_dep_at, packed_note_at}
-use Rattle.goal_binary.proofs.Steps.{IsBytes, bind_ok, allow_ok, ok_is, Takes, Takes-then}
+use Rattle.goal_binary.proofs.Steps.{IsBytes, bind_ok, allow_ok, ok_injective, Takes, Takes-then}
 use Rattle.goal_binary.proofs.FieldsTaken.{byte_taken, byte_up_to_ok}
 use Rattle.goal_binary.proofs.NumbersTaken.{packed_up_to_ok}
 use Rattle.goal_binary.proofs.Packed.{packed_taken}
@@ -53,7 +53,7 @@ module _ (bytes : List ℕ) (fits : IsBytes bytes) where
       let takes = byte_taken bytes at x (a.1 ∙ ap Ok t.1) in
       record { takes = rw (byte_is x.0, some) takes; some_is = some }
   some_byte_taken false at x e =
-      subst (λ (y : ℕ × ℕ). SomeTaken false at y.0 y.1) (ok_is (number_pair 0 at) x e) (record { takes = record { parts = refl }; some_is = refl })
+      subst (λ (y : ℕ × ℕ). SomeTaken false at y.0 y.1) (ok_injective (number_pair 0 at) x e) (record { takes = record { parts = refl }; some_is = refl })
 
   packed_u32_taken : (at : ℕ) (x : ℕ × ℕ) → packed_u32_at bytes at ≡ Ok x → Takes bytes at (packed x.0) x.1
   unfolding packed_u32_at
@@ -62,7 +62,7 @@ module _ (bytes : List ℕ) (fits : IsBytes bytes) where
   packed_u32_if_taken : (there : Bool) (at : ℕ) (x : ℕ × ℕ) → packed_u32_if bytes there at ≡ Ok x → Takes bytes at (packed_if there x.0) x.1
   unfolding packed_u32_if
   packed_u32_if_taken true at x e = packed_u32_taken at x e
-  packed_u32_if_taken false at x e = subst (λ (y : ℕ × ℕ). Takes bytes at [] y.1) (ok_is (number_pair 0 at) x e) (record { parts = refl })
+  packed_u32_if_taken false at x e = subst (λ (y : ℕ × ℕ). Takes bytes at [] y.1) (ok_injective (number_pair 0 at) x e) (record { parts = refl })
 
   record HeadTaken (at : ℕ) (h : Head) (after : ℕ) : Type 0 where
     head : ℕ
@@ -78,7 +78,7 @@ module _ (bytes : List ℕ) (fits : IsBytes bytes) where
       let t = allow_ok (is_head b.0.0) at b.0 a.0 b.2 in
       let made : Head × ℕ = (head_of a.0.0, a.0.1) in
       let good : is_head a.0.0 ≡ true = subst (λ (y : ℕ × ℕ). is_head y.0 ≡ true) t.1 t.0 in
-      let is = ok_is made x a.2 in
+      let is = ok_injective made x a.2 in
       record {
         head = a.0.0;
         is = head_is a.0.0 good;
@@ -117,7 +117,7 @@ module _ (bytes : List ℕ) (fits : IsBytes bytes) where
       (packed_u32_if_taken (has_tag h.form) d.0.1 g.0 g.1)) size in
       let made : Op × ℕ = (op_of head b.0.0 c.0.0 d.0.0 g.0.0 s.0.0, s.0.1) in
       let spelled = op_spelled head b.0.0 c.0.0 d.0.0 g.0.0 s.0.0 good cpu.some_is nic.some_is in
-      subst (λ (y : Op × ℕ). Takes bytes at (packed_op y.0) y.1) {x = made} (ok_is made x s.2) (subst (λ (text : List ℕ). Takes bytes at text s.0.1) (sym spelled) all)
+      subst (λ (y : Op × ℕ). Takes bytes at (packed_op y.0) y.1) {x = made} (ok_injective made x s.2) (subst (λ (text : List ℕ). Takes bytes at text s.0.1) (sym spelled) all)
 
   pub packed_op_taken : (at : ℕ) (x : Op × ℕ) → packed_op_at bytes at ≡ Ok x → Takes bytes at (packed_op x.0) x.1
   unfolding packed_op_at
@@ -136,7 +136,7 @@ module _ (bytes : List ℕ) (fits : IsBytes bytes) where
       let second : Takes bytes a.0.1 (packed (2 * (number / 2) + when_code (when_of (number % 2)))) b.0.1 =
       subst (λ (n : ℕ). Takes bytes a.0.1 (packed n) b.0.1) (sym whole) (packed_taken bytes fits a.0.1 b.0 (packed_up_to_ok bytes 8589934591 a.0.1 b.0 b.1).0) in
       let made : Dep × ℕ = (record { later = a.0.0; earlier = number / 2; when = when_of (number % 2) }, b.0.1) in
-      subst (λ (y : Dep × ℕ). Takes bytes at (packed_dep y.0) y.1) {x = made} (ok_is made x b.2) (Takes-then bytes at (packed a.0.0) a.0.1 _ b.0.1 (packed_u32_taken at a.0 a.1) second)
+      subst (λ (y : Dep × ℕ). Takes bytes at (packed_dep y.0) y.1) {x = made} (ok_injective made x b.2) (Takes-then bytes at (packed a.0.0) a.0.1 _ b.0.1 (packed_u32_taken at a.0 a.1) second)
 
   pub packed_note_taken : (at : ℕ) (x : Note × ℕ) → packed_note_at bytes at ≡ Ok x → Takes bytes at (packed_note x.0) x.1
   unfolding packed_note_at packed_note
@@ -152,5 +152,5 @@ module _ (bytes : List ℕ) (fits : IsBytes bytes) where
       (Takes-then bytes at (a.0.0 ∷ []) a.0.1 _ b.0.1 (byte_taken bytes at a.0 k.0) (packed_u32_taken a.0.1 b.0 b.1))
       (packed_u32_taken b.0.1 c.0 c.1)) (packed_u32_taken c.0.1 d.0 d.1) in
       let made : Note × ℕ = (note_of a.0.0 b.0.0 c.0.0 d.0.0, d.0.1) in
-      subst (λ (y : Note × ℕ). Takes bytes at (packed_note y.0) y.1) {x = made} (ok_is made x d.2)
+      subst (λ (y : Note × ℕ). Takes bytes at (packed_note y.0) y.1) {x = made} (ok_injective made x d.2)
       (subst (λ (text : List ℕ). Takes bytes at text d.0.1) (sym (note_spelled a.0.0 b.0.0 c.0.0 d.0.0 k.1)) all)

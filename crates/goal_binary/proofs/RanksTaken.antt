@@ -16,7 +16,7 @@ use Rattle.goal_binary.specs.File.{spelled_u32, spelled_count, spelled_op, spell
 use Rattle.goal_binary.specs.Fields.{Read, count_at, opening_at, rank_count_at}
 use Rattle.goal_binary.specs.Reading.{list_at, op_at, dep_at, note_at, rank_at, ranks_at, records_at}
 use Rattle.goal_binary.specs.Meaning.{plans_at, meaning}
-use Rattle.goal_binary.proofs.Steps.{IsBytes, bind_ok, ok_is, Takes, Takes-then}
+use Rattle.goal_binary.proofs.Steps.{IsBytes, bind_ok, ok_injective, Takes, Takes-then}
 use Rattle.goal_binary.proofs.NumbersTaken.{number_taken, count_ok, rank_count_taken, opening_taken}
 use Rattle.goal_binary.proofs.ItemsTaken.{op_taken, dep_taken, note_taken}
 
@@ -37,14 +37,14 @@ module _ (bytes : List ℕ) where
       → (n at : ℕ) (x : List A × ℕ) → list_at item_at n at ≡ Ok x → Takes bytes at (flat_map spelled x.0) x.1 × (length x.0 ≡ n)
   unfolding list_at
   list_taken {A = A} item_at spelled each zero at x e =
-      subst (λ (y : List A × ℕ). Takes bytes at (flat_map spelled y.0) y.1 × (length y.0 ≡ 0)) {x = ([], at)} (ok_is ([], at) x e) (record { parts = refl }, refl)
+      subst (λ (y : List A × ℕ). Takes bytes at (flat_map spelled y.0) y.1 × (length y.0 ≡ 0)) {x = ([], at)} (ok_injective ([], at) x e) (record { parts = refl }, refl)
   list_taken {A = A} item_at spelled each (suc n) at x e =
       let a = bind_ok (item_at at) _ x e in
       let b = bind_ok (list_at item_at n a.0.1) _ x a.2 in
       let r = list_taken item_at spelled each n a.0.1 b.0 b.1 in
       let both = Takes-then bytes at (spelled a.0.0) a.0.1 (flat_map spelled b.0.0) b.0.1 (each at a.0 a.1) r.0 in
       let made : List A × ℕ = (a.0.0 ∷ b.0.0, b.0.1) in
-      subst (λ (y : List A × ℕ). Takes bytes at (flat_map spelled y.0) y.1 × (length y.0 ≡ suc n)) {x = made} (ok_is made x b.2) (rw flat_map-cons both, ap suc r.1)
+      subst (λ (y : List A × ℕ). Takes bytes at (flat_map spelled y.0) y.1 × (length y.0 ≡ suc n)) {x = made} (ok_injective made x b.2) (rw flat_map-cons both, ap suc r.1)
 
 module _ (bytes : List ℕ) (l : Layout) where
   pub record RanksTaken (n : ℕ) (before : List Plan) (at : ℕ) (plans : List Plan) (after : ℕ) : Type 0 where
@@ -93,7 +93,7 @@ module _ (bytes : List ℕ) (l : Layout) where
         let deps_taken = list_taken bytes (dep_at bytes l) (spelled_dep l) (dep_taken bytes fits l) b.0.0 os.0.1 ds.0 ds.1 in
         let notes_taken = list_taken bytes (note_at bytes l) (spelled_note l) (note_taken bytes fits l) c.0.0 ds.0.1 ns.0 ns.1 in
         let made : Plan × ℕ = (record { ops = os.0.0; deps = ds.0.0; notes = ns.0.0 }, ns.0.1) in
-        subst (λ (y : Plan × ℕ). Takes bytes at (spelled_rank l y.0) y.1) {x = made} (ok_is made x ns.2)
+        subst (λ (y : Plan × ℕ). Takes bytes at (spelled_rank l y.0) y.1) {x = made} (ok_injective made x ns.2)
         (parts_taken made.0 at c.0.1 os.0.1 ds.0.1 ns.0.1
         (counts_taken made.0 at a.0.1 b.0.1 c.0.1 (count_taken MAX_OPS ops at a.0 (length os.0.0) a.1 ops_taken.1) (count_taken MAX_DEPS deps a.0.1 b.0 (length ds.0.0) b.1 deps_taken.1)
         (count_taken MAX_NOTES notes b.0.1 c.0 (length ns.0.0) c.1 notes_taken.1)) ops_taken.0 deps_taken.0 notes_taken.0)
@@ -101,7 +101,7 @@ module _ (bytes : List ℕ) (l : Layout) where
     pub ranks_taken : (n : ℕ) (before : List Plan) (at : ℕ) (x : List Plan × ℕ) → ranks_at bytes l n before at ≡ Ok x → RanksTaken n before at x.0 x.1
     unfolding ranks_at
     ranks_taken zero before at x e =
-        let is = ok_is (before, at) x e in
+        let is = ok_injective (before, at) x e in
         record {
           new = [];
           is = ap (λ (y : List Plan × ℕ). y.0) (sym is) ∙ sym (append-nil before);

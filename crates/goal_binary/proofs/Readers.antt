@@ -7,7 +7,7 @@ use Rattle.goal_binary.specs.declared.fault.FileFault.TheVariants.{Short, Magic,
 use Rattle.goal_binary.specs.declared.layout.Layout.{Layout}
 use Rattle.goal_binary.specs.Fields.{Read, ◌>>=◌, allow}
 use Rattle.goal_binary.specs.Laws.{IsWidth}
-use Rattle.goal_binary.proofs.Steps.{IsBytes, bind_ok, ok_is}
+use Rattle.goal_binary.proofs.Steps.{IsBytes, bind_ok, ok_injective}
 
 abbrev pub Reader : Type 0 → Type 0
 Reader A = List ℕ → ℕ → Read A
@@ -89,9 +89,9 @@ Halts-map P R bytes at from place width NoMemory h f = h
 
 module _ {l : Layout} {A : Type 0} {B : Type 0} {V : A → Type 0} {W : B → Type 0} {P : Reader A} {Q : A → Reader B} (first : Reads l V P) (second : (x : A) → V x → Reads l W (Q x)) where
   -- what the first reader gives is followed by what the second gives
-  join : (at : ℕ) (front : List ℕ) → at ≤ length front → Completed P at front → Completed (then P Q) at front
+  completed_then : (at : ℕ) (front : List ℕ) → at ≤ length front → Completed P at front → Completed (then P Q) at front
   unfolding then
-  join at front le c =
+  completed_then at front le c =
       let longer = front ++ c.tail in
       let len = length-append front c.tail in
       let v = first.inside longer at c.value (length longer) (omega (arith, len)) c.is in
@@ -132,7 +132,7 @@ module _ {l : Layout} {A : Type 0} {B : Type 0} {V : A → Type 0} {W : B → Ty
         from = s.from;
         within = s.within;
         is_width = s.is_width;
-        done = join at (take s.place bytes) (omega (arith, length-take s.place bytes, s.from, s.within)) s.done;
+        done = completed_then at (take s.place bytes) (omega (arith, length-take s.place bytes, s.from, s.within)) s.done;
         how = Halts-map P (then P Q) bytes at at s.place s.width fault s.how (λ other same wide stopped. bind_err (P other at) (λ x. Q x.0 other x.1) fault stopped);
       }
 
@@ -166,7 +166,7 @@ module _ {l : Layout} {A : Type 0} {B : Type 0} {V : A → Type 0} {W : B → Ty
   then_reads = record {
     inside = both_inside;
     same = both_same;
-    starts = λ front. join (length front) front (omega arith) (first.starts front);
+    starts = λ front. completed_then (length front) front (omega arith) (first.starts front);
     stops = both_stop;
   }
 
@@ -174,7 +174,7 @@ module _ {l : Layout} {A : Type 0} {V : A → Type 0} where
   pub give_reads : (x : A) → V x → Reads l V (give x)
   unfolding give
   give_reads x v = record {
-    inside = λ bytes at y after le e. let is = ok_is (x, at) (y, after) e in
+    inside = λ bytes at y after le e. let is = ok_injective (x, at) (y, after) e in
         (omega (arith, ap (λ (p : A × ℕ). p.1) is), omega (arith, ap (λ (p : A × ℕ). p.1) is), subst V (ap (λ (p : A × ℕ). p.0) is) v);
     same = λ bytes other at y after le e same. e;
     starts = λ front. record { tail = []; fits = λ i. omega arith; value = x; is = ap (λ (bytes : List ℕ). Ok (x, length bytes)) (sym (append-nil front)) };

@@ -11,7 +11,7 @@ use Rattle.goal_binary.specs.declared.layout.Layout.{Layout}
 use Rattle.goal_binary.specs.declared.layout.Layout.TheVariants.{Fixed, Packed}
 use Rattle.goal_binary.specs.File.{written, file, old}
 use Rattle.goal_binary.specs.Meaning.{meaning, IsFaultOf, IsFileFault}
-use Rattle.goal_binary.proofs.Steps.{IsBytes, ok_is}
+use Rattle.goal_binary.proofs.Steps.{IsBytes, ok_injective}
 use Rattle.goal_binary.proofs.RanksTaken.{meaning_taken}
 use Rattle.goal_binary.proofs.RanksAgain.{meaning_again}
 
@@ -41,7 +41,7 @@ pub is_again : (bytes : List ℕ) (r : Result (List Plan) FileFault) → IfOk r 
 is_again bytes r said told plans accepted widths one = go r said told (means one)
   where
     go : (r : Result (List Plan) FileFault) → IfOk r (λ plans. meaning bytes ≡ Ok plans) → IfErr r (λ f. f ≢ fault.NoMemory → IsFileFault bytes f) → meaning bytes ≡ Ok plans → IfOk r (λ found. found ≡ plans) × IsOkUnless r fault.NoMemory
-    go (Ok found) said told means = (ok_is found plans (sym said ∙ means), tt)
+    go (Ok found) said told means = (ok_injective found plans (sym said ∙ means), tt)
     go (Err f) said told means = (tt, only_memory plans f accepted (λ other. subst (λ m. IsFaultOf m f) means (told other)))
 
     means : (bytes ≡ file plans) ⊎ (bytes ≡ old plans) → meaning bytes ≡ Ok plans

@@ -16,11 +16,11 @@ pub allow_ok : {A : Type 0} (b : Bool) (at : ℕ) (x y : A) → allow b at x ≡
 allow_ok true at x y e = (refl, cc)
 allow_ok false at x y e = absurd cc
 
-abbrev done : {A : Type 0} → A → Result A FileFault
-done x = Ok x
+abbrev ok_result : {A : Type 0} → A → Result A FileFault
+ok_result x = Ok x
 
-pub ok_is : {A : Type 0} (x y : A) → done x ≡ done y → x ≡ y
-ok_is x y e = cc
+pub ok_injective : {A : Type 0} (x y : A) → ok_result x ≡ ok_result y → x ≡ y
+ok_injective x y e = cc
 
 -- what a reader takes, from one place to the place after it
 pub record Takes (bytes : List ℕ) (at : ℕ) (text : List ℕ) (after : ℕ) : Type 0 where
