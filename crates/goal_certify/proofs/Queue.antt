@@ -11,7 +11,7 @@ use Rattle.goal_graph.specs.Order.{IsBefore}
 use Rattle.goal_graph.specs.Interleaving.{IsInterleaving, IsCompleteInterleaving}
 use Rattle.goal_graph.proofs.ForCallers.{cases_op, same_op_false, allowed_listed, one_allowed, allowed_stays, operations_in_order, other_place, find_class}
 use Rattle.goal_blocks.specs.Walk.{no_send, ComesFirst}
-use Rattle.sim_heaps.specs.Map.{key_at, IsEmptyMap, IsLeast}
+use Rattle.sim_queue.specs.Map.{key_at, IsEmptyMap, IsLeast}
 use Rattle.goal_certify.specs.WalkQueue.{may_act, IsIdle, IsChoice, IsKeyOf, IsQueueBut, IsQueue, IsRefreshed, IsMoved}
 use Rattle.goal_certify.proofs.Moved.{newly_moved}
 use Rattle.std.proofs.lemmas.Bool.{false_from_ne_true, and_right}

@@ -14,7 +14,7 @@ use Rattle.goal_graph.specs.Concerned.{waiting_on}
 use Rattle.goal_graph.specs.Matching.{pairs, partner}
 use Rattle.goal_graph.specs.Allowed.{allowed, first_class, last_class}
 use Rattle.goal_blocks.specs.Walk.{no_send, TakesFirst}
-use Rattle.sim_heaps.specs.Map.{key_at}
+use Rattle.sim_queue.specs.Map.{key_at}
 use Rattle.goal_certify.specs.declared.walk.cursor.Cursor.{Cursor}
 use Rattle.goal_certify.specs.Cursors as progress
 

@@ -6,7 +6,7 @@ use Rattle.std.proofs.lemmas.Bool.{cases_eq}
 use Rattle.std.proofs.lemmas.List.{get_or-set_same, get_or-set_other}
 use Rattle.std.proofs.lemmas.List.Sums.{sum_by-cons, count_by-le-length}
 use Rattle.goal_graph.specs.declared.action.Timed.{Timed}
-use Rattle.sim_heaps.specs.Map.{key_at, IsEmptyMap}
+use Rattle.sim_queue.specs.Map.{key_at, IsEmptyMap}
 use Rattle.sim_stations.specs.Stations.{Stationed, count_ahead, cost_of_waiting}
 use Rattle.sim_events.specs.Comparisons.{cost_of_key, spent}
 

@@ -23,7 +23,7 @@ use Rattle.sim_params.specs.Run.{IsNext, IsRun, IsFinished}
 use Rattle.sim_params.specs.Laws.{HasBound}
 use Rattle.sim_params.proofs.ForCallers.{run_interleaving, least_is_next}
 use Rattle.sim_order.specs.Events.{event_before}
-use Rattle.sim_heaps.specs.Map.{key_at, IsEmptyMap, IsLeast}
+use Rattle.sim_queue.specs.Map.{key_at, IsEmptyMap, IsLeast}
 use Rattle.sim_stations.specs.Stations.{Stationed, waits_for_room, pair_at, pair_of, held, when_free, both_free, at_time, DoExist, AreOfSlots}
 use Rattle.sim_stations.specs.declared.pair.Pair.{Pair}
 use Rattle.sim_stations.specs.declared.key_place.KeyPlace.TheVariants.{Nowhere}

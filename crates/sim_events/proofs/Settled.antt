@@ -8,7 +8,7 @@ use Rattle.goal_graph.specs.Schedule.{Plan, operations}
 use Rattle.sim_params.specs.Costs.{CostModel}
 use Rattle.sim_params.specs.Times.{cpu, Possible}
 use Rattle.sim_params.specs.Run.{IsRun}
-use Rattle.sim_heaps.specs.Map.{key_at}
+use Rattle.sim_queue.specs.Map.{key_at}
 use Rattle.sim_stations.specs.Stations.{Stationed, waits_for_room, when_free, pair_of}
 use Rattle.sim_state.specs.Free.{side}
 use Rattle.sim_events.specs.Comparisons.{spent}

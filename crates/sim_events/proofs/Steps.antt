@@ -8,7 +8,7 @@ use Rattle.sim_params.specs.Run.{IsNext, IsRun, IsFinished}
 use Rattle.sim_stations.specs.Stations.{Stationed, pair_of, IsLater}
 use Rattle.sim_state.specs.Free.{side}
 use Rattle.sim_params.specs.Times.{cpu}
-use Rattle.sim_heaps.specs.Map.{IsEmptyMap}
+use Rattle.sim_queue.specs.Map.{IsEmptyMap}
 use Rattle.sim_state.specs.Engine.{RunSoFar}
 use Rattle.sim_events.specs.Queue.{IsQueue, IsQueueBut, IsSettledBy, IsDueAfter}
 use Rattle.sim_state.proofs.ForCallers.{possible_exists}

@@ -19,7 +19,7 @@ pub use Rattle.sim_params.specs.Costs
 pub use Rattle.sim_params.specs.Run
 pub use Rattle.sim_params.specs.Times
 pub use Rattle.sim_stations.specs.Stations as Stationing
-pub use Rattle.sim_heaps.specs.Map
+pub use Rattle.sim_queue.specs.Map
 pub use Rattle.sim_state.specs.Awaited
 pub use Rattle.sim_state.specs.Enabled
 pub use Rattle.sim_state.specs.Engine

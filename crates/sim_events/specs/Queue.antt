@@ -10,7 +10,7 @@ use Rattle.goal_graph.specs.Schedule.{Plan, needed, operations}
 use Rattle.goal_graph.specs.Concerned.{waiting_on}
 use Rattle.sim_params.specs.Costs.{CostModel}
 use Rattle.sim_params.specs.Times.{mate, cpu, Possible}
-use Rattle.sim_heaps.specs.Map.{key_at}
+use Rattle.sim_queue.specs.Map.{key_at}
 use Rattle.sim_stations.specs.Stations.{Stationed, waits_for_room, when_free, held, pair_of, DoExist}
 use Rattle.sim_stations.specs.Moves.{HaveReturned, held_once_more}
 use Rattle.sim_state.specs.Enabled.{IsIdle, IsEnabledActionOf}

@@ -6,7 +6,7 @@ ghost use Rattle.goal_graph.specs.Concerned.{waiting_on};
 ghost use Rattle.goal_graph.specs.Fault.{IsOp};
 ghost use Rattle.sim_params.specs.Times.{mate, cpu};
 ghost use Rattle.sim_params.specs.Run.{IsNext, IsFinished};
-ghost use Rattle.sim_heaps.specs.Map.{key_at, IsEmptyMap};
+ghost use Rattle.sim_queue.specs.Map.{key_at, IsEmptyMap};
 ghost use Rattle.sim_stations.specs.Stations.{waits_for_room, pair_of, IsLater, cost_of_waiting, cost_of_moves};
 ghost use Rattle.sim_state.specs.Free.{side};
 ghost use Rattle.sim_events.specs.Comparisons.{spent};

@@ -3,7 +3,7 @@ ghost use Rattle.std.specs.Prelude.{◌≡◌, ℕ, ◌<◌, ◌≤◌, ◌+◌,
 ghost use Rattle.goal_graph.specs.Schedule.{operations};
 ghost use Rattle.sim_params.specs.Costs.{CostModel};
 ghost use Rattle.sim_params.specs.Run.{IsRun, IsCompleteRun};
-ghost use Rattle.sim_heaps.specs.Map.{IsEmptyMap};
+ghost use Rattle.sim_queue.specs.Map.{IsEmptyMap};
 ghost use Rattle.sim_stations.specs.Stations.{cost_of_waiting};
 ghost use Rattle.sim_events.specs.Queue.{IsOfSchedule};
 ghost use Rattle.sim_events.specs.Comparisons.{spent, count_of, last_look};

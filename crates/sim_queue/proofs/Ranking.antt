@@ -13,15 +13,15 @@ use Rattle.goal_graph.specs.Fault.{op_count}
 use Rattle.goal_graph.specs.Limits.{AreCountsWithin}
 use Rattle.goal_graph.proofs.ForCallers.{ops_at_some, length-places_of_rank}
 use Rattle.sim_order.specs.Order.{IsOrder}
-use Rattle.sim_heaps.specs.declared.home.PlaceInGroup.{PlaceInGroup}
-use Rattle.sim_heaps.specs.Map.{key_at, IsEmptyMap, IsLeast, no_keys}
-use Rattle.sim_heaps.specs.Groups.{Grouped, AreHomes, heap_at, key_of_home, group_of_home}
+use Rattle.sim_queue.specs.declared.home.PlaceInGroup.{PlaceInGroup}
+use Rattle.sim_queue.specs.Map.{key_at, IsEmptyMap, IsLeast, no_keys}
+use Rattle.sim_queue.specs.Groups.{Grouped, AreHomes, heap_at, key_of_home, group_of_home}
 use Rattle.sim_queue.specs.Ranked.{size_of}
 use Rattle.sim_queue.specs.Ranks.{home_of, ranked, IsHeadOf, IsTold, IsRanked}
-use Rattle.sim_heaps.proofs.ForCallers.{through}
-use Rattle.sim_heaps.proofs.ForCallers.{key_at_home, changed, still_housed}
-use Rattle.sim_heaps.proofs.ForCallers.{none_of}
-use Rattle.sim_heaps.proofs.ForCallers.{none_at, empty_housed, empty_grouped}
+use Rattle.sim_queue.proofs.ForCallers.{through}
+use Rattle.sim_queue.proofs.ForCallers.{key_at_home, changed, still_housed}
+use Rattle.sim_queue.proofs.ForCallers.{none_of}
+use Rattle.sim_queue.proofs.ForCallers.{none_at, empty_housed, empty_grouped}
 
 abbrev place : ℕ → ℕ → OpId
 place rank op = record { rank = rank; op = op }

@@ -3,7 +3,7 @@ use Rattle.std.proofs.Common.{◌≡◌, ℕ, ◌≤◌, ◌↔◌, Bool, List, 
 use Rattle.std.proofs.lemmas.List.{get_or_past}
 use Rattle.std.proofs.lemmas.Bool.{cases_order}
 use Rattle.sim_order.specs.Order.{IsOrder}
-use Rattle.sim_heaps.specs.Map.{key_at, IsEmptyMap, IsLeast}
+use Rattle.sim_queue.specs.Map.{key_at, IsEmptyMap, IsLeast}
 use Rattle.sim_queue.specs.Scan.{IsBestBelow}
 
 module _ {K : Type 0} (before : K → K → Bool) (laws : IsOrder before) (keys : List (Option K)) where

@@ -1,9 +1,9 @@
 -- A heap for each rank, and a heap of ranks with the least key of each.
 use Rattle.std.specs.Prelude.{◌≡◌, ◌+◌, ◌<◌, ℕ, Bool, List, Option, Some, None, length, map, slice_get, slice_index, slice_set}
 use Rattle.goal_graph.specs.declared.action.OpId.{OpId}
-use Rattle.sim_heaps.specs.declared.home.PlaceInGroup.{PlaceInGroup}
-use Rattle.sim_heaps.specs.Map.{key_at, IsEmptyMap, IsLeast}
-use Rattle.sim_heaps.specs.Groups.{IsHoused, heap_at, key_of_home}
+use Rattle.sim_queue.specs.declared.home.PlaceInGroup.{PlaceInGroup}
+use Rattle.sim_queue.specs.Map.{key_at, IsEmptyMap, IsLeast}
+use Rattle.sim_queue.specs.Groups.{IsHoused, heap_at, key_of_home}
 use Rattle.sim_queue.specs.Ranked.{Ranked}
 
 -- the home of an operation: the heap of its rank, at its number

@@ -1,6 +1,6 @@
 -- The least key, found slot by slot.
 use Rattle.std.specs.Prelude.{◌≡◌, ℕ, ◌<◌, Bool, false, List, Option, Some, None, MatchOption, if◌then◌else◌}
-use Rattle.sim_heaps.specs.Map.{key_at}
+use Rattle.sim_queue.specs.Map.{key_at}
 
 module _ {K : Type 0} (before : K → K → Bool) where
   -- the lesser of the best slot so far and another; the best so far if neither is less

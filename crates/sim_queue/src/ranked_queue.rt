@@ -1,14 +1,14 @@
 //! A heap of operations per rank, and a heap of ranks.
 ghost use Rattle.std.specs.Prelude.{◌≡◌, ◌+◌, ◌*◌, ◌^◌, ◌<◌, ◌≤◌, ◌↔◌, ℕ, All, IfOk, IfSome, IsNone, Some, None, length, map, replicate, slice_index, slice_set, sum, take};
 ghost use Rattle.goal_graph.specs.Schedule.{operations};
-ghost use Rattle.sim_heaps.specs.Map.{IsEmptyMap, IsLeast, no_keys};
+ghost use Rattle.sim_queue.specs.Map.{IsEmptyMap, IsLeast, no_keys};
 ghost use Rattle.sim_queue.specs.Ranked.{size_of};
 ghost use Rattle.sim_queue.specs.Ranks.{home_of, IsTold};
-ghost use Rattle.sim_heaps.specs.Groups.{heap_at};
+ghost use Rattle.sim_queue.specs.Groups.{heap_at};
 
+use crate::{EventQueue, PlaceInGroup, SlotHeap};
 use goal_graph::Sched;
 use goal_limits::NoMemory;
-use sim_heaps::{EventQueue, PlaceInGroup, SlotHeap};
 use sim_order::{EventOrder, Steps};
 use std::alloc::Global;
 use std::marker::Model;

@@ -2,8 +2,8 @@
 ghost use Rattle.std.specs.Prelude.{◌≡◌, ◌+◌, ◌<◌, ◌≤◌, IfOk, length, slice_set};
 ghost use Rattle.sim_queue.specs.Row.{keyed, twelve_keys};
 
+use crate::{EventQueue, SlotHeap};
 use goal_limits::NoMemory;
-use sim_heaps::{EventQueue, SlotHeap};
 use sim_order::{Counted, Steps};
 use std::alloc::Global;
 use std::sync::ledger::Ledger;

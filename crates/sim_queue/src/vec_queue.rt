@@ -2,8 +2,8 @@
 ghost use Rattle.std.specs.Prelude.{◌≡◌, ◌<◌, ◌≤◌, ◌^◌, Some, None, IfOk, length, replicate, slice_set, vec_len};
 ghost use Rattle.sim_queue.specs.Scan.{lesser};
 
+use crate::EventQueue;
 use goal_limits::NoMemory;
-use sim_heaps::EventQueue;
 use sim_order::{EventOrder, Steps};
 use std::alloc::Global;
 use std::marker::Model;

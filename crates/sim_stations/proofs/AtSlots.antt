@@ -7,12 +7,12 @@ use Rattle.std.proofs.lemmas.List.FromFn.{length-enumerate_from, get_or-enumerat
 use Rattle.std.proofs.lemmas.List.Elements.{All-get_or, All-replicate}
 use Rattle.std.proofs.lemmas.List.Sums.{count_by-le-length}
 use Rattle.std.proofs.lemmas.Option.{same_Some, slice_get-get_or, slice_get_within, slice_get-map, get_or_from_slice_get}
-use Rattle.sim_heaps.specs.declared.home.PlaceInGroup.{PlaceInGroup}
-use Rattle.sim_heaps.specs.Map.{key_at, no_keys}
-use Rattle.sim_heaps.specs.Groups.{Grouped, IsHoused, AreHomes, heap_at, with_key, key_of_home, group_of_home, grouped}
+use Rattle.sim_queue.specs.declared.home.PlaceInGroup.{PlaceInGroup}
+use Rattle.sim_queue.specs.Map.{key_at, no_keys}
+use Rattle.sim_queue.specs.Groups.{Grouped, IsHoused, AreHomes, heap_at, with_key, key_of_home, group_of_home, grouped}
 use Rattle.sim_stations.specs.AtSlots.{AreCounts, AreHousedAtSlots, at_home, homes_at_slots, grouped_at_slots}
-use Rattle.sim_heaps.proofs.ForCallers.{changed, still_housed}
-use Rattle.sim_heaps.proofs.ForCallers.{empty_housed, empty_grouped}
+use Rattle.sim_queue.proofs.ForCallers.{changed, still_housed}
+use Rattle.sim_queue.proofs.ForCallers.{empty_housed, empty_grouped}
 use Rattle.sim_stations.proofs.Rooms.{AreOnlyOf, keys_below}
 
 mapped_replicate : {X Y : Type 0} (f : X → Y) (n : ℕ) (x : X) → map f (replicate n x) ≡ replicate n (f x)

@@ -7,9 +7,9 @@ use Rattle.std.proofs.lemmas.List.{get_or_past, get_or-set_same, get_or-set_othe
 use Rattle.std.proofs.lemmas.Option.{same_Some}
 use Rattle.goal_graph.specs.declared.action.Timed.{Timed}
 use Rattle.sim_order.specs.Events.{event_before}
-use Rattle.sim_heaps.specs.Map.{key_at, IsSoleLeast}
-use Rattle.sim_heaps.proofs.ForCallers.{key_within}
-use Rattle.sim_heaps.specs.Groups.{Grouped, IsEmptyGroup, IsLeastOf, IsSoleLeastOf}
+use Rattle.sim_queue.specs.Map.{key_at, IsSoleLeast}
+use Rattle.sim_queue.proofs.ForCallers.{key_within}
+use Rattle.sim_queue.specs.Groups.{Grouped, IsEmptyGroup, IsLeastOf, IsSoleLeastOf}
 use Rattle.sim_stations.specs.declared.pair.Pair.{Pair}
 use Rattle.sim_stations.specs.declared.key_place.KeyPlace.{KeyPlace}
 use Rattle.sim_stations.specs.declared.key_place.KeyPlace.TheVariants.{Nowhere, Ahead, Waiting}

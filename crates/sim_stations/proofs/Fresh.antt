@@ -6,11 +6,11 @@ use Rattle.std.proofs.lemmas.Option.{same_Some}
 use Rattle.goal_limits.specs.declared.limits.TheConstants.{MAX_OPS}
 use Rattle.goal_graph.specs.declared.action.Timed.{Timed}
 use Rattle.sim_order.specs.Events.{event_before}
-use Rattle.sim_heaps.specs.Heap.{keys_of, IsSlotHeap}
-use Rattle.sim_heaps.specs.Item.{Item}
-use Rattle.sim_heaps.specs.Map.{key_at, no_keys}
-use Rattle.sim_heaps.specs.TopHeap.{placed}
-use Rattle.sim_heaps.proofs.ForCallers.{none_of, none_there}
+use Rattle.sim_queue.specs.Heap.{keys_of, IsSlotHeap}
+use Rattle.sim_queue.specs.Item.{Item}
+use Rattle.sim_queue.specs.Map.{key_at, no_keys}
+use Rattle.sim_queue.specs.TopHeap.{placed}
+use Rattle.sim_queue.proofs.ForCallers.{none_of, none_there}
 use Rattle.sim_stations.specs.declared.parts.Part.{Part}
 use Rattle.sim_stations.specs.Parts.{room_of, places_of, keyed_of, map_of_slots, maps_of_slots, map_of_items, maps_of_items, roomed, ArePacked, AreWithoutKeys, IsInOrder, AreSlotHeaps, AreItemHeaps}
 use Rattle.sim_stations.proofs.InParts.{put_mid, length-places, part_written, places_elsewhere}

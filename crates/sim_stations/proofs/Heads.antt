@@ -2,8 +2,8 @@
 use Rattle.std.proofs.Common.{◌≡◌, ℕ, false, Option, Some, None, slice_get, nat_lt, refl, sym, ap, ◌∙◌, arith, le-ltb}
 use Rattle.goal_graph.specs.declared.action.Timed.{Timed}
 use Rattle.sim_order.specs.Events.{event_before}
-use Rattle.sim_heaps.specs.Map.{key_at}
-use Rattle.sim_heaps.specs.Groups.{Grouped, IsEmptyGroup, IsLeastOf}
+use Rattle.sim_queue.specs.Map.{key_at}
+use Rattle.sim_queue.specs.Groups.{Grouped, IsEmptyGroup, IsLeastOf}
 use Rattle.sim_stations.specs.Stations.{at_time}
 use Rattle.sim_stations.specs.Rows.{IsHead}
 

@@ -6,7 +6,7 @@ use Rattle.std.proofs.lemmas.List.{length-drop, length-take-le, length-append, t
 use Rattle.std.proofs.lemmas.Option.{same_Some, slice_get-get_or, slice_get_within, get_or_from_slice_get}
 use Rattle.std.proofs.lemmas.Slice.{between_is, take-put_mid_below, drop-put_mid}
 pub use borrow.Rule.Slice.PartMut.{put_mid, post_of}
-use Rattle.sim_heaps.proofs.ForCallers.{get_added, get_before_added, get_set_same, get_set_other}
+use Rattle.sim_queue.proofs.ForCallers.{get_added, get_before_added, get_set_same, get_set_other}
 use Rattle.sim_stations.specs.declared.parts.Part.{Part}
 use Rattle.sim_stations.specs.Parts.{places_of, keyed_of, ArePacked, AreWithoutKeys}
 

@@ -4,8 +4,8 @@ use Rattle.std.proofs.lemmas.Bool.{cases_eq}
 use Rattle.std.proofs.lemmas.List.{get_or-set_same, get_or-set_other, get_or_read, length-set}
 use Rattle.std.proofs.lemmas.Option.{same_Some, slice_get-get_or, slice_get_within, get_or_from_slice_get}
 use Rattle.goal_graph.specs.declared.action.Timed.{Timed}
-use Rattle.sim_heaps.specs.Map.{key_at}
-use Rattle.sim_heaps.specs.Groups.{Grouped}
+use Rattle.sim_queue.specs.Map.{key_at}
+use Rattle.sim_queue.specs.Groups.{Grouped}
 use Rattle.sim_stations.specs.declared.pair.Pair.{Pair}
 use Rattle.sim_stations.specs.Stations.{pair_at, held}
 use Rattle.sim_stations.specs.Rows.{place_in, side_of, seen, turned_at, IsHead, IsTold, AreBothTold, IsInRows, AreHeads}

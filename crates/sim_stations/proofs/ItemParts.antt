@@ -6,11 +6,11 @@ use Rattle.goal_limits.specs.declared.limits.TheConstants.{MAX_OPS}
 use Rattle.goal_graph.specs.declared.action.Timed.{Timed}
 use Rattle.sim_order.specs.Events.{event_before}
 use Rattle.sim_order.specs.EventLaws.{event_laws}
-use Rattle.sim_heaps.specs.Item.{Item}
-use Rattle.sim_heaps.specs.Map.{key_at, IsSoleLeast}
-use Rattle.sim_heaps.specs.Places.{AreOrdered, AreOrderedBut}
-use Rattle.sim_heaps.specs.TopHeap.{placed, key_there, AreApart, AreMoved, IsTopHeap}
-use Rattle.sim_heaps.proofs.ForCallers.{added_apart, added_placed, added_ordered, taken_apart, taken_placed, taken_ordered, emptied_placed, none_of}
+use Rattle.sim_queue.specs.Item.{Item}
+use Rattle.sim_queue.specs.Map.{key_at, IsSoleLeast}
+use Rattle.sim_queue.specs.Places.{AreOrdered, AreOrderedBut}
+use Rattle.sim_queue.specs.TopHeap.{placed, key_there, AreApart, AreMoved, IsTopHeap}
+use Rattle.sim_queue.proofs.ForCallers.{added_apart, added_placed, added_ordered, taken_apart, taken_placed, taken_ordered, emptied_placed, none_of}
 use Rattle.sim_stations.specs.Parts.{all_but_last}
 
 module _ {X : Type 0} (xs : List X) (some : 0 < length xs) where

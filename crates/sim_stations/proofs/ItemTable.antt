@@ -6,12 +6,12 @@ use Rattle.std.proofs.lemmas.Option.{slice_get_within, get_or_from_slice_get}
 use Rattle.goal_graph.specs.declared.action.Timed.{Timed}
 use Rattle.sim_order.specs.Events.{event_before}
 use Rattle.sim_order.specs.EventLaws.{event_laws}
-use Rattle.sim_heaps.specs.Item.{Item}
-use Rattle.sim_heaps.specs.Map.{IsEmptyMap, IsLeast}
-use Rattle.sim_heaps.specs.TopHeap.{placed, IsTopHeap}
-use Rattle.sim_heaps.proofs.ForCallers.{length-placed, empty_items, top_is_least}
+use Rattle.sim_queue.specs.Item.{Item}
+use Rattle.sim_queue.specs.Map.{IsEmptyMap, IsLeast}
+use Rattle.sim_queue.specs.TopHeap.{placed, IsTopHeap}
+use Rattle.sim_queue.proofs.ForCallers.{length-placed, empty_items, top_is_least}
 use Rattle.sim_stations.specs.declared.parts.Part.{Part}
-use Rattle.sim_heaps.specs.Groups.{heap_at, with_key}
+use Rattle.sim_queue.specs.Groups.{heap_at, with_key}
 use Rattle.sim_stations.specs.AtSlots.{at_home}
 use Rattle.sim_stations.specs.Parts.{room_of, keyed_of, all_but_last, ArePacked, map_of_items, maps_of_items, roomed, AreItemHeaps}
 use Rattle.sim_stations.proofs.InParts.{put_mid, part_written, length-keyed, first_keyed, map_written, counting, part_after, packed_after, length-written, keyed_elsewhere}

@@ -9,9 +9,9 @@ use Rattle.goal_graph.specs.Schedule.{Plan, operations}
 use Rattle.goal_graph.proofs.ForCallers.{other_place}
 use Rattle.sim_order.specs.Events.{event_before}
 use Rattle.sim_order.specs.EventLaws.{event_laws}
-use Rattle.sim_heaps.specs.Map.{key_at, IsEmptyMap, IsLeast, IsSoleLeast}
-use Rattle.sim_heaps.proofs.ForCallers.{through, key_within}
-use Rattle.sim_heaps.specs.Groups.{Grouped, IsLeastOf, IsSoleLeastOf}
+use Rattle.sim_queue.specs.Map.{key_at, IsEmptyMap, IsLeast, IsSoleLeast}
+use Rattle.sim_queue.proofs.ForCallers.{through, key_within}
+use Rattle.sim_queue.specs.Groups.{Grouped, IsLeastOf, IsSoleLeastOf}
 use Rattle.sim_stations.specs.declared.pair.Pair.{Pair}
 use Rattle.sim_stations.specs.declared.key_place.KeyPlace.{KeyPlace}
 use Rattle.sim_stations.specs.Stations.{waits_for_room, at_time, both_free, earliest, when_free, pair_at, AreOfSlots}

@@ -6,10 +6,10 @@ use Rattle.std.proofs.lemmas.List.{get_or-set_same, get_or-set_other, length-set
 use Rattle.std.proofs.lemmas.List.Sums.{sum_by-cons, sum_by-set, count_by_more_yes, count_by_more_no}
 use Rattle.std.proofs.lemmas.Option.{same_Some}
 use Rattle.goal_graph.specs.declared.action.Timed.{Timed}
-use Rattle.sim_heaps.specs.Item.{Item}
-use Rattle.sim_heaps.specs.Map.{key_at}
-use Rattle.sim_heaps.specs.TopHeap.{placed, AreApart}
-use Rattle.sim_heaps.proofs.ForCallers.{length-placed}
+use Rattle.sim_queue.specs.Item.{Item}
+use Rattle.sim_queue.specs.Map.{key_at}
+use Rattle.sim_queue.specs.TopHeap.{placed, AreApart}
+use Rattle.sim_queue.proofs.ForCallers.{length-placed}
 use Rattle.sim_stations.specs.AtSlots.{members, AreCounts}
 use Rattle.sim_stations.proofs.ItemParts.{absent}
 

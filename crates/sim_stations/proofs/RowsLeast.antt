@@ -5,9 +5,9 @@ use Rattle.std.proofs.lemmas.Option.{same_Some, slice_get-get_or}
 use Rattle.goal_graph.specs.declared.action.Timed.{Timed}
 use Rattle.sim_order.specs.Events.{event_before}
 use Rattle.sim_order.specs.EventLaws.{event_laws}
-use Rattle.sim_heaps.specs.Map.{key_at, IsEmptyMap, IsLeast}
-use Rattle.sim_heaps.proofs.ForCallers.{through, key_within}
-use Rattle.sim_heaps.specs.Groups.{Grouped, IsLeastOf}
+use Rattle.sim_queue.specs.Map.{key_at, IsEmptyMap, IsLeast}
+use Rattle.sim_queue.proofs.ForCallers.{through, key_within}
+use Rattle.sim_queue.specs.Groups.{Grouped, IsLeastOf}
 use Rattle.sim_stations.specs.declared.pair.Pair.{Pair}
 use Rattle.sim_stations.specs.Stations.{at_time, pair_at}
 use Rattle.sim_stations.specs.Rows.{Rowed, place_in, side_of, seen, turned_at, shown, IsFirst, IsHead, IsInRows, AreHeads}

@@ -3,9 +3,9 @@ use Rattle.std.proofs.Common.{◌≡◌, ◌*◌, ◌<◌, ◌^◌, ℕ, Bool, t
 use Rattle.std.proofs.lemmas.List.{length-replicate}
 use Rattle.std.proofs.lemmas.Option.{slice_get-get_or}
 use Rattle.goal_graph.specs.declared.action.Timed.{Timed}
-use Rattle.sim_heaps.specs.Map.{no_keys}
-use Rattle.sim_heaps.proofs.ForCallers.{none_of, same_maps}
-use Rattle.sim_heaps.specs.Groups.{Grouped}
+use Rattle.sim_queue.specs.Map.{no_keys}
+use Rattle.sim_queue.proofs.ForCallers.{none_of, same_maps}
+use Rattle.sim_queue.specs.Groups.{Grouped}
 use Rattle.sim_stations.specs.declared.pair.Pair.{Pair}
 use Rattle.sim_stations.specs.Stations.{DoExist}
 use Rattle.sim_stations.specs.Rows.{Rowed, sides, place_in, side_of, seen, turned_at, IsHead, IsInRows, AreHeads}

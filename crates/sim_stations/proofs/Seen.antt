@@ -3,8 +3,8 @@ use Rattle.std.proofs.Common.{◌≡◌, ◌≢◌, ◌⊎◌, ◌*◌, ◌<◌,
 use Rattle.std.proofs.lemmas.Bool.{cases_eq}
 use Rattle.std.proofs.lemmas.List.{get_or-set_same, get_or-set_other, length-set}
 use Rattle.goal_graph.specs.declared.action.Timed.{Timed}
-use Rattle.sim_heaps.specs.Map.{key_at}
-use Rattle.sim_heaps.proofs.ForCallers.{same_maps}
+use Rattle.sim_queue.specs.Map.{key_at}
+use Rattle.sim_queue.proofs.ForCallers.{same_maps}
 use Rattle.sim_stations.specs.Rows.{place_in, seen, turned_at}
 use Rattle.sim_stations.proofs.Sides.{place_station, place_within}
 

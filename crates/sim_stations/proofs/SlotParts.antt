@@ -4,8 +4,8 @@ use Rattle.std.proofs.lemmas.List.{length-map, length-set, length-append, length
 use Rattle.goal_graph.specs.declared.action.Timed.{Timed}
 use Rattle.sim_order.specs.Events.{event_before}
 use Rattle.sim_order.specs.EventLaws.{event_laws}
-use Rattle.sim_heaps.specs.Heap.{AreInverse, swapped, keys_of, IsHeap, IsHeapBut, IsSlotHeap}
-use Rattle.sim_heaps.proofs.ForCallers.{swapped_inverse, length-swapped, replaced, entered, dropped_within, dropped_last, written, entered_keys, moved_keys, left_keys, settled}
+use Rattle.sim_queue.specs.Heap.{AreInverse, swapped, keys_of, IsHeap, IsHeapBut, IsSlotHeap}
+use Rattle.sim_queue.proofs.ForCallers.{swapped_inverse, length-swapped, replaced, entered, dropped_within, dropped_last, written, entered_keys, moved_keys, left_keys, settled}
 
 -- the last of the first places is written
 pub entered_at : {X : Type 0} (xs : List X) (n : ℕ) (y : X) → n < length xs → set (take (n + 1) xs) n y ≡ take n xs ++ y ∷ []

@@ -4,12 +4,12 @@ use Rattle.std.proofs.lemmas.List.{length-map, take_all, get_or-map}
 use Rattle.std.proofs.lemmas.Option.{slice_get_within, get_or_from_slice_get}
 use Rattle.goal_graph.specs.declared.action.Timed.{Timed}
 use Rattle.sim_order.specs.Events.{event_before}
-use Rattle.sim_heaps.specs.Heap.{keys_of, IsSlotHeap}
+use Rattle.sim_queue.specs.Heap.{keys_of, IsSlotHeap}
 use Rattle.sim_order.specs.EventLaws.{event_laws}
-use Rattle.sim_heaps.specs.Map.{IsEmptyMap, IsLeast}
-use Rattle.sim_heaps.proofs.ForCallers.{empty_heap, key_of_place, top_of_heap}
+use Rattle.sim_queue.specs.Map.{IsEmptyMap, IsLeast}
+use Rattle.sim_queue.proofs.ForCallers.{empty_heap, key_of_place, top_of_heap}
 use Rattle.sim_stations.specs.declared.parts.Part.{Part}
-use Rattle.sim_heaps.specs.Groups.{heap_at, with_key}
+use Rattle.sim_queue.specs.Groups.{heap_at, with_key}
 use Rattle.sim_stations.specs.Parts.{places_of, keyed_of, map_of_slots, maps_of_slots, ArePacked, AreSlotHeaps}
 use Rattle.sim_stations.proofs.InParts.{put_mid, part_written, length-keyed, first_keyed, length-places, keyed_in_places, map_written, counting, part_after, packed_after, length-written, keyed_elsewhere, places_elsewhere}
 

@@ -5,9 +5,9 @@ use Rattle.std.proofs.lemmas.Bool.{cases_eq}
 use Rattle.std.proofs.lemmas.List.{get_or-set_same, get_or-set_other, length-set}
 use Rattle.std.proofs.lemmas.Option.{slice_get-get_or}
 use Rattle.goal_graph.specs.declared.action.Timed.{Timed}
-use Rattle.sim_heaps.specs.Map.{either, key_at}
-use Rattle.sim_heaps.proofs.ForCallers.{same_maps}
-use Rattle.sim_heaps.specs.Groups.{Grouped}
+use Rattle.sim_queue.specs.Map.{either, key_at}
+use Rattle.sim_queue.proofs.ForCallers.{same_maps}
+use Rattle.sim_queue.specs.Groups.{Grouped}
 use Rattle.sim_stations.specs.declared.pair.Pair.{Pair}
 use Rattle.sim_stations.specs.declared.key_place.KeyPlace.{KeyPlace}
 use Rattle.sim_stations.specs.declared.key_place.KeyPlace.TheVariants.{Nowhere}

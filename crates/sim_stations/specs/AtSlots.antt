@@ -1,8 +1,8 @@
 -- Heaps of groups in which the place of each slot is its number.
 use Rattle.std.specs.Prelude.{◌≡◌, ◌==◌, ◌<◌, ℕ, List, Option, count_by, length, map, slice_index}
 use Rattle.std.specs.List.{enumerate_from}
-use Rattle.sim_heaps.specs.declared.home.PlaceInGroup.{PlaceInGroup}
-use Rattle.sim_heaps.specs.Groups.{Grouped, IsHoused, key_of_home}
+use Rattle.sim_queue.specs.declared.home.PlaceInGroup.{PlaceInGroup}
+use Rattle.sim_queue.specs.Groups.{Grouped, IsHoused, key_of_home}
 
 abbrev pub at_home : ℕ → ℕ → PlaceInGroup
 at_home group place = record { group = group; place = place }

@@ -8,5 +8,5 @@ pub mod Kept
 -- What the clauses cite of lower crates.
 pub use Rattle.goal_graph.specs.Schedule
 pub use Rattle.sim_order.specs.Events
-pub use Rattle.sim_heaps.specs.Groups
-pub use Rattle.sim_heaps.specs.Map
+pub use Rattle.sim_queue.specs.Groups
+pub use Rattle.sim_queue.specs.Map

@@ -1,9 +1,9 @@
 -- Heaps of groups, each in its part of a shared table.
 use Rattle.std.specs.Prelude.{◌≡◌, ◌<◌, ◌≤◌, ◌+◌, ◌-◌, ℕ, Bool, List, Option, Some, length, map, take, slice_get, slice_index, slice_range}
 use Rattle.sim_stations.specs.declared.parts.Part.{Part}
-use Rattle.sim_heaps.specs.Heap.{keys_of, IsSlotHeap}
-use Rattle.sim_heaps.specs.Item.{Item}
-use Rattle.sim_heaps.specs.TopHeap.{placed, IsTopHeap}
+use Rattle.sim_queue.specs.Heap.{keys_of, IsSlotHeap}
+use Rattle.sim_queue.specs.Item.{Item}
+use Rattle.sim_queue.specs.TopHeap.{placed, IsTopHeap}
 
 abbrev pub room_of : Part → ℕ
 room_of part = part.room

@@ -3,8 +3,8 @@ use Rattle.std.specs.Prelude.{◌≡◌, ◌≢◌, ◌<◌, ◌+◌, ◌*◌, �
 use Rattle.std.specs.Option.{option_map}
 use Rattle.goal_graph.specs.declared.action.Timed.{Timed}
 use Rattle.sim_order.specs.Events.{event_before}
-use Rattle.sim_heaps.specs.Map.{key_at}
-use Rattle.sim_heaps.specs.Groups.{Grouped, IsEmptyGroup, IsLeastOf}
+use Rattle.sim_queue.specs.Map.{key_at}
+use Rattle.sim_queue.specs.Groups.{Grouped, IsEmptyGroup, IsLeastOf}
 use Rattle.sim_stations.specs.declared.pair.Pair.{Pair}
 use Rattle.sim_stations.specs.Stations.{at_time, pair_at, DoExist}
 use Rattle.sim_stations.specs.Moves.{one_if}

@@ -2,9 +2,9 @@
 ghost use Rattle.std.specs.Prelude.{◌≡◌, ◌+◌, ◌*◌, ◌^◌, ◌<◌, ◌≤◌, ℕ, All, IfOk, IfSome, IsNone, Some, None, length, replicate, slice_get, slice_set, sum};
 ghost use Rattle.goal_limits.specs.declared.limits.TheConstants.{MAX_OPS};
 ghost use Rattle.sim_order.specs.Events.{event_before};
-ghost use Rattle.sim_heaps.specs.Item.{at_time};
-ghost use Rattle.sim_heaps.specs.Map.{key_at};
-ghost use Rattle.sim_heaps.specs.Groups.{IsEmptyGroup, IsLeastOf, IsSoleLeastOf};
+ghost use Rattle.sim_queue.specs.Item.{at_time};
+ghost use Rattle.sim_queue.specs.Map.{key_at};
+ghost use Rattle.sim_queue.specs.Groups.{IsEmptyGroup, IsLeastOf, IsSoleLeastOf};
 ghost use Rattle.sim_stations.specs.AtSlots.{AreCounts};
 
 use crate::item_heaps::ItemHeaps;
@@ -25,7 +25,7 @@ pub struct Groups {
 
 impl Model for Groups {
     ghost use Rattle.goal_graph.specs.declared.action.Timed.{Timed};
-    ghost use Rattle.sim_heaps.specs.Groups.{Grouped};
+    ghost use Rattle.sim_queue.specs.Groups.{Grouped};
     ghost use Rattle.sim_stations.specs.AtSlots.{AreHousedAtSlots, grouped_at_slots};
 
     ghost Value = { Grouped Timed };

@@ -2,17 +2,17 @@
 ghost use Rattle.std.specs.Prelude.{◌≡◌, ◌+◌, ◌*◌, ◌^◌, ◌<◌, ◌≤◌, ℕ, IfOk, IfSome, IsNone, Some, None, count_by, is_some, length, replicate, slice_index, slice_set, sum};
 ghost use Rattle.goal_limits.specs.declared.limits.TheConstants.{MAX_OPS};
 ghost use Rattle.sim_order.specs.Events.{event_before};
-ghost use Rattle.sim_heaps.specs.Item.{at_time};
-ghost use Rattle.sim_heaps.specs.Map.{key_at, no_keys, IsEmptyMap, IsLeast, IsSoleLeast};
-ghost use Rattle.sim_heaps.specs.TopHeap.{placed, IsTopHeap};
-ghost use Rattle.sim_heaps.specs.Groups.{heap_at, with_key};
+ghost use Rattle.sim_queue.specs.Item.{at_time};
+ghost use Rattle.sim_queue.specs.Map.{key_at, no_keys, IsEmptyMap, IsLeast, IsSoleLeast};
+ghost use Rattle.sim_queue.specs.TopHeap.{placed, IsTopHeap};
+ghost use Rattle.sim_queue.specs.Groups.{heap_at, with_key};
 ghost use Rattle.sim_stations.specs.AtSlots.{at_home};
 ghost use Rattle.sim_stations.specs.Parts.{all_but_last};
 
 use crate::parts::{Part, parts};
 use goal_limits::NoMemory;
-use sim_heaps::{AtZero, HeapItem, rise, sink};
 use sim_order::{CompactKey, Steps};
+use sim_queue::{AtZero, HeapItem, rise, sink};
 use std::alloc::Global;
 use std::marker::Model;
 use std::sync::ledger::Ledger;

@@ -1,16 +1,16 @@
 //! Which stations wait at which resource.
 ghost use Rattle.std.specs.Prelude.{◌≡◌, ◌+◌, ◌*◌, ◌^◌, ◌<◌, ◌≤◌, ◌↔◌, ℕ, All, IfOk, IfSome, IsNone, Some, None, false, not, length, max, replicate, slice_get, slice_index, slice_set};
 ghost use Rattle.goal_graph.specs.declared.action.Timed.{Timed};
-ghost use Rattle.sim_heaps.specs.Groups.{IsEmptyGroup};
-ghost use Rattle.sim_heaps.specs.Map.{key_at, IsEmptyMap};
+ghost use Rattle.sim_queue.specs.Groups.{IsEmptyGroup};
+ghost use Rattle.sim_queue.specs.Map.{key_at, IsEmptyMap};
 ghost use Rattle.sim_stations.specs.Stations.{both_free, pair_at, held, DoExist};
 ghost use Rattle.sim_stations.specs.Rows.{sides, place_in, side_of, turned_at, IsFirst, IsTold, AreBothTold};
 
 use crate::Pair;
 use crate::slot_groups::SlotGroups;
 use goal_limits::NoMemory;
-use sim_heaps::{EventQueue, SlotHeap};
 use sim_order::{CompactKey, Steps};
+use sim_queue::{EventQueue, SlotHeap};
 use std::alloc::Global;
 use std::marker::Model;
 use std::sync::ledger::Ledger;

@@ -1,13 +1,13 @@
 //! Slots in groups, whose keys can be changed anywhere.
 ghost use Rattle.std.specs.Prelude.{◌≡◌, ◌+◌, ◌*◌, ◌^◌, ◌<◌, ◌≤◌, ℕ, All, IfOk, IfSome, IsNone, OnOk, Some, None, length, replicate, slice_set, sum};
 ghost use Rattle.sim_order.specs.Events.{event_before};
-ghost use Rattle.sim_heaps.specs.Item.{at_time};
-ghost use Rattle.sim_heaps.specs.Groups.{IsEmptyGroup, IsLeastOf, AreHomes};
+ghost use Rattle.sim_queue.specs.Item.{at_time};
+ghost use Rattle.sim_queue.specs.Groups.{IsEmptyGroup, IsLeastOf, AreHomes};
 
 use crate::slot_heaps::SlotHeaps;
 use goal_limits::NoMemory;
-use sim_heaps::PlaceInGroup;
 use sim_order::{CompactKey, Steps};
+use sim_queue::PlaceInGroup;
 use std::alloc::Global;
 use std::marker::Model;
 use std::sync::ledger::Ledger;
@@ -23,7 +23,7 @@ pub struct SlotGroups {
 
 impl Model for SlotGroups {
     ghost use Rattle.goal_graph.specs.declared.action.Timed.{Timed};
-    ghost use Rattle.sim_heaps.specs.Groups.{Grouped, IsHoused, grouped};
+    ghost use Rattle.sim_queue.specs.Groups.{Grouped, IsHoused, grouped};
 
     ghost Value = { Grouped Timed };
 

@@ -1,18 +1,18 @@
 //! Heaps whose slots know their places, in one table.
 ghost use Rattle.std.specs.Prelude.{◌≡◌, ◌+◌, ◌*◌, ◌^◌, ◌<◌, ◌≤◌, ℕ, IfOk, IfSome, IsNone, Some, None, length, map, slice_get, slice_set, sum, take};
 ghost use Rattle.sim_order.specs.Events.{event_before};
-ghost use Rattle.sim_heaps.specs.Heap.{keys_of, IsHeap, IsHeapBut, IsSlotHeap};
-ghost use Rattle.sim_heaps.specs.Item.{at_time};
-ghost use Rattle.sim_heaps.specs.Map.{no_keys, IsEmptyMap, IsLeast};
+ghost use Rattle.sim_queue.specs.Heap.{keys_of, IsHeap, IsHeapBut, IsSlotHeap};
+ghost use Rattle.sim_queue.specs.Item.{at_time};
+ghost use Rattle.sim_queue.specs.Map.{no_keys, IsEmptyMap, IsLeast};
 ghost use Rattle.sim_stations.specs.declared.parts.Part.{Part};
-ghost use Rattle.sim_heaps.specs.Groups.{heap_at, with_key};
+ghost use Rattle.sim_queue.specs.Groups.{heap_at, with_key};
 ghost use Rattle.sim_stations.specs.Parts.{places_of, ArePacked, IsInOrder};
 
 use crate::parts::{Part, parts};
 use crate::waiting_key::WaitingKey;
 use goal_limits::NoMemory;
-use sim_heaps::{PlaceInGroup, settle, swap};
 use sim_order::{CompactKey, Steps};
+use sim_queue::{PlaceInGroup, settle, swap};
 use std::alloc::Global;
 use std::marker::Model;
 use std::sync::ledger::Ledger;

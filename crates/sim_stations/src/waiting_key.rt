@@ -1,6 +1,6 @@
 //! Keys at time 0.
 ghost use Rattle.std.specs.Prelude.{◌≡◌};
-ghost use Rattle.sim_heaps.specs.Item.{at_time};
+ghost use Rattle.sim_queue.specs.Item.{at_time};
 
 use sim_order::{CompactKey, EventOrder, Steps};
 use std::marker::Model;

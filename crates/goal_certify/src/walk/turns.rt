@@ -1,6 +1,6 @@
 //! The queue of a walker: a set of places, which finds the least at once.
 ghost use Rattle.std.specs.Prelude.{ℕ, ◌≡◌, ◌≢◌, ◌+◌, ◌*◌, ◌/◌, ◌^◌, ◌<◌, ◌≤◌, true, false, nat_lt, IsTrue, Some, None, IfSome, IfNone, IfOk, length, replicate, slice_set, slice_index};
-ghost use Rattle.sim_heaps.specs.Map.{key_at, IsEmptyMap, IsLeast};
+ghost use Rattle.sim_queue.specs.Map.{key_at, IsEmptyMap, IsLeast};
 ghost use Rattle.goal_certify.specs.Turns.{is_on};
 
 use goal_limits::NoMemory;

@@ -1,6 +1,6 @@
 use Rattle.std.proofs.Common.{Some, is_some, sym, ap, ◌∙◌, subst}
 use Rattle.goal_graph.specs.declared.action.Timed.{Timed}
-use Rattle.sim_heaps.specs.Map.{key_at, IsLeast}
+use Rattle.sim_queue.specs.Map.{key_at, IsLeast}
 use Rattle.sim_order.specs.Events.{event_before}
 use Rattle.sim_events.proofs.Changes.{changed_moved}
 use Rattle.sim_events.proofs.Queue.{of_slots, same_queue, finished, least_next, key_found}

@@ -3,8 +3,8 @@ use Rattle.std.proofs.Math.ListN.{length-set}
 use Rattle.std.proofs.lemmas.Bool.{both_ways}
 use Rattle.std.proofs.lemmas.List.{get_or-set_same}
 use Rattle.goal_graph.specs.declared.action.Timed.{Timed}
-use Rattle.sim_heaps.specs.Map.{key_at}
-use Rattle.sim_heaps.proofs.ForCallers.{key_within}
+use Rattle.sim_queue.specs.Map.{key_at}
+use Rattle.sim_queue.proofs.ForCallers.{key_within}
 use Rattle.sim_stations.specs.Stations.{waits_for_room}
 use Rattle.sim_events.proofs.follow.settle.Goals as goal
 

@@ -1,6 +1,6 @@
 use Rattle.std.proofs.Common.{◌∷◌, [], ◌++◌, map, take, get_or, ap, sym, ◌∙◌, arith}
 use Rattle.std.proofs.lemmas.List.{take_more, take_all, map-append}
-use Rattle.sim_heaps.specs.Map.{no_keys}
+use Rattle.sim_queue.specs.Map.{no_keys}
 use Rattle.sim_queue.proofs.ranked_queue.heaps.Goals as goal
 
 pub ranks-preserved : goal.ranks-preserved

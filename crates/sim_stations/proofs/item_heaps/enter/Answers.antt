@@ -2,9 +2,9 @@ use Rattle.std.proofs.lemmas.List.{length-set}
 use Rattle.std.proofs.Common.{◌≡◌, ◌-◌, ◌++◌, ◌∷◌, [], List, length, set, sym, subst, arith}
 use Rattle.goal_graph.specs.declared.action.Timed.{Timed}
 use Rattle.sim_order.specs.Events.{event_before}
-use Rattle.sim_heaps.specs.Item.{Item}
-use Rattle.sim_heaps.specs.Places.{AreOrdered, AreOrderedBut}
-use Rattle.sim_heaps.specs.TopHeap.{key_there, AreMoved}
+use Rattle.sim_queue.specs.Item.{Item}
+use Rattle.sim_queue.specs.Places.{AreOrdered, AreOrderedBut}
+use Rattle.sim_queue.specs.TopHeap.{key_there, AreMoved}
 use Rattle.sim_stations.specs.Parts.{all_but_last}
 use Rattle.sim_stations.proofs.ItemParts.{length-front, set_last, entered_ordered, entered_heap, entered_placed}
 use Rattle.sim_stations.proofs.item_heaps.enter.Goals as goal

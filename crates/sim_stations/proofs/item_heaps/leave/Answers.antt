@@ -4,9 +4,9 @@ use Rattle.std.proofs.lemmas.Option.{slice_get_read, get_or_from_slice_get}
 use Rattle.goal_graph.specs.declared.action.Timed.{Timed}
 use Rattle.sim_order.specs.Events.{event_before}
 use Rattle.sim_order.specs.EventLaws.{event_laws}
-use Rattle.sim_heaps.specs.Item.{Item}
-use Rattle.sim_heaps.specs.TopHeap.{placed, IsTopHeap}
-use Rattle.sim_heaps.proofs.ForCallers.{item_of, items_fit, some_items}
+use Rattle.sim_queue.specs.Item.{Item}
+use Rattle.sim_queue.specs.TopHeap.{placed, IsTopHeap}
+use Rattle.sim_queue.proofs.ForCallers.{item_of, items_fit, some_items}
 use Rattle.sim_stations.specs.Parts.{all_but_last}
 use Rattle.sim_stations.proofs.ItemParts.{length-front, with_last, front_back, emptied, left_ordered, left_heap, left_placed}
 use Rattle.sim_stations.proofs.item_heaps.leave.Goals as goal

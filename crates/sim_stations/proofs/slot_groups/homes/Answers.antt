@@ -3,9 +3,9 @@ use Rattle.std.proofs.lemmas.Bool.{cases_lt}
 use Rattle.std.proofs.lemmas.List.{take_more, take_all, get_or_past}
 use Rattle.std.proofs.lemmas.List.Elements.{All-get_or, All-from_get_or}
 use Rattle.std.proofs.lemmas.List.Sums.{sum_by-le, sum_by-set}
-use Rattle.sim_heaps.specs.declared.home.PlaceInGroup.{PlaceInGroup}
-use Rattle.sim_heaps.specs.Groups.{AreHomes}
-use Rattle.sim_heaps.proofs.ForCallers.{no_homes, home_given, counted, counted_within}
+use Rattle.sim_queue.specs.declared.home.PlaceInGroup.{PlaceInGroup}
+use Rattle.sim_queue.specs.Groups.{AreHomes}
+use Rattle.sim_queue.proofs.ForCallers.{no_homes, home_given, counted, counted_within}
 use Rattle.sim_stations.proofs.slot_groups.homes.Goals as goal
 
 pub slots-init : goal.slots-init

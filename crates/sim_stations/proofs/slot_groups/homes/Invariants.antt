@@ -1,5 +1,5 @@
 use Rattle.std.proofs.Common.{◌≡◌, ◌≤◌, ℕ, take, slice_index, sum}
-use Rattle.sim_heaps.specs.Groups.{AreHomes}
+use Rattle.sim_queue.specs.Groups.{AreHomes}
 use Rattle.sim_stations.proofs.slot_groups.homes.Given as goal
 
 abbrev pub invariant-slots : goal.invariant-slots

@@ -3,7 +3,7 @@ use Rattle.std.proofs.lemmas.List.{length-append, length-drop, length-set, lengt
 use Rattle.std.proofs.lemmas.Option.{slice_get_read, get_or_from_slice_get}
 use Rattle.goal_graph.specs.declared.action.Timed.{Timed}
 use Rattle.sim_order.specs.Events.{event_before}
-use Rattle.sim_heaps.specs.Heap.{keys_of, IsSlotHeap}
+use Rattle.sim_queue.specs.Heap.{keys_of, IsSlotHeap}
 use Rattle.sim_stations.proofs.SlotParts.{settled_heap, places_room, left_long, keys_moved, but_moved, keys_left, heap_left}
 use Rattle.sim_stations.proofs.slot_heaps.erase.Goals as goal
 

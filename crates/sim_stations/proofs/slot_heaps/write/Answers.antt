@@ -2,7 +2,7 @@ use Rattle.std.proofs.Common.{◌≡◌, ◌<◌, ◌≤◌, ◌+◌, ◌++◌, 
 use Rattle.std.proofs.lemmas.List.{length-append, length-drop, length-set, length-take-le, take_at}
 use Rattle.goal_graph.specs.declared.action.Timed.{Timed}
 use Rattle.sim_order.specs.Events.{event_before}
-use Rattle.sim_heaps.specs.Heap.{keys_of, IsHeapBut, IsSlotHeap}
+use Rattle.sim_queue.specs.Heap.{keys_of, IsHeapBut, IsSlotHeap}
 use Rattle.sim_stations.proofs.SlotParts.{entered_at, settled_heap, room_in, places_room, keys_replaced, but_replaced, keys_entered, but_entered, entered_long}
 use Rattle.sim_stations.proofs.slot_heaps.write.Goals as goal
 

@@ -1,7 +1,7 @@
 use Rattle.std.proofs.Common.{sym, ◌∙◌}
 use Rattle.sim_order.specs.Events.{event_before}
 use Rattle.sim_order.specs.EventLaws.{event_laws}
-use Rattle.sim_heaps.proofs.ForCallers.{through, not_both}
+use Rattle.sim_queue.proofs.ForCallers.{through, not_both}
 use Rattle.sim_stations.proofs.station_queue.first.Goals as goal
 
 pub returns-then-before-clause-first : goal.returns-then-before-clause-first

@@ -3,7 +3,7 @@ use Rattle.std.proofs.lemmas.Option.{slice_get-get_or, get_or_from_slice_get}
 use Rattle.goal_graph.specs.Schedule.{operations}
 use Rattle.goal_graph.specs.Fault.{IsOp}
 use Rattle.sim_order.specs.Events.{event_before}
-use Rattle.sim_heaps.specs.Map.{IsEmptyMap, IsLeast}
+use Rattle.sim_queue.specs.Map.{IsEmptyMap, IsLeast}
 use Rattle.sim_stations.specs.Stations.{both_free, pair_at, AreOfSlots}
 use Rattle.sim_stations.proofs.Listed.{listed_exists}
 use Rattle.sim_stations.proofs.Least.{listed, least_found, found_slot, sole_ahead, ahead_slot, row_key, turn_late, slot_within, not_empty, empty_both}

@@ -1,9 +1,9 @@
 use Rattle.std.proofs.Common.{◌<◌, ◌≤◌, ◌^◌, All, None, length, set, sym, ap, ◌∙◌, subst, arith}
 use Rattle.std.proofs.lemmas.List.{length-map}
-use Rattle.sim_heaps.specs.Groups.{heap_at}
+use Rattle.sim_queue.specs.Groups.{heap_at}
 use Rattle.sim_queue.specs.Ranked.{Ranked}
 use Rattle.sim_queue.specs.Ranks.{IsTold}
-use Rattle.sim_heaps.proofs.ForCallers.{home_read, heap_read}
+use Rattle.sim_queue.proofs.ForCallers.{home_read, heap_read}
 use Rattle.sim_queue.proofs.Ranking.{still_ranked, changed_ranked, size_within}
 use Rattle.sim_queue.proofs.ranked_queue.RankedQueueEventQueue.drop_slot.Goals as goal
 

@@ -1,6 +1,6 @@
 use Rattle.std.proofs.Common.{◌≡◌, ◌<◌, Some, length, slice_get, ap, subst, arith}
 use Rattle.goal_graph.specs.declared.action.Timed.{Timed}
-use Rattle.sim_heaps.specs.Groups.{Grouped}
+use Rattle.sim_queue.specs.Groups.{Grouped}
 use Rattle.sim_stations.proofs.InParts.{part_read}
 use Rattle.sim_stations.proofs.groups.Groups.group.Goals as goal
 

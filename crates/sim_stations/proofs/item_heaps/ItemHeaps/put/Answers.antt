@@ -2,10 +2,10 @@ use Rattle.std.proofs.Common.{◌≡◌, ◌<◌, ◌≤◌, ◌+◌, ◌-◌, L
 use Rattle.std.proofs.lemmas.List.{length-map, length-drop, length-take-le, take_all, with_items_is}
 use Rattle.goal_graph.specs.declared.action.Timed.{Timed}
 use Rattle.sim_order.specs.Events.{event_before}
-use Rattle.sim_heaps.specs.Item.{Item, at_time}
-use Rattle.sim_heaps.specs.Map.{key_at}
-use Rattle.sim_heaps.specs.TopHeap.{placed, IsTopHeap}
-use Rattle.sim_heaps.specs.Groups.{heap_at, with_key}
+use Rattle.sim_queue.specs.Item.{Item, at_time}
+use Rattle.sim_queue.specs.Map.{key_at}
+use Rattle.sim_queue.specs.TopHeap.{placed, IsTopHeap}
+use Rattle.sim_queue.specs.Groups.{heap_at, with_key}
 use Rattle.sim_stations.specs.AtSlots.{at_home}
 use Rattle.sim_stations.specs.Parts.{Roomed, all_but_last, map_of_items, roomed, AreItemHeaps}
 use Rattle.sim_stations.proofs.InParts.{put_mid, part_read}

@@ -1,6 +1,6 @@
 use Rattle.std.proofs.Common.{◌≡◌, ◌<◌, Some, length, slice_get, slice_index, sym, ap, ◌∙◌, subst, arith}
 use Rattle.std.proofs.lemmas.List.{length-set}
-use Rattle.sim_heaps.specs.Map.{key_at}
+use Rattle.sim_queue.specs.Map.{key_at}
 use Rattle.sim_stations.specs.Stations.{held, pair_at}
 use Rattle.sim_stations.specs.Rows.{Rowed, seen, AreBothTold}
 use Rattle.sim_stations.proofs.Heads.{none_of_empty}

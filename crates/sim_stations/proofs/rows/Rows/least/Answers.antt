@@ -1,5 +1,5 @@
 use Rattle.std.proofs.Common.{is_some, sym, ap, subst}
-use Rattle.sim_heaps.specs.Map.{IsEmptyMap}
+use Rattle.sim_queue.specs.Map.{IsEmptyMap}
 use Rattle.sim_stations.specs.Rows.{Rowed, IsFirst}
 use Rattle.sim_stations.proofs.RowsLeast.{empty_seen, not_empty, first_shown}
 use Rattle.sim_stations.proofs.rows.Rows.least.Goals as goal

@@ -1,7 +1,7 @@
 use Rattle.std.proofs.Common.{◌<◌, ℕ, List, length, get_or, sym, ap, ◌∙◌, subst, arith}
-use Rattle.sim_heaps.specs.Map.{no_keys}
+use Rattle.sim_queue.specs.Map.{no_keys}
 use Rattle.goal_graph.specs.declared.action.Timed.{Timed}
-use Rattle.sim_heaps.specs.Groups.{Grouped}
+use Rattle.sim_queue.specs.Groups.{Grouped}
 use Rattle.sim_stations.proofs.Sides.{sides_length}
 use Rattle.sim_stations.proofs.RowsNew.{sides_within, new_inside, new_heads, new_rowed}
 use Rattle.sim_stations.proofs.rows.Rows.new.Goals as goal

@@ -1,8 +1,8 @@
 use Rattle.std.proofs.Common.{◌≡◌, ◌<◌, ◌≤◌, ◌^◌, Some, None, not, length, set, slice_get, sym, ap, ◌∙◌, subst, arith}
 use Rattle.std.proofs.lemmas.List.{length-set}
 use Rattle.goal_graph.specs.declared.action.Timed.{Timed}
-use Rattle.sim_heaps.specs.Map.{key_at}
-use Rattle.sim_heaps.specs.Groups.{Grouped}
+use Rattle.sim_queue.specs.Map.{key_at}
+use Rattle.sim_queue.specs.Groups.{Grouped}
 use Rattle.sim_stations.specs.Stations.{at_time}
 use Rattle.sim_stations.specs.Rows.{Rowed, place_in, turned_at, seen, AreBothTold, IsInRows}
 use Rattle.sim_stations.proofs.Heads.{at_own}

@@ -2,8 +2,8 @@ use Rattle.std.proofs.Common.{subst, arith}
 use Rattle.std.specs.Option.{IfSome}
 use Rattle.goal_graph.specs.declared.action.Timed.{Timed}
 use Rattle.sim_order.specs.Events.{event_before}
-use Rattle.sim_heaps.specs.Groups.{Grouped, IsEmptyGroup, IsLeastOf}
-use Rattle.sim_heaps.proofs.ForCallers.{no_group, empty_group, least_of_answer}
+use Rattle.sim_queue.specs.Groups.{Grouped, IsEmptyGroup, IsLeastOf}
+use Rattle.sim_queue.proofs.ForCallers.{no_group, empty_group, least_of_answer}
 use Rattle.sim_stations.proofs.slot_groups.SlotGroups.least_of.Goals as goal
 
 pub returns-then-group-len-clause-none : goal.returns-then-group-len-clause-none

@@ -1,9 +1,9 @@
 use Rattle.std.proofs.Common.{◌≡◌, ◌≤◌, ◌++◌, ℕ, All, List, Option, length, map, take, ap, sym, ◌∙◌, subst, arith}
 use Rattle.std.proofs.lemmas.List.{take-append-le, take_all}
 use Rattle.goal_graph.specs.declared.action.Timed.{Timed}
-use Rattle.sim_heaps.specs.Groups.{IsHoused, grouped}
-use Rattle.sim_heaps.specs.Map.{no_keys}
-use Rattle.sim_heaps.proofs.ForCallers.{empty_housed, empty_grouped, homes_length}
+use Rattle.sim_queue.specs.Groups.{IsHoused, grouped}
+use Rattle.sim_queue.specs.Map.{no_keys}
+use Rattle.sim_queue.proofs.ForCallers.{empty_housed, empty_grouped, homes_length}
 use Rattle.sim_stations.proofs.slot_groups.SlotGroups.new.Goals as goal
 
 heaps_are : (len : ℕ) (counts rest read : List ℕ) (heaps : List (List (Option Timed))) → heaps ≡ map (no_keys {K = Timed}) read → read ≡ take len (counts ++ rest) → len ≡ length counts → heaps ≡ map (no_keys {K = Timed}) counts

@@ -1,9 +1,9 @@
 use Rattle.std.proofs.Common.{◌<◌, Some, length, set, refl, sym, ◌∙◌, ap, subst, arith}
 use Rattle.std.proofs.lemmas.List.{length-map}
 use Rattle.goal_graph.specs.declared.action.Timed.{Timed}
-use Rattle.sim_heaps.specs.Item.{at_time}
-use Rattle.sim_heaps.specs.Groups.{Grouped, IsHoused, grouped, heap_at, key_of_home}
-use Rattle.sim_heaps.proofs.ForCallers.{home_read, changed, still_housed}
+use Rattle.sim_queue.specs.Item.{at_time}
+use Rattle.sim_queue.specs.Groups.{Grouped, IsHoused, grouped, heap_at, key_of_home}
+use Rattle.sim_queue.proofs.ForCallers.{home_read, changed, still_housed}
 use Rattle.sim_stations.proofs.slot_groups.SlotGroups.put.Goals as goal
 
 pub put-requires-clause-group_in : goal.put-requires-clause-group_in

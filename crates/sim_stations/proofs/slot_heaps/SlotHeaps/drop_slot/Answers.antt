@@ -2,8 +2,8 @@ use Rattle.std.proofs.Common.{◌≡◌, ◌<◌, ◌≤◌, ◌+◌, ◌-◌, �
 use Rattle.std.proofs.lemmas.List.{length-map, with_items_is}
 use Rattle.goal_graph.specs.declared.action.Timed.{Timed}
 use Rattle.sim_order.specs.Events.{event_before}
-use Rattle.sim_heaps.specs.Heap.{keys_of, IsSlotHeap}
-use Rattle.sim_heaps.specs.Groups.{heap_at, with_key}
+use Rattle.sim_queue.specs.Heap.{keys_of, IsSlotHeap}
+use Rattle.sim_queue.specs.Groups.{heap_at, with_key}
 use Rattle.sim_stations.specs.Parts.{map_of_slots, maps_of_slots}
 use Rattle.sim_stations.proofs.InParts.{put_mid, part_read, length-written}
 use Rattle.sim_stations.proofs.SlotTable.{as_heaps, part_in, part_fits, places_long, slots_long, sorted_long, length_there, heap_there, slots_after, maps_after}

@@ -3,8 +3,8 @@ use Rattle.std.proofs.lemmas.List.{length-map}
 use Rattle.std.proofs.lemmas.Option.{slice_get_read}
 use Rattle.goal_graph.specs.declared.action.Timed.{Timed}
 use Rattle.sim_order.specs.Events.{event_before}
-use Rattle.sim_heaps.specs.Map.{IsEmptyMap, IsLeast}
-use Rattle.sim_heaps.specs.Groups.{heap_at}
+use Rattle.sim_queue.specs.Map.{IsEmptyMap, IsLeast}
+use Rattle.sim_queue.specs.Groups.{heap_at}
 use Rattle.sim_stations.specs.Parts.{places_of, map_of_slots}
 use Rattle.sim_stations.proofs.InParts.{part_read}
 use Rattle.sim_stations.proofs.SlotTable.{part_in, part_fits, none_of_part, least_of_part}

@@ -1,6 +1,6 @@
 use Rattle.std.proofs.Common.{length, set, slice_index, sym, ap, ◌∙◌, subst, arith}
 use Rattle.std.specs.Option.{option_map}
-use Rattle.sim_heaps.specs.Map.{key_at}
+use Rattle.sim_queue.specs.Map.{key_at}
 use Rattle.sim_stations.specs.declared.key_place.KeyPlace.TheVariants.{Nowhere}
 use Rattle.sim_stations.specs.Stations.{Stationed, when_free, pair_at, pair_of, held, IsLater, cost_of_waiting}
 use Rattle.sim_stations.specs.Kept.{IsFound, IsDeparted}

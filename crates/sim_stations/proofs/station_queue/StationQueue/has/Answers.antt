@@ -1,6 +1,6 @@
 use Rattle.std.proofs.Common.{◌<◌, length, is_some, ap, ◌∙◌, arith}
 use Rattle.std.proofs.lemmas.List.{get_or_read}
-use Rattle.sim_heaps.specs.Map.{key_at}
+use Rattle.sim_queue.specs.Map.{key_at}
 use Rattle.sim_stations.specs.declared.key_place.KeyPlace.TheVariants.{Nowhere}
 use Rattle.sim_stations.specs.Stations.{Stationed}
 use Rattle.sim_stations.specs.Kept.{has_key}

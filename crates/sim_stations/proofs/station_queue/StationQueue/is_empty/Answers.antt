@@ -1,7 +1,7 @@
 use Rattle.std.proofs.Common.{◌≡◌, Bool, true, false, not, List, Option, Some, None, is_some, IsTrue, IfSome, refl, subst}
 use Rattle.goal_graph.specs.declared.action.Timed.{Timed}
-use Rattle.sim_heaps.specs.Map.{IsEmptyMap}
-use Rattle.sim_heaps.specs.Groups.{Grouped}
+use Rattle.sim_queue.specs.Map.{IsEmptyMap}
+use Rattle.sim_queue.specs.Groups.{Grouped}
 use Rattle.sim_stations.specs.declared.key_place.KeyPlace.{KeyPlace}
 use Rattle.sim_stations.specs.declared.station_queue.Look.{Look}
 use Rattle.sim_stations.specs.Stations.{Stationed}

@@ -4,8 +4,8 @@ use Rattle.std.proofs.lemmas.List.{take-append-le, take_all}
 use Rattle.goal_graph.specs.declared.action.Timed.{Timed}
 use Rattle.goal_graph.specs.Schedule.{operations}
 use Rattle.sim_order.specs.Events.{event_before}
-use Rattle.sim_heaps.specs.Map.{IsEmptyMap, IsLeast}
-use Rattle.sim_heaps.specs.Groups.{Grouped}
+use Rattle.sim_queue.specs.Map.{IsEmptyMap, IsLeast}
+use Rattle.sim_queue.specs.Groups.{Grouped}
 use Rattle.sim_stations.specs.Stations.{Stationed, AreOfSlots, cost_of_waiting}
 use Rattle.sim_stations.specs.Moves.{HaveReturned, HaveMoved}
 use Rattle.sim_stations.specs.Kept.{IsKept, IsFound}

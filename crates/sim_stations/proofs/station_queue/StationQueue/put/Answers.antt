@@ -1,5 +1,5 @@
 use Rattle.std.proofs.Common.{◌≡◌, ◌≤◌, ◌<◌, ◌+◌, ◌*◌, ◌^◌, Some, None, length, set, slice_index, ap, ◌∙◌, arith}
-use Rattle.sim_heaps.specs.Map.{key_at}
+use Rattle.sim_queue.specs.Map.{key_at}
 use Rattle.sim_stations.specs.declared.key_place.KeyPlace.TheVariants.{Ahead, Waiting}
 use Rattle.sim_stations.specs.Stations.{Stationed, when_free, pair_of, count_ahead, cost_of_waiting}
 use Rattle.sim_stations.specs.Kept.{seen_of}

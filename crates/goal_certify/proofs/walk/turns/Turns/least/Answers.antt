@@ -1,5 +1,5 @@
 use Rattle.std.proofs.Common.{ℕ, ◌≡◌, ◌<◌, true, nat_lt, List, Option, length, get_or, sym, ap, ◌∙◌, subst, arith}
-use Rattle.sim_heaps.specs.Map.{IsEmptyMap, IsLeast}
+use Rattle.sim_queue.specs.Map.{IsEmptyMap, IsLeast}
 use Rattle.goal_certify.specs.Turns.{is_on}
 use Rattle.goal_certify.proofs.Turns.{word_inside, none_at_all, is_least}
 use Rattle.goal_certify.proofs.walk.turns.Turns.least.Goals as goal
