@@ -1,6 +1,7 @@
 -- What a reader must believe.
 pub mod Cost
 -- What only the code keeps.
+pub mod Blanks
 pub mod Comparisons
 pub mod Stations
 pub mod Queue

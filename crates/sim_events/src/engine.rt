@@ -12,6 +12,7 @@ ghost use Rattle.sim_params.specs.Times.{mate};
 ghost use Rattle.sim_params.specs.Run.{IsNext, IsRun, IsFinished, IsCompleteRun};
 ghost use Rattle.sim_params.specs.Laws.{IsWithin};
 ghost use Rattle.sim_state.specs.Engine.{IsEngineFault, start_known, end_known};
+ghost use Rattle.sim_events.specs.Blanks.{IsBlankOf};
 ghost use Rattle.sim_events.specs.Cost.{cost_of_start, cost_of_run, reads_of_run};
 
 use crate::follow::{Queue, is_empty};
@@ -107,9 +108,7 @@ fn new_by<'a, C: Costs + Drop, L: Ledger>(
     sched: &'a Sched,
     costs: C,
 ) -> Result<Engine<'a, C>, EngineFault>
-    requires name { blank.name ≡ L.name }
-    requires parts { blank.parts ≡ L.parts }
-    requires some { 0 < blank.parts }
+    requires steps { IsBlankOf L.name L.parts blank }
     ensures plans { IfOk result (λ e. e.plans ≡ sched.now) }
     ensures costs { IfOk result (λ e. e.costs ≡ costs) }
     ensures empty { IfOk result (λ e. e.history ≡ []) }
@@ -217,15 +216,9 @@ impl<'a, C: Costs, H: History> Engine<'a, C, H> {
         for_looks: Blank,
         for_reads: Blank,
     )
-        requires name { blank.name ≡ L.name }
-        requires parts { blank.parts ≡ L.parts }
-        requires some { 0 < blank.parts }
-        requires looks_name { for_looks.name ≡ M.name }
-        requires looks_parts { for_looks.parts ≡ M.parts }
-        requires looks_some { 0 < for_looks.parts }
-        requires reads_name { for_reads.name ≡ N.name }
-        requires reads_parts { for_reads.parts ≡ N.parts }
-        requires reads_some { 0 < for_reads.parts }
+        requires steps { IsBlankOf L.name L.parts blank }
+        requires looks { IsBlankOf M.name M.parts for_looks }
+        requires reads { IsBlankOf N.name N.parts for_reads }
         ensures plans { self.new.plans ≡ self.old.plans }
         ensures costs { self.new.costs ≡ self.old.costs }
         ensures complete { IsCompleteRun self.new.plans (C.model self.new.costs) self.new.history }

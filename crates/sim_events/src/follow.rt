@@ -9,6 +9,7 @@ ghost use Rattle.sim_params.specs.Run.{IsNext, IsFinished};
 ghost use Rattle.sim_queue.specs.Map.{key_at, IsEmptyMap};
 ghost use Rattle.sim_stations.specs.Stations.{waits_for_room, pair_of, IsLater, cost_of_waiting, cost_of_moves};
 ghost use Rattle.sim_state.specs.Free.{side};
+ghost use Rattle.sim_events.specs.Blanks.{IsBlankOf};
 ghost use Rattle.sim_events.specs.Comparisons.{spent};
 ghost use Rattle.sim_events.specs.Changes.{AreAtPlaces, HaveChanged, HaveChangedOn};
 ghost use Rattle.sim_events.specs.Queue.{IsOfSchedule, IsQueue, IsQueueBut, HasPossibleKeys, IsRefreshed, IsSettledBy, IsDueAfter, Awaits};
@@ -230,9 +231,7 @@ fn refresh<C: Costs, H: History, L: Ledger>(
 
 /// Returns whether no operation has a key.
 pub fn is_empty<L: Ledger>(blank: Blank, queue: &Queue) -> bool
-    requires name { blank.name ≡ L.name }
-    requires parts { blank.parts ≡ L.parts }
-    requires some { 0 < blank.parts }
+    requires steps { IsBlankOf L.name L.parts blank }
     ensures { IsTrue result ↔ IsEmptyMap queue.now.keys }
 {
     let mut steps = Steps::<L>::new(blank);

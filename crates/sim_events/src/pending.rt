@@ -5,6 +5,7 @@ ghost use Rattle.sim_params.specs.Costs.{CostModel};
 ghost use Rattle.sim_params.specs.Run.{IsRun, IsCompleteRun};
 ghost use Rattle.sim_queue.specs.Map.{IsEmptyMap};
 ghost use Rattle.sim_stations.specs.Stations.{cost_of_waiting};
+ghost use Rattle.sim_events.specs.Blanks.{IsBlankOf};
 ghost use Rattle.sim_events.specs.Queue.{IsOfSchedule};
 ghost use Rattle.sim_events.specs.Comparisons.{spent, count_of, last_look};
 ghost use Rattle.sim_events.specs.Cost.{cost_of_actions, cost_of_start, cost_of_run, most_moves, reads_of_run};
@@ -115,18 +116,10 @@ pub fn step_once<C: Costs, H: History, L: Ledger, R: Ledger, M: Ledger, N: Ledge
     for_looks: Blank,
     for_reads: Blank,
 ) -> Option<Timed>
-    requires name { blank.name ≡ L.name }
-    requires parts { blank.parts ≡ L.parts }
-    requires some { 0 < blank.parts }
-    requires moves_name { for_moves.name ≡ R.name }
-    requires moves_parts { for_moves.parts ≡ R.parts }
-    requires moves_some { 0 < for_moves.parts }
-    requires looks_name { for_looks.name ≡ M.name }
-    requires looks_parts { for_looks.parts ≡ M.parts }
-    requires looks_some { 0 < for_looks.parts }
-    requires reads_name { for_reads.name ≡ N.name }
-    requires reads_parts { for_reads.parts ≡ N.parts }
-    requires reads_some { 0 < for_reads.parts }
+    requires steps { IsBlankOf L.name L.parts blank }
+    requires moves { IsBlankOf R.name R.parts for_moves }
+    requires looks { IsBlankOf M.name M.parts for_looks }
+    requires reads { IsBlankOf N.name N.parts for_reads }
     requires pending { IsPendingOf C.model state.old queue.old }
     ensures pending { IsPendingOf C.model state.new queue.new }
     ensures stepped { IsStepped C.model state.old state.new result }
@@ -148,9 +141,7 @@ pub fn run_on<C: Costs, H: History, L: Ledger, R: Ledger, M: Ledger, N: Ledger>(
     looks: &mut Steps<M>,
     reads: &mut Steps<N>,
 )
-    requires moves_name { for_moves.name ≡ R.name }
-    requires moves_parts { for_moves.parts ≡ R.parts }
-    requires moves_some { 0 < for_moves.parts }
+    requires moves { IsBlankOf R.name R.parts for_moves }
     requires pending { IsPendingOf C.model state.old queue.old }
     ensures plans { state.new.plans ≡ state.old.plans }
     ensures costs { state.new.costs ≡ state.old.costs }
