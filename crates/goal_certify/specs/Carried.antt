@@ -1,7 +1,8 @@
 -- The values that are kept along the walk: those of the slots, and those under way.
-use Rattle.std.specs.Prelude.{ℕ, ◌+◌, ◌^◌, ◌≡◌, ◌<◌, ◌≤◌, ◌⊎◌, List, ◌∷◌, map, drop, length, take, All, Option, Some, None, if◌then◌else◌}
+use Rattle.std.specs.Prelude.{ℕ, ◌+◌, ◌≡◌, ◌<◌, ◌≤◌, ◌⊎◌, List, ◌∷◌, map, drop, length, take, All, Option, Some, None, if◌then◌else◌}
 use Rattle.std.specs.List.{sum_by}
 use Rattle.std.specs.Option.{option_map}
+use Rattle.goal_limits.specs.Limits.{weight_limit}
 use Rattle.goal_graph.specs.declared.action.OpId.{OpId}
 use Rattle.goal_graph.specs.Schedule.{Plan, operations}
 use Rattle.goal_graph.specs.Action.{Act}
@@ -101,9 +102,9 @@ pub record HasEqualEnds (plans : List Plan) : Type 0 where
 -- after the first of these notes with which too much is held, `total` contributions are held, `others` included
 abbrev pub AddsOver : ℕ → ℕ → List Adding → Store → ℕ → ℕ → Type 0
 AddsOver ranks rank added store others total =
-    (n : ℕ) × (stored ranks (add_all rank (take n added) store) + others ≡ total) × IsTooHeavy total × ((k : ℕ) → k < n → stored ranks (add_all rank (take k added) store) + others ≤ 2 ^ 24)
+    (n : ℕ) × (stored ranks (add_all rank (take n added) store) + others ≡ total) × IsTooHeavy total × ((k : ℕ) → k < n → stored ranks (add_all rank (take k added) store) + others ≤ weight_limit)
 
 -- after each of these notes, few enough are held, `others` included
 abbrev pub AddsWithin : ℕ → ℕ → List Adding → Store → ℕ → Type 0
 AddsWithin ranks rank added store others =
-    (n : ℕ) → stored ranks (add_all rank (take n added) store) + others ≤ 2 ^ 24
+    (n : ℕ) → stored ranks (add_all rank (take n added) store) + others ≤ weight_limit

@@ -1,5 +1,6 @@
 -- The first race of a rank, as the code searches it.
 use Rattle.std.specs.Prelude.{ℕ, ◌≡◌, ◌<◌, ◌≤◌, ◌⊎◌, ◌&&◌, ◌==◌, Bool, true, not, nat_lt, if◌then◌else◌, List, Contains, Option, Some, None}
+use Rattle.goal_limits.specs.Limits.{certified_op_limit}
 use Rattle.goal_graph.specs.Schedule.{Plan}
 use Rattle.goal_graph.specs.Order.{IsLess}
 use Rattle.goal_blocks.specs.Faults.{RaceAt, race_key, IsRace}
@@ -15,7 +16,7 @@ is_open before shared x y = has shared x y && (not (has before y x) && not (has 
 
 -- if a row has the number of another row, this one has the number of the first
 abbrev pub IsMutual : List ℕ → Type 0
-IsMutual rows = (x y : ℕ) → x < 2048 → y < 2048 → has rows x y ≡ true → has rows y x ≡ true
+IsMutual rows = (x y : ℕ) → x < certified_op_limit → y < certified_op_limit → has rows x y ≡ true → has rows y x ≡ true
 
 -- the operations of lesser numbers that the touch meets end before its operation starts
 abbrev pub IsOrdered : List ℕ → List ℕ → List ℕ → Touch → Type 0

@@ -1,6 +1,7 @@
 -- Which slots the operations of a rank touch, as a list.
 use Rattle.std.specs.Prelude.{ℕ, ◌≡◌, ◌+◌, ◌-◌, ◌<◌, ◌≤◌, Bool, true, false, List, [], ◌∷◌, length, map, Contains, Option, Some, slice_get}
 use Rattle.std.specs.Option.{option_map}
+use Rattle.goal_limits.specs.Limits.{slot_limit}
 use Rattle.goal_graph.specs.declared.plan.Op.{Op}
 use Rattle.goal_graph.specs.declared.plan.Kind.{Kind}
 use Rattle.goal_graph.specs.declared.plan.Kind.TheVariants.{Calc, Send, Recv}
@@ -38,4 +39,4 @@ pub record AreTouches (plans : List Plan) (rank : ℕ) (touches : List Touch) : 
   pub all_touched : (k s : ℕ) → Contains (touched plans (op_id rank k)) s → (t : Touch) × Contains touches t × (t.op ≡ k) × (t.slot ≡ s)
   pub all_written : (k s : ℕ) → Contains (written plans (op_id rank k)) s → (t : Touch) × Contains touches t × (t.op ≡ k) × (t.slot ≡ s) × (t.writes ≡ true)
   pub op_below : (t : Touch) → Contains touches t → t.op < length (ops_at plans rank)
-  pub slot_low : (t : Touch) → Contains touches t → t.slot ≤ 65535
+  pub slot_low : (t : Touch) → Contains touches t → t.slot ≤ slot_limit

@@ -1,5 +1,6 @@
 // Certifies all segments of a collective in one run that begins with all of them.
 ghost use Rattle.std.specs.Prelude.{◌≡◌, ◌⊎◌, ◌*◌, ◌^◌, ◌<◌, ◌≤◌, length, Err, OnOk, IfErr, IsErrAnd};
+ghost use Rattle.goal_limits.specs.Limits.{rank_limit};
 ghost use Rattle.goal_certify.specs.declared.at_once.AtOnceFault.{AtOnceFault};
 ghost use Rattle.goal_certify.specs.AtOnce.{named, AreCertifiedAtOnce, AreRightAtOnce, IsAtOnceFault, IsOutOfMemory};
 
@@ -29,7 +30,7 @@ pub enum AtOnceFault {
 
 // Returns the number of slots that a collective names, from slot 0 on.
 fn named_slots(what: Collective, ranks: u32) -> u32
-    requires few { ranks ≤ 65536 }
+    requires few { ranks ≤ rank_limit }
     ensures named { result ≡ named what ranks }
 {
     match what {

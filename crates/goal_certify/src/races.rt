@@ -6,6 +6,7 @@
 //! touch by touch. For the other ranks `table` makes a row for each operation: those with which it shares a slot that
 //! one of the two writes. `search` finds the least pair in these rows, and its least slot.
 ghost use Rattle.std.specs.Prelude.{◌≡◌, ◌*◌, ◌<◌, ◌≤◌, true, false, length, OnOk, IfOk, IfErr};
+ghost use Rattle.goal_limits.specs.Limits.{certified_op_limit};
 ghost use Rattle.goal_graph.specs.Schedule.{ops_at};
 ghost use Rattle.goal_blocks.specs.Certification.{IsSmall};
 ghost use Rattle.goal_certify.specs.Stages.{IsFree, IsStopped};
@@ -119,7 +120,7 @@ fn find_race(
     before: &[u64],
 ) -> Result<Option<RankRace>, AllocError>
     requires rank { rank < length sched.now }
-    requires few { length (ops_at sched.now rank) ≤ 2048 }
+    requires few { length (ops_at sched.now rank) ≤ certified_op_limit }
     requires touches { AreTouches sched.now rank touches.now }
     requires touchers { AreMarked false touches.now touchers.now }
     requires writers { AreMarked true touches.now writers.now }

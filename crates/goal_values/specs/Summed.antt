@@ -1,5 +1,6 @@
 -- What is kept of the values of slots, if these are given as sums.
 use Rattle.std.specs.Prelude.{ℕ, ◌≡◌, ◌+◌, ◌*◌, ◌^◌, ◌≤◌, nat_lt, List, map, length, All, Option, Some, None, if◌then◌else◌}
+use Rattle.goal_limits.specs.Limits.{rank_limit}
 use Rattle.goal_limits.specs.declared.collective.Collective.{Collective}
 use Rattle.goal_blocks.specs.declared.segment.Segment.{Segment}
 use Rattle.goal_blocks.specs.Values.{Value}
@@ -34,7 +35,7 @@ kept_in what ranks segment sums terms = record {
 
 -- the invariant, with `held` contributions counted
 pub record IsSound (s : Summed) (terms : List (List (ℕ × Term))) (held : ℕ) : Type 0 where
-  pub ranks : s.kept.ranks ≤ 65536
+  pub ranks : s.kept.ranks ≤ rank_limit
   pub fits : s.kept.segment.block * s.kept.segment.width + s.kept.segment.width ≤ 2 ^ 32
   pub below : (r k : ℕ) (t : Term) → found_in terms r k ≡ Some t → IsBelow (length s.sums) t
   pub held_is : held ≡ stored s.kept.ranks (values s.kept)

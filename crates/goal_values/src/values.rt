@@ -1,6 +1,7 @@
 //! The values of the slots of all ranks.
 ghost use Rattle.std.specs.Prelude.{◌≡◌, ◌≢◌, ℕ, List, ◌+◌, ◌*◌, ◌^◌, ◌<◌, ◌≤◌, false, true, length, map, take, All, IfOk, OnOk, OnErr, IfErr, IfSome, IfNone, MatchOption};
 ghost use Rattle.std.specs.List.{sum_by};
+ghost use Rattle.goal_limits.specs.Limits.{rank_limit, weight_limit};
 ghost use Rattle.goal_blocks.specs.SlotRanges.{slots_in};
 ghost use Rattle.goal_blocks.specs.Values.{Value, merge, set_slot, write};
 ghost use Rattle.goal_blocks.specs.Weight.{stored};
@@ -68,7 +69,7 @@ impl SlotValues {
     /// Creates the values of `ranks` ranks at the start of a segment.
     pub fn new(alloc: Global, ranks: u32, what: Collective, segment: Segment) -> SlotValues
         requires some { 1 ≤ ranks }
-        requires few { ranks ≤ 65536 }
+        requires few { ranks ≤ rank_limit }
         requires fits { segment.block * segment.width + segment.width ≤ 2 ^ 32 }
         ensures values { values result.kept ≡ initial_in what segment.width segment.block ranks }
         ensures ranks { result.kept.ranks ≡ ranks }
@@ -139,7 +140,7 @@ impl SlotValues {
         requires payload { IsPayload self.old.sums payload.now }
         requires lengths { length (slots_in ranges.now) ≡ length payload.now.terms.items }
         requires light { stored self.old.kept.ranks (values self.old.kept)
-            + sum_by (λ v. length v) (payload_values self.old.sums payload.now) ≤ 2 ^ 24 }
+            + sum_by (λ v. length v) (payload_values self.old.sums payload.now) ≤ weight_limit }
         ensures written { OnOk result (values self.new.kept
             ≡ write rank (slots_in ranges.now) (payload_values self.old.sums payload.now) (values self.old.kept)) }
         ensures others { (r k : ℕ) → r ≢ rank → values self.new.kept r k ≡ values self.old.kept r k }
@@ -161,7 +162,7 @@ impl SlotValues {
     /// unchanged.
     pub fn add(&mut self, rank: u32, from: u32, to: u32) -> Result<(), NoMemory>
         requires rank { rank < self.old.kept.ranks }
-        requires light { stored self.old.kept.ranks (values self.old.kept) ≤ 2 ^ 24 }
+        requires light { stored self.old.kept.ranks (values self.old.kept) ≤ weight_limit }
         ensures added { OnOk result (values self.new.kept
             ≡ set_slot rank to (merge (values self.old.kept rank to) (values self.old.kept rank from)) (values self.old.kept)) }
         ensures unchanged { OnErr result (values self.new.kept ≡ values self.old.kept) }

@@ -2,10 +2,10 @@
 -- are not before the times at which these are free.
 use Rattle.std.specs.Prelude.{◌≡◌, ◌<◌, ◌≤◌, ◌+◌, ◌*◌, ℕ, Bool, true, false, List, Option, Some, max, slice_get, slice_index, slice_index_or, slice_set, if◌then◌else◌}
 use Rattle.std.specs.List.{sum_by}
+use Rattle.goal_graph.specs.Action.{holds_cpu}
 use Rattle.goal_graph.specs.declared.action.OpId.{OpId}
 use Rattle.goal_graph.specs.declared.action.Timed.{Timed}
 use Rattle.goal_graph.specs.declared.action.Class.{Class}
-use Rattle.goal_graph.specs.declared.action.Class.TheVariants.{Arrive, Serve, Data, Post, Begin}
 pub use Rattle.sim_queue.specs.Item.{at_time}
 use Rattle.sim_queue.specs.Map.{key_at}
 use Rattle.sim_stations.specs.declared.pair.Pair.{Pair}
@@ -25,11 +25,7 @@ pub record Stationed : Type 0 where
 
 -- actions of this class wait for a cpu or a NIC
 abbrev pub waits_for_room : Class → Bool
-waits_for_room Arrive = false
-waits_for_room Serve = true
-waits_for_room Data = true
-waits_for_room Post = false
-waits_for_room Begin = true
+waits_for_room class = holds_cpu class
 
 -- when both resources are free
 abbrev pub both_free : List ℕ → Pair → ℕ

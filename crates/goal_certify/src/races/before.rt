@@ -1,5 +1,6 @@
 //! Which operations of a rank end before each of them starts.
 ghost use Rattle.std.specs.Prelude.{ℕ, ◌≡◌, ◌+◌, ◌*◌, ◌<◌, ◌≤◌, ◌⊎◌, true, false, [], length, OnOk, MatchOption, slice_index_or};
+ghost use Rattle.goal_limits.specs.Limits.{certified_op_limit};
 ghost use Rattle.goal_graph.specs.declared.plan.When.TheVariants.{AfterEnd};
 ghost use Rattle.goal_graph.specs.Schedule.{ops_at};
 ghost use Rattle.goal_graph.specs.Fault.{IsOp};
@@ -21,7 +22,7 @@ pub(crate) fn rows_before(
     rows: &mut Vec<u64>,
 ) -> Result<(), AllocError>
     requires rank { rank < length sched.now }
-    requires few { length (ops_at sched.now rank) ≤ 2048 }
+    requires few { length (ops_at sched.now rank) ≤ certified_op_limit }
     requires empty { AreEmpty rows.old.items }
     ensures room { OnOk result (32 * length (ops_at sched.now rank) ≤ length rows.new.items) }
     ensures rows { OnOk result (AreRows sched.now rank rows.new.items (λ op. op < length (ops_at sched.now rank))) }
@@ -42,7 +43,7 @@ fn fill_all(
     done: &mut [bool],
 ) -> Result<(), AllocError>
     requires rank { rank < length sched.now }
-    requires few { length (ops_at sched.now rank) ≤ 2048 }
+    requires few { length (ops_at sched.now rank) ≤ certified_op_limit }
     requires room { 32 * length (ops_at sched.now rank) ≤ length rows.old }
     requires marks { length done.old ≡ length (ops_at sched.now rank) }
     requires rows { AreRows sched.now rank rows.old (λ k. slice_index_or done.old k false ≡ true) }
@@ -66,7 +67,7 @@ fn fill(
     path: &mut Vec<u32>,
 ) -> Result<(), AllocError>
     requires exists { IsOp sched.now id }
-    requires few { length (ops_at sched.now id.rank) ≤ 2048 }
+    requires few { length (ops_at sched.now id.rank) ≤ certified_op_limit }
     requires room { 32 * length (ops_at sched.now id.rank) ≤ length rows.old }
     requires marks { length done.old ≡ length (ops_at sched.now id.rank) }
     requires rows { AreRows sched.now id.rank rows.old (λ k. slice_index_or done.old k false ≡ true) }
@@ -114,13 +115,13 @@ fn first_missing(sched: &Sched, id: OpId, done: &[bool]) -> Option<u32>
 // Puts into the row of an operation what the rows of its needs have, and those that must have ended.
 fn gather(sched: &Sched, id: OpId, rows: &mut [u64], done: &[bool])
     requires exists { IsOp sched.now id }
-    requires few { length (ops_at sched.now id.rank) ≤ 2048 }
+    requires few { length (ops_at sched.now id.rank) ≤ certified_op_limit }
     requires room { 32 * length (ops_at sched.now id.rank) ≤ length rows.old }
     requires marks { length done.now ≡ length (ops_at sched.now id.rank) }
     requires rows { AreRows sched.now id.rank rows.old (λ k. slice_index_or done.now k false ≡ true) }
     requires needs { HasNeedsDone sched.now done.now id }
     ensures rows { AreRows sched.now id.rank rows.new (λ k. slice_index_or done.now k false ≡ true) }
-    ensures row { (k : ℕ) → k < 2048 → EndsBefore sched.now (op_id id.rank k) id → has rows.new id.op k ≡ true }
+    ensures row { (k : ℕ) → k < certified_op_limit → EndsBefore sched.now (op_id id.rank k) id → has rows.new id.op k ≡ true }
 {
     let words = (done.len() + 63) / 64;
     for need in sched.needs(id) {
@@ -133,13 +134,13 @@ fn gather(sched: &Sched, id: OpId, rows: &mut [u64], done: &[bool])
 fn take(rows: &mut [u64], op: usize, need: Need, words: usize)
     requires op { 32 * op + 32 ≤ length rows.old }
     requires needed { 32 * need.op + 32 ≤ length rows.old }
-    requires few { need.op < 2048 }
+    requires few { need.op < certified_op_limit }
     requires words { words ≤ 32 }
-    requires low { (k : ℕ) → k < 2048 → has rows.old need.op k ≡ true → k < 64 * words }
-    ensures adds { (k : ℕ) → k < 2048 → has rows.old need.op k ≡ true → has rows.new op k ≡ true }
+    requires low { (k : ℕ) → k < certified_op_limit → has rows.old need.op k ≡ true → k < 64 * words }
+    ensures adds { (k : ℕ) → k < certified_op_limit → has rows.old need.op k ≡ true → has rows.new op k ≡ true }
     ensures ends { need.when ≡ AfterEnd → has rows.new op need.op ≡ true }
-    ensures keeps { (r k : ℕ) → k < 2048 → has rows.old r k ≡ true → has rows.new r k ≡ true }
-    ensures no_more { (r k : ℕ) → k < 2048 → has rows.new r k ≡ true → (has rows.old r k ≡ true)
+    ensures keeps { (r k : ℕ) → k < certified_op_limit → has rows.old r k ≡ true → has rows.new r k ≡ true }
+    ensures no_more { (r k : ℕ) → k < certified_op_limit → has rows.new r k ≡ true → (has rows.old r k ≡ true)
         ⊎ ((r ≡ op) × ((has rows.old need.op k ≡ true) ⊎ ((need.when ≡ AfterEnd) × (k ≡ need.op)))) }
 {
     join_within(rows, op, need.op as usize, words);

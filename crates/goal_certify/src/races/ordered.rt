@@ -1,5 +1,6 @@
 //! Whether the operations that share a slot are in the order of their numbers.
 ghost use Rattle.std.specs.Prelude.{ℕ, ◌≡◌, ◌+◌, ◌*◌, ◌/◌, ◌<◌, ◌≤◌, true, false, All, length, IsTrue};
+ghost use Rattle.goal_limits.specs.Limits.{certified_op_limit};
 ghost use Rattle.goal_certify.specs.Rows.{has};
 ghost use Rattle.goal_certify.specs.Table.{meets, AreMarked};
 ghost use Rattle.goal_certify.specs.Races.{IsOrdered};
@@ -15,7 +16,7 @@ pub(crate) fn are_ordered(
     touchers: &[u64],
     writers: &[u64],
 ) -> bool
-    requires few { All (λ t. t.op < 2048) touches.now }
+    requires few { All (λ t. t.op < certified_op_limit) touches.now }
     requires before { All (λ t. 32 * t.op + 32 ≤ length before.now) touches.now }
     requires touchers { AreMarked false touches.now touchers.now }
     requires writers { AreMarked true touches.now writers.now }
@@ -31,7 +32,7 @@ pub(crate) fn are_ordered(
 
 // Whether this holds of the touch.
 fn is_ordered(before: &[u64], touch: Touch, touchers: &[u64], writers: &[u64]) -> bool
-    requires few { touch.op < 2048 }
+    requires few { touch.op < certified_op_limit }
     requires before { 32 * touch.op + 32 ≤ length before.now }
     requires touchers { 32 * touch.slot + 32 ≤ length touchers.now }
     requires writers { 32 * touch.slot + 32 ≤ length writers.now }
@@ -43,7 +44,7 @@ fn is_ordered(before: &[u64], touch: Touch, touchers: &[u64], writers: &[u64]) -
 
 // Whether the row has each number below its own that the other row has. It compares 64 numbers at once.
 fn is_covered(others: &[u64], other: u32, rows: &[u64], row: u32) -> bool
-    requires few { row < 2048 }
+    requires few { row < certified_op_limit }
     requires other { 32 * other + 32 ≤ length others.now }
     requires row { 32 * row + 32 ≤ length rows.now }
     ensures { result ≡ true → (k : ℕ) → k < row → has others.now other k ≡ true → has rows.now row k ≡ true }

@@ -1,5 +1,6 @@
 //! Rows of bits, one after another: each row is a set of numbers below 2,048.
 ghost use Rattle.std.specs.Prelude.{ℕ, ◌≡◌, ◌≢◌, ◌+◌, ◌*◌, ◌<◌, ◌≤◌, ◌⊎◌, true, length, OnOk};
+ghost use Rattle.goal_limits.specs.Limits.{certified_op_limit};
 ghost use Rattle.goal_certify.specs.Rows.{has};
 
 use std::alloc::AllocError;
@@ -10,7 +11,7 @@ pub(crate) const WORDS: usize = 32;
 /// Returns whether the row has the number.
 pub(crate) fn is_in(rows: &[u64], row: usize, number: u32) -> bool
     requires row { 32 * row + 32 ≤ length rows.now }
-    requires number { number < 2048 }
+    requires number { number < certified_op_limit }
     ensures { result ≡ has rows.now row number }
 {
     let word = rows[WORDS * row + number as usize / 64];
@@ -20,10 +21,10 @@ pub(crate) fn is_in(rows: &[u64], row: usize, number: u32) -> bool
 /// Puts the number into the row.
 pub(crate) fn put(rows: &mut [u64], row: usize, number: u32)
     requires row { 32 * row + 32 ≤ length rows.old }
-    requires number { number < 2048 }
+    requires number { number < certified_op_limit }
     ensures adds { has rows.new row number ≡ true }
-    ensures keeps { (r k : ℕ) → k < 2048 → has rows.old r k ≡ true → has rows.new r k ≡ true }
-    ensures no_more { (r k : ℕ) → k < 2048 → has rows.new r k ≡ true
+    ensures keeps { (r k : ℕ) → k < certified_op_limit → has rows.old r k ≡ true → has rows.new r k ≡ true }
+    ensures no_more { (r k : ℕ) → k < certified_op_limit → has rows.new r k ≡ true
         → (has rows.old r k ≡ true) ⊎ ((r ≡ row) × (k ≡ number)) }
 {
     rows[WORDS * row + number as usize / 64] |= 1 << (number % 64);
@@ -33,9 +34,9 @@ pub(crate) fn put(rows: &mut [u64], row: usize, number: u32)
 pub(crate) fn join(rows: &mut [u64], row: usize, others: &[u64], other: usize)
     requires row { 32 * row + 32 ≤ length rows.old }
     requires other { 32 * other + 32 ≤ length others.now }
-    ensures adds { (k : ℕ) → k < 2048 → has others.now other k ≡ true → has rows.new row k ≡ true }
-    ensures keeps { (r k : ℕ) → k < 2048 → has rows.old r k ≡ true → has rows.new r k ≡ true }
-    ensures no_more { (r k : ℕ) → k < 2048 → has rows.new r k ≡ true
+    ensures adds { (k : ℕ) → k < certified_op_limit → has others.now other k ≡ true → has rows.new row k ≡ true }
+    ensures keeps { (r k : ℕ) → k < certified_op_limit → has rows.old r k ≡ true → has rows.new r k ≡ true }
+    ensures no_more { (r k : ℕ) → k < certified_op_limit → has rows.new r k ≡ true
         → (has rows.old r k ≡ true) ⊎ ((r ≡ row) × (has others.now other k ≡ true)) }
 {
     for place in 0..WORDS {
@@ -48,10 +49,10 @@ pub(crate) fn join_within(rows: &mut [u64], row: usize, other: usize, words: usi
     requires row { 32 * row + 32 ≤ length rows.old }
     requires other { 32 * other + 32 ≤ length rows.old }
     requires words { words ≤ 32 }
-    requires low { (k : ℕ) → k < 2048 → has rows.old other k ≡ true → k < 64 * words }
-    ensures adds { (k : ℕ) → k < 2048 → has rows.old other k ≡ true → has rows.new row k ≡ true }
-    ensures keeps { (r k : ℕ) → k < 2048 → has rows.old r k ≡ true → has rows.new r k ≡ true }
-    ensures no_more { (r k : ℕ) → k < 2048 → has rows.new r k ≡ true
+    requires low { (k : ℕ) → k < certified_op_limit → has rows.old other k ≡ true → k < 64 * words }
+    ensures adds { (k : ℕ) → k < certified_op_limit → has rows.old other k ≡ true → has rows.new row k ≡ true }
+    ensures keeps { (r k : ℕ) → k < certified_op_limit → has rows.old r k ≡ true → has rows.new r k ≡ true }
+    ensures no_more { (r k : ℕ) → k < certified_op_limit → has rows.new r k ≡ true
         → (has rows.old r k ≡ true) ⊎ ((r ≡ row) × (has rows.old other k ≡ true)) }
 {
     for place in 0..words {
@@ -63,8 +64,8 @@ pub(crate) fn join_within(rows: &mut [u64], row: usize, other: usize, words: usi
 /// Removes the number from the row, and all others of its word.
 pub(crate) fn clear(rows: &mut [u64], row: usize, number: u32)
     requires row { 32 * row + 32 ≤ length rows.old }
-    requires number { number < 2048 }
-    ensures { (r k : ℕ) → k < 2048 → has rows.new r k ≡ true
+    requires number { number < certified_op_limit }
+    ensures { (r k : ℕ) → k < certified_op_limit → has rows.new r k ≡ true
         → (has rows.old r k ≡ true) × (r ≡ row → k ≢ number) }
 {
     rows[WORDS * row + number as usize / 64] = 0;
@@ -72,10 +73,10 @@ pub(crate) fn clear(rows: &mut [u64], row: usize, number: u32)
 
 /// Empties the first rows. They had only numbers below their count, and no row after them had a number.
 pub(crate) fn clear_rows(rows: &mut [u64], count: usize)
-    requires few { count ≤ 2048 }
+    requires few { count ≤ certified_op_limit }
     requires room { 32 * count ≤ length rows.old }
-    requires low { (r k : ℕ) → k < 2048 → has rows.old r k ≡ true → (r < count) × (k < count) }
-    ensures { (r k : ℕ) → k < 2048 → has rows.new r k ≡ true → ⊥ }
+    requires low { (r k : ℕ) → k < certified_op_limit → has rows.old r k ≡ true → (r < count) × (k < count) }
+    ensures { (r k : ℕ) → k < certified_op_limit → has rows.new r k ≡ true → ⊥ }
 {
     let words = (count + 63) / 64;
     for row in 0..count {
@@ -87,7 +88,7 @@ pub(crate) fn clear_rows(rows: &mut [u64], count: usize)
 fn clear_words(rows: &mut [u64], row: usize, words: usize)
     requires row { 32 * row + 32 ≤ length rows.old }
     requires words { words ≤ 32 }
-    ensures { (r k : ℕ) → k < 2048 → has rows.new r k ≡ true
+    ensures { (r k : ℕ) → k < certified_op_limit → has rows.new r k ≡ true
         → (has rows.old r k ≡ true) × (r ≡ row → 64 * words ≤ k) }
 {
     for place in 0..words {

@@ -1,5 +1,6 @@
 //! The least pair of operations that race, and their least slot.
 ghost use Rattle.std.specs.Prelude.{ℕ, ◌≡◌, ◌+◌, ◌*◌, ◌/◌, ◌<◌, ◌≤◌, true, false, length, All};
+ghost use Rattle.goal_limits.specs.Limits.{certified_op_limit};
 ghost use Rattle.goal_certify.specs.Rows.{has};
 ghost use Rattle.goal_certify.specs.Table.{meets, AreMarked};
 ghost use Rattle.goal_certify.specs.Races.{is_open, IsMutual, IsNextOpen, IsFirstOpen, IsLeastSlot, lesser, least_with};
@@ -19,7 +20,7 @@ pub(crate) struct OpPair {
 /// Returns the least pair of operations that share a slot which one of them writes, and of which neither ends before
 /// the other starts.
 pub(crate) fn first_open(before: &[u64], shared: &[u64], count: u32) -> Option<OpPair>
-    requires few { count ≤ 2048 }
+    requires few { count ≤ certified_op_limit }
     requires before { 32 * count ≤ length before.now }
     requires shared { length shared.now ≡ 32 * count }
     requires mutual { IsMutual shared.now }
@@ -38,7 +39,7 @@ pub(crate) fn first_open(before: &[u64], shared: &[u64], count: u32) -> Option<O
 
 // Whether there is such a pair. Most schedules have none, and then 64 operations are compared at once.
 fn is_any_open(before: &[u64], shared: &[u64], count: u32) -> bool
-    requires few { count ≤ 2048 }
+    requires few { count ≤ certified_op_limit }
     requires before { 32 * count ≤ length before.now }
     requires shared { length shared.now ≡ 32 * count }
     requires mutual { IsMutual shared.now }
@@ -54,7 +55,7 @@ fn is_any_open(before: &[u64], shared: &[u64], count: u32) -> bool
 
 // Whether an operation with a lesser number is open with this one.
 fn is_open_below(before: &[u64], shared: &[u64], second: u32) -> bool
-    requires few { second < 2048 }
+    requires few { second < certified_op_limit }
     requires before { 32 * second + 32 ≤ length before.now }
     requires shared { 32 * second + 32 ≤ length shared.now }
     requires mutual { IsMutual shared.now }
@@ -71,7 +72,7 @@ fn is_open_below(before: &[u64], shared: &[u64], second: u32) -> bool
 // The same for the operations whose bits are in one word. Those below the first that does not end before this one
 // starts are passed together.
 fn is_open_in_word(before: &[u64], shared: &[u64], second: u32, place: u32) -> bool
-    requires few { second < 2048 }
+    requires few { second < certified_op_limit }
     requires place { place < 32 }
     requires before { 32 * second + 32 ≤ length before.now }
     requires shared { 32 * second + 32 ≤ length shared.now }
@@ -91,7 +92,7 @@ fn is_open_in_word(before: &[u64], shared: &[u64], second: u32, place: u32) -> b
 
 // The least second operation of such a pair, above the first one.
 fn next_open(before: &[u64], shared: &[u64], first: u32, count: u32) -> Option<u32>
-    requires few { count ≤ 2048 }
+    requires few { count ≤ certified_op_limit }
     requires first { first < count }
     requires before { 32 * count ≤ length before.now }
     requires shared { length shared.now ≡ 32 * count }
@@ -110,7 +111,7 @@ fn next_open(before: &[u64], shared: &[u64], first: u32, count: u32) -> Option<u
 
 // The operation itself, or the first one whose bit is in the next word, if the row has none in this one.
 fn skip(shared: &[u64], first: u32, second: u32) -> u32
-    requires second { second < 2048 }
+    requires second { second < certified_op_limit }
     requires shared { 32 * first + 32 ≤ length shared.now }
     ensures above { second ≤ result }
     ensures near { result ≤ second + 64 }
@@ -124,7 +125,7 @@ fn skip(shared: &[u64], first: u32, second: u32) -> u32
 }
 
 fn is_open(before: &[u64], shared: &[u64], first: u32, second: u32) -> bool
-    requires few { (first < 2048) × (second < 2048) }
+    requires few { (first < certified_op_limit) × (second < certified_op_limit) }
     requires before { (32 * first + 32 ≤ length before.now) × (32 * second + 32 ≤ length before.now) }
     requires shared { 32 * first + 32 ≤ length shared.now }
     ensures { result ≡ is_open before.now shared.now first second }
@@ -141,7 +142,7 @@ pub(crate) fn least_slot(
     writers: &[u64],
     pair: OpPair,
 ) -> Option<u32>
-    requires second { pair.second < 2048 }
+    requires second { pair.second < certified_op_limit }
     requires touchers { AreMarked false touches.now touchers.now }
     requires writers { AreMarked true touches.now writers.now }
     ensures { IsLeastSlot touchers.now writers.now touches.now pair result }
@@ -161,7 +162,7 @@ fn least_with(
     writers: &[u64],
     pair: OpPair,
 ) -> Option<u32>
-    requires second { pair.second < 2048 }
+    requires second { pair.second < certified_op_limit }
     requires touchers { 32 * touch.slot + 32 ≤ length touchers.now }
     requires writers { 32 * touch.slot + 32 ≤ length writers.now }
     ensures { result ≡ least_with touchers.now writers.now pair least touch }
@@ -174,7 +175,7 @@ fn least_with(
 
 // Whether the operation touches the slot of the touch, and one of the two writes it.
 fn is_met(touch: Touch, touchers: &[u64], writers: &[u64], op: u32) -> bool
-    requires op { op < 2048 }
+    requires op { op < certified_op_limit }
     requires touchers { 32 * touch.slot + 32 ≤ length touchers.now }
     requires writers { 32 * touch.slot + 32 ≤ length writers.now }
     ensures { result ≡ meets touchers.now writers.now touch op }

@@ -1,5 +1,6 @@
 //! Which operations of a rank touch one slot.
 ghost use Rattle.std.specs.Prelude.{ℕ, ◌≡◌, ◌+◌, ◌*◌, ◌<◌, ◌≤◌, ◌⊎◌, true, false, length, All, Contains, OnOk, IfOk};
+ghost use Rattle.goal_limits.specs.Limits.{certified_op_limit};
 ghost use Rattle.goal_certify.specs.Rows.{has};
 ghost use Rattle.goal_certify.specs.Table.{is_marked, AreEmpty, AreMarked, meets, AreShared};
 
@@ -14,7 +15,7 @@ pub(crate) fn mark(
     only_writes: bool,
 ) -> Result<(), AllocError>
     requires empty { AreEmpty rows.old.items }
-    requires ops { All (λ t. t.op < 2048) touches.now }
+    requires ops { All (λ t. t.op < certified_op_limit) touches.now }
     requires slots { All (λ t. t.slot < 65536) touches.now }
     ensures { OnOk result (AreMarked only_writes touches.now rows.new.items) }
 {
@@ -26,13 +27,13 @@ pub(crate) fn mark(
 
 // Puts the operation into the row of the slot.
 fn mark_one(rows: &mut Vec<u64>, touch: Touch, only_writes: bool) -> Result<(), AllocError>
-    requires op { touch.op < 2048 }
+    requires op { touch.op < certified_op_limit }
     requires slot { touch.slot < 65536 }
     ensures room { OnOk result (32 * touch.slot + 32 ≤ length rows.new.items) }
     ensures grown { OnOk result (length rows.old.items ≤ length rows.new.items) }
     ensures adds { OnOk result (is_marked only_writes touch ≡ true → has rows.new.items touch.slot touch.op ≡ true) }
-    ensures keeps { OnOk result ((r k : ℕ) → k < 2048 → has rows.old.items r k ≡ true → has rows.new.items r k ≡ true) }
-    ensures no_more { OnOk result ((r k : ℕ) → k < 2048 → has rows.new.items r k ≡ true → (has rows.old.items r k ≡ true)
+    ensures keeps { OnOk result ((r k : ℕ) → k < certified_op_limit → has rows.old.items r k ≡ true → has rows.new.items r k ≡ true) }
+    ensures no_more { OnOk result ((r k : ℕ) → k < certified_op_limit → has rows.new.items r k ≡ true → (has rows.old.items r k ≡ true)
         ⊎ ((is_marked only_writes touch ≡ true) × (r ≡ touch.slot) × (k ≡ touch.op))) }
 {
     let slot = touch.slot as usize;
@@ -44,10 +45,10 @@ fn mark_one(rows: &mut Vec<u64>, touch: Touch, only_writes: bool) -> Result<(), 
 // Puts the number into the row if the test holds.
 fn put_if(rows: &mut [u64], row: usize, number: u32, test: bool)
     requires row { 32 * row + 32 ≤ length rows.old }
-    requires number { number < 2048 }
+    requires number { number < certified_op_limit }
     ensures adds { test ≡ true → has rows.new row number ≡ true }
-    ensures keeps { (r k : ℕ) → k < 2048 → has rows.old r k ≡ true → has rows.new r k ≡ true }
-    ensures no_more { (r k : ℕ) → k < 2048 → has rows.new r k ≡ true → (has rows.old r k ≡ true)
+    ensures keeps { (r k : ℕ) → k < certified_op_limit → has rows.old r k ≡ true → has rows.new r k ≡ true }
+    ensures no_more { (r k : ℕ) → k < certified_op_limit → has rows.new r k ≡ true → (has rows.old r k ≡ true)
         ⊎ ((test ≡ true) × (r ≡ row) × (k ≡ number)) }
 {
     if test {
@@ -57,7 +58,7 @@ fn put_if(rows: &mut [u64], row: usize, number: u32, test: bool)
 
 /// Empties the rows of these slots. Only the words of a row that have a number are written.
 pub(crate) fn wipe(rows: &mut [u64], touches: &[Touch], only_writes: bool)
-    requires ops { All (λ t. t.op < 2048) touches.now }
+    requires ops { All (λ t. t.op < certified_op_limit) touches.now }
     requires marked { AreMarked only_writes touches.now rows.old }
     ensures { AreEmpty rows.new }
 {
@@ -74,7 +75,7 @@ pub(crate) fn shared_rows(
     writers: &[u64],
     count: usize,
 ) -> Result<Vec<u64>, AllocError>
-    requires few { count ≤ 2048 }
+    requires few { count ≤ certified_op_limit }
     requires ops { All (λ t. t.op < count) touches.now }
     requires touchers { AreMarked false touches.now touchers.now }
     requires writers { AreMarked true touches.now writers.now }
@@ -104,9 +105,9 @@ fn share(rows: &mut [u64], touch: Touch, touchers: &[u64], writers: &[u64])
     requires op { 32 * touch.op + 32 ≤ length rows.old }
     requires touchers { 32 * touch.slot + 32 ≤ length touchers.now }
     requires writers { 32 * touch.slot + 32 ≤ length writers.now }
-    ensures adds { (k : ℕ) → k < 2048 → meets touchers.now writers.now touch k ≡ true → has rows.new touch.op k ≡ true }
-    ensures keeps { (r k : ℕ) → k < 2048 → has rows.old r k ≡ true → has rows.new r k ≡ true }
-    ensures no_more { (r k : ℕ) → k < 2048 → has rows.new r k ≡ true → (has rows.old r k ≡ true)
+    ensures adds { (k : ℕ) → k < certified_op_limit → meets touchers.now writers.now touch k ≡ true → has rows.new touch.op k ≡ true }
+    ensures keeps { (r k : ℕ) → k < certified_op_limit → has rows.old r k ≡ true → has rows.new r k ≡ true }
+    ensures no_more { (r k : ℕ) → k < certified_op_limit → has rows.new r k ≡ true → (has rows.old r k ≡ true)
         ⊎ ((r ≡ touch.op) × (meets touchers.now writers.now touch k ≡ true)) }
 {
     let others = if touch.writes { touchers } else { writers };

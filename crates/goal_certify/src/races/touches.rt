@@ -1,6 +1,7 @@
 //! Which slots the operations of a rank touch.
 ghost use Rattle.std.specs.Prelude.{◌≡◌, ◌≤◌, ◌+◌, ◌-◌, [], ◌∷◌, ◌++◌, true, false, All, flat_map, slice_get, OnOk, IfOk};
 ghost use Rattle.std.specs.Option.{option_map};
+ghost use Rattle.goal_limits.specs.Limits.{slot_limit};
 ghost use Rattle.goal_blocks.specs.Certification.{NamesLowSlots};
 ghost use Rattle.goal_blocks.specs.Slots.{slots_from};
 ghost use Rattle.goal_certify.specs.Touches.{touches_of, moved};
@@ -66,7 +67,7 @@ fn push_moved(
     hi: u32,
     writes: bool,
 ) -> Result<(), AllocError>
-    requires { hi ≤ 65535 }
+    requires { hi ≤ slot_limit }
     ensures { OnOk result (touches.new.items ≡ touches.old.items ++ moved op writes (slots_from lo (hi + 1 - lo))) }
 {
     for slot in lo..hi + 1 {

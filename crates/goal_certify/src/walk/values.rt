@@ -1,6 +1,7 @@
 //! How an action changes the values of slots and those under way. Contributions are counted before they are added, so
 //! that never more than 2^24 are held.
-ghost use Rattle.std.specs.Prelude.{◌≡◌, ℕ, ◌+◌, ◌^◌, ◌<◌, ◌≤◌, Some, None, slice_index_or, slice_set, length, map, OnOk, IfOk, IfErr};
+ghost use Rattle.std.specs.Prelude.{◌≡◌, ℕ, ◌+◌, ◌<◌, ◌≤◌, Some, None, slice_index_or, slice_set, length, map, OnOk, IfOk, IfErr};
+ghost use Rattle.goal_limits.specs.Limits.{weight_limit};
 ghost use Rattle.goal_graph.specs.Fault.{IsOp};
 ghost use Rattle.goal_blocks.specs.declared.cert_fault.CertFault.TheVariants.{NoMemory};
 ghost use Rattle.goal_blocks.specs.Slots.{slots, adds};
@@ -38,7 +39,7 @@ pub fn add_notes(
     requires small { IsSmall table.now }
     requires exists { IsOp table.now calc }
     requires ranks { store.old.kept.ranks ≡ length table.now }
-    requires light { stored store.old.kept.ranks (values store.old.kept) + others ≤ 2 ^ 24 }
+    requires light { stored store.old.kept.ranks (values store.old.kept) + others ≤ weight_limit }
     ensures added { OnOk result (values store.new.kept ≡ add_all calc.rank (adds table.now calc) (values store.old.kept)) }
     ensures within { OnOk result (AddsWithin store.old.kept.ranks calc.rank (adds table.now calc) (values store.old.kept) others) }
     ensures over { IfErr result (IsOver (AddsOver store.old.kept.ranks calc.rank (adds table.now calc) (values store.old.kept) others)) }
@@ -67,10 +68,10 @@ pub fn hand_over(
     requires small { IsSmall table.now }
     requires exists { IsOp table.now send }
     requires ranks { store.now.kept.ranks ≡ length table.now }
-    requires light { stored store.now.kept.ranks (values store.now.kept) + others ≤ 2 ^ 24 }
+    requires light { stored store.now.kept.ranks (values store.now.kept) + others ≤ weight_limit }
     ensures parcel { IfOk result (λ p. values_of_parcel store.now.sums p ≡ parcel_of (map (values store.now.kept send.rank) (slots table.now send))) }
     ensures payload { IfOk result (λ p. IsPayload store.now.sums p.payload) }
-    ensures within { OnOk result (stored store.now.kept.ranks (values store.now.kept) + others + size_of (map (values store.now.kept send.rank) (slots table.now send)) ≤ 2 ^ 24) }
+    ensures within { OnOk result (stored store.now.kept.ranks (values store.now.kept) + others + size_of (map (values store.now.kept send.rank) (slots table.now send)) ≤ weight_limit) }
     ensures over { IfErr result (IsOver (λ total. (stored store.now.kept.ranks (values store.now.kept) + others + size_of (map (values store.now.kept send.rank) (slots table.now send)) ≡ total) × IsTooHeavy total)) }
 {
     let slots = table.slots_of(send);
@@ -97,7 +98,7 @@ pub fn take(
     requires ranks { store.old.kept.ranks ≡ length table.now }
     requires payload { IsPayload store.old.sums parcel.payload }
     requires lengths { length (slots table.now recv) ≡ length parcel.payload.terms.items }
-    requires light { stored store.old.kept.ranks (values store.old.kept) + size_of (payload_values store.old.sums parcel.payload) ≤ 2 ^ 24 }
+    requires light { stored store.old.kept.ranks (values store.old.kept) + size_of (payload_values store.old.sums parcel.payload) ≤ weight_limit }
     ensures written { OnOk result (values store.new.kept ≡ write recv.rank (slots table.now recv) (payload_values store.old.sums parcel.payload) (values store.old.kept)) }
     ensures fault { IfErr result (λ fault. fault ≡ NoMemory) }
     ensures ranks { store.new.kept.ranks ≡ store.old.kept.ranks }
