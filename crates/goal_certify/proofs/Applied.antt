@@ -13,6 +13,7 @@ use Rattle.goal_graph.proofs.ForCallers.{allowed_listed, allowed_arrive, allowed
 use Rattle.goal_graph.specs.Matching.{pairs, partner}
 use Rattle.std.proofs.lemmas.Bool.{both_ways}
 use Rattle.std.proofs.lemmas.Option.{same_Some, slice_get-get_or}
+use Rattle.goal_limits.specs.Limits.{weight_limit}
 use Rattle.goal_blocks.specs.Channels.{HasNoWildcard}
 use Rattle.goal_blocks.specs.Certification.{HasEqualLengths}
 use Rattle.goal_blocks.proofs.ForCallers.{fits_channel}
@@ -55,7 +56,7 @@ module _ (plans : List Plan) (hist : List Act) (a : Act) (newest : hist ≡ a �
       (listed.0, slice_get-get_or (operations plans) listed.0 a.op listed.1 ∙ ap Some listed.2)
 
   module _ (first : Store) (s : Kept) (parcels : List (Option ParcelValues)) (count : ℕ) (so_far : IsCarrying plans first (drop 1 hist) s parcels count) where
-    pub light_before : stored s.ranks (values s) + count ≤ 2 ^ 24
+    pub light_before : stored s.ranks (values s) + count ≤ weight_limit
     light_before = held_before plans first (drop 1 hist) a now s parcels count so_far
 
     -- each operation has a place among the parcels
@@ -94,7 +95,7 @@ module _ (plans : List Plan) (hist : List Act) (a : Act) (newest : hist ≡ a �
       is_send =
           (allowed_data plans no_send (drop 1 hist) a.op (subst (λ (b : Class). allowed plans no_send (drop 1 hist) b a.op ≡ true) c now.1)).0
 
-      pub sent : (p : ParcelValues) (new_parcels : List (Option ParcelValues)) (total : ℕ) → p ≡ parcel_of (map (values s a.op.rank) (slots plans a.op)) → new_parcels ≡ set parcels j (Some p) → total ≡ count + p.size → stored s.ranks (values s) + count + size_of (map (values s a.op.rank) (slots plans a.op)) ≤ 2 ^ 24 → IsCarrying plans first hist s new_parcels total
+      pub sent : (p : ParcelValues) (new_parcels : List (Option ParcelValues)) (total : ℕ) → p ≡ parcel_of (map (values s a.op.rank) (slots plans a.op)) → new_parcels ≡ set parcels j (Some p) → total ≡ count + p.size → stored s.ranks (values s) + count + size_of (map (values s a.op.rank) (slots plans a.op)) ≤ weight_limit → IsCarrying plans first hist s new_parcels total
       sent p new_parcels total is put sum few =
           whole s new_parcels total (carrying_handed plans first (drop 1 hist) a now s parcels count so_far c is_send j at new_parcels total (put ∙ ap (λ (q : ParcelValues). set parcels j (Some q)) is) (sum ∙ ap (λ (q : ParcelValues). count + q.size) is) few)
 

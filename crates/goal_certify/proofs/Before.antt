@@ -6,6 +6,7 @@ use Rattle.std.proofs.lemmas.List.{get_or-replicate, get_or_past, length-replica
 use Rattle.std.proofs.lemmas.List.Sums.{AllPass-from_list_all}
 use Rattle.std.proofs.lemmas.Option.{slice_get_within}
 use Rattle.std.proofs.lemmas.List.Elements.{All-more, All-weaker, All-contains, Contains-get_or}
+use Rattle.goal_limits.specs.Limits.{certified_op_limit}
 use Rattle.goal_graph.specs.declared.action.OpId.{OpId}
 use Rattle.goal_graph.specs.declared.plan.Need.{Need}
 use Rattle.goal_graph.specs.declared.plan.Op.{Op}
@@ -45,39 +46,39 @@ depth_within plans accepted x is_op =
     deep_enough plans x.rank (length (ops_at plans x.rank)) (λ k inside. needs_below plans accepted (op_id x.rank k) (is_op_below plans (op_id x.rank k) inside)) depth.bound x.op (below_of_op plans x is_op) depth.below
 
 -- one need of an operation y more
-module _ (plans : List Plan) (y : OpId) (old new : List ℕ) (done : ℕ → Type 0) (rows : AreRows plans y.rank old done) (keeps : (r k : ℕ) → k < 2048 → has old r k ≡ true → has new r k ≡ true) where
-  pub taken_rows : (d : Need) → Contains (needs plans y) d → y.op < length (ops_at plans y.rank) → d.op < length (ops_at plans y.rank) → ((r k : ℕ) → k < 2048 → has new r k ≡ true → (has old r k ≡ true) ⊎ ((r ≡ y.op) × ((has old d.op k ≡ true) ⊎ ((d.when ≡ AfterEnd) × (k ≡ d.op))))) → AreRows plans y.rank new done
+module _ (plans : List Plan) (y : OpId) (old new : List ℕ) (done : ℕ → Type 0) (rows : AreRows plans y.rank old done) (keeps : (r k : ℕ) → k < certified_op_limit → has old r k ≡ true → has new r k ≡ true) where
+  pub taken_rows : (d : Need) → Contains (needs plans y) d → y.op < length (ops_at plans y.rank) → d.op < length (ops_at plans y.rank) → ((r k : ℕ) → k < certified_op_limit → has new r k ≡ true → (has old r k ≡ true) ⊎ ((r ≡ y.op) × ((has old d.op k ≡ true) ⊎ ((d.when ≡ AfterEnd) × (k ≡ d.op))))) → AreRows plans y.rank new done
   taken_rows d c own below no_more = record {
     low = λ op k few h. ⊎_elim (rows.low op k few) (λ more. (subst (λ (n : ℕ). n < length (ops_at plans y.rank)) (sym more.0) own, ⊎_elim (λ there. (rows.low d.op k few there).1) (λ end. subst (λ (n : ℕ). n < length (ops_at plans y.rank)) (sym end.1) below) more.1)) (no_more op k few h);
     sound = λ op k few h. ⊎_elim (rows.sound op k few) (λ more. subst (λ (n : ℕ). EndsBefore plans (op_id y.rank k) (op_id y.rank n)) (sym more.0) (leads_to_end_before plans (op_id y.rank k) y d c (⊎_elim (λ there. inr (rows.sound d.op k few there)) (λ end. inl (end.0, ap (op_id y.rank) (sym end.1))) more.1))) (no_more op k few h);
     complete = λ op k few is_done b. keeps op k few (rows.complete op k few is_done b);
   }
 
-  pub taken_need : (d : Need) → done d.op → ((k : ℕ) → k < 2048 → has old d.op k ≡ true → has new y.op k ≡ true) → (d.when ≡ AfterEnd → has new y.op d.op ≡ true) → (k : ℕ) → k < 2048 → Leads plans (op_id y.rank k) y d → has new y.op k ≡ true
+  pub taken_need : (d : Need) → done d.op → ((k : ℕ) → k < certified_op_limit → has old d.op k ≡ true → has new y.op k ≡ true) → (d.when ≡ AfterEnd → has new y.op d.op ≡ true) → (k : ℕ) → k < certified_op_limit → Leads plans (op_id y.rank k) y d → has new y.op k ≡ true
   taken_need d is_done adds ends k few (inl (e, f)) =
       let same : d.op ≡ k = ap (λ (z : OpId). z.op) f in
       subst (λ (n : ℕ). has new y.op n ≡ true) same (ends e)
   taken_need d is_done adds ends k few (inr b) = adds k few (rows.complete d.op k few is_done b)
 
 -- all needs of an operation are taken
-pub row_done : (plans : List Plan) (y : OpId) (rows : List ℕ) → All (λ (d : Need). (k : ℕ) → k < 2048 → Leads plans (op_id y.rank k) y d → has rows y.op k ≡ true) (needs plans y) → (k : ℕ) → k < 2048 → EndsBefore plans (op_id y.rank k) y → has rows y.op k ≡ true
+pub row_done : (plans : List Plan) (y : OpId) (rows : List ℕ) → All (λ (d : Need). (k : ℕ) → k < certified_op_limit → Leads plans (op_id y.rank k) y d → has rows y.op k ≡ true) (needs plans y) → (k : ℕ) → k < certified_op_limit → EndsBefore plans (op_id y.rank k) y → has rows y.op k ≡ true
 row_done plans y rows all k few b =
     let f = first_need plans (op_id y.rank k) y b in
-    All-contains (λ (d : Need). (k : ℕ) → k < 2048 → Leads plans (op_id y.rank k) y d → has rows y.op k ≡ true) (needs plans y) f.0 all f.1 k few f.2
+    All-contains (λ (d : Need). (k : ℕ) → k < certified_op_limit → Leads plans (op_id y.rank k) y d → has rows y.op k ≡ true) (needs plans y) f.0 all f.1 k few f.2
 
 -- the next need of y, of which the row and the list of needs tell
-module _ (plans : List Plan) (y : OpId) (old new : List ℕ) (done : ℕ → Type 0) (rows : AreRows plans y.rank old done) (keeps : (r k : ℕ) → k < 2048 → has old r k ≡ true → has new r k ≡ true) (i : ℕ) (e d : Need) (same : d ≡ get_or (needs plans y) i e) (inside : i < length (needs plans y)) where
+module _ (plans : List Plan) (y : OpId) (old new : List ℕ) (done : ℕ → Type 0) (rows : AreRows plans y.rank old done) (keeps : (r k : ℕ) → k < certified_op_limit → has old r k ≡ true → has new r k ≡ true) (i : ℕ) (e d : Need) (same : d ≡ get_or (needs plans y) i e) (inside : i < length (needs plans y)) where
   is_need : Contains (needs plans y) d
   is_need =
       subst (λ (n : Need). Contains (needs plans y) n) (sym same) (Contains-get_or (needs plans y) i e inside)
 
-  pub next_rows : y.op < length (ops_at plans y.rank) → d.op < length (ops_at plans y.rank) → ((r k : ℕ) → k < 2048 → has new r k ≡ true → (has old r k ≡ true) ⊎ ((r ≡ y.op) × ((has old d.op k ≡ true) ⊎ ((d.when ≡ AfterEnd) × (k ≡ d.op))))) → AreRows plans y.rank new done
+  pub next_rows : y.op < length (ops_at plans y.rank) → d.op < length (ops_at plans y.rank) → ((r k : ℕ) → k < certified_op_limit → has new r k ≡ true → (has old r k ≡ true) ⊎ ((r ≡ y.op) × ((has old d.op k ≡ true) ⊎ ((d.when ≡ AfterEnd) × (k ≡ d.op))))) → AreRows plans y.rank new done
   next_rows own below no_more = taken_rows plans y old new done rows keeps d is_need own below no_more
 
   abbrev Has : List ℕ → Need → Type 0
-  Has rs n = (k : ℕ) → k < 2048 → Leads plans (op_id y.rank k) y n → has rs y.op k ≡ true
+  Has rs n = (k : ℕ) → k < certified_op_limit → Leads plans (op_id y.rank k) y n → has rs y.op k ≡ true
 
-  pub next_need : done d.op → ((k : ℕ) → k < 2048 → has old d.op k ≡ true → has new y.op k ≡ true) → (d.when ≡ AfterEnd → has new y.op d.op ≡ true) → All (λ (n : Need). (k : ℕ) → k < 2048 → Leads plans (op_id y.rank k) y n → has old y.op k ≡ true) (take i (needs plans y)) → All (λ (n : Need). (k : ℕ) → k < 2048 → Leads plans (op_id y.rank k) y n → has new y.op k ≡ true) (take (i + 1) (needs plans y))
+  pub next_need : done d.op → ((k : ℕ) → k < certified_op_limit → has old d.op k ≡ true → has new y.op k ≡ true) → (d.when ≡ AfterEnd → has new y.op d.op ≡ true) → All (λ (n : Need). (k : ℕ) → k < certified_op_limit → Leads plans (op_id y.rank k) y n → has old y.op k ≡ true) (take i (needs plans y)) → All (λ (n : Need). (k : ℕ) → k < certified_op_limit → Leads plans (op_id y.rank k) y n → has new y.op k ≡ true) (take (i + 1) (needs plans y))
   next_need is_done adds ends before =
       All-more (Has new) (needs plans y) i e inside (All-weaker (Has old) (Has new) (λ n f k few l. keeps y.op k few (f k few l)) (take i (needs plans y)) before) (subst (Has new) same (taken_need plans y old new done rows keeps d is_done adds ends))
 

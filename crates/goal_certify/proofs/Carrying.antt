@@ -3,6 +3,7 @@ use Rattle.std.proofs.Common.{All, ◌≡◌, ◌==◌, ◌+◌, ◌^◌, ◌<�
 use Rattle.std.specs.List.{sum_by}
 use Rattle.std.proofs.lemmas.List.{take_all}
 use Rattle.std.proofs.lemmas.List.Sums.{sum_by-set}
+use Rattle.goal_limits.specs.Limits.{weight_limit}
 use Rattle.goal_graph.specs.declared.action.OpId.{OpId}
 use Rattle.goal_graph.specs.declared.action.Class.{Class}
 use Rattle.goal_graph.specs.declared.action.Class.TheVariants.{Arrive, Serve, Data, Post, Begin}
@@ -101,7 +102,7 @@ module _ (plans : List Plan) (first : Store) (h : List Act) (a : Act) (now : IsI
     count_is new_parcels total are sum =
         sym sum ∙ ap (sum_by parcel_size) are ∙ sym (carried_kept plans (a ∷ h) after)
 
-    pub carrying_after : (t : Kept) (new_parcels : List (Option ParcelValues)) (total : ℕ) → values t ≡ after.store → t.ranks ≡ s.ranks → new_parcels ≡ map (parcel_under_way plans (a ∷ h) after) (operations plans) → sum_by parcel_size new_parcels ≡ total → AddsAreLight plans h before a.op (kind_at plans a.op) → stored t.ranks (values t) + total ≤ 2 ^ 24 → IsCarrying plans first (a ∷ h) t new_parcels total
+    pub carrying_after : (t : Kept) (new_parcels : List (Option ParcelValues)) (total : ℕ) → values t ≡ after.store → t.ranks ≡ s.ranks → new_parcels ≡ map (parcel_under_way plans (a ∷ h) after) (operations plans) → sum_by parcel_size new_parcels ≡ total → AddsAreLight plans h before a.op (kind_at plans a.op) → stored t.ranks (values t) + total ≤ weight_limit → IsCarrying plans first (a ∷ h) t new_parcels total
     carrying_after t new_parcels total e r are sum adds_light few = record {
       values_are = e;
       ranks = r ∙ so_far.ranks;
@@ -120,14 +121,14 @@ module _ (plans : List Plan) (first : Store) (h : List Act) (a : Act) (now : IsI
         ap (sum_by parcel_size) so_far.parcels_are ∙ sym (carried_kept plans h before) ∙ sym so_far.counted
 
     -- what was held before the action
-    pub held_before : stored s.ranks (values s) + count ≤ 2 ^ 24
+    pub held_before : stored s.ranks (values s) + count ≤ weight_limit
     held_before = go h so_far.light so_far.values_are so_far.counted
       where
-        was : (g : List Act) → weight plans g (held_after plans no_send first g) ≤ 2 ^ 24 → values s ≡ (held_after plans no_send first g).store → count ≡ carried plans g (held_after plans no_send first g) → stored s.ranks (values s) + count ≤ 2 ^ 24
+        was : (g : List Act) → weight plans g (held_after plans no_send first g) ≤ weight_limit → values s ≡ (held_after plans no_send first g).store → count ≡ carried plans g (held_after plans no_send first g) → stored s.ranks (values s) + count ≤ weight_limit
         was g few e c =
             omega (arith, few, ap₂ (λ m k. m + k) (ap₂ (λ (n : ℕ) (u : Store). stored n u) so_far.ranks e) c, weight_opened plans g (held_after plans no_send first g))
 
-        go : (g : List Act) → IsLight plans first g → values s ≡ (held_after plans no_send first g).store → count ≡ carried plans g (held_after plans no_send first g) → stored s.ranks (values s) + count ≤ 2 ^ 24
+        go : (g : List Act) → IsLight plans first g → values s ≡ (held_after plans no_send first g).store → count ≡ carried plans g (held_after plans no_send first g) → stored s.ranks (values s) + count ≤ weight_limit
         go [] light e c = was [] light e c
         go (b ∷ g) light e c = was (b ∷ g) light.2 e c
 
@@ -142,7 +143,7 @@ module _ (plans : List Plan) (first : Store) (h : List Act) (a : Act) (now : IsI
         let d = ap (λ (b : Class). place b == 2) c in
         let v = ap (λ (b : Class). place b == 1) c in
         let added = e ∙ ap (λ (u : Store). add_all a.op.rank (adds plans a.op) u) so_far.values_are ∙ sym (store_calc c k) in
-        let all : stored s.ranks (add_all a.op.rank (adds plans a.op) (values s)) + count ≤ 2 ^ 24 = subst (λ (items : List _). stored s.ranks (add_all a.op.rank items (values s)) + count ≤ 2 ^ 24) (take_all (length (adds plans a.op)) (adds plans a.op) (omega arith)) (within (length (adds plans a.op))) in
+        let all : stored s.ranks (add_all a.op.rank (adds plans a.op) (values s)) + count ≤ weight_limit = subst (λ (items : List _). stored s.ranks (add_all a.op.rank items (values s)) + count ≤ weight_limit) (take_all (length (adds plans a.op)) (adds plans a.op) (omega arith)) (within (length (adds plans a.op))) in
         carrying_after t parcels count added r (so_far.parcels_are ∙ sym (kept_others plans first h a now d v)) sum_before (calc_adds k within) (omega (arith, all, ap (stored t.ranks) e, ap (λ (n : ℕ). stored n (add_all a.op.rank (adds plans a.op) (values s))) r))
 
     -- what is kept at the place of an operation
@@ -166,7 +167,7 @@ module _ (plans : List Plan) (first : Store) (h : List Act) (a : Act) (now : IsI
       sum_handed =
           omega (arith, sum_by-set parcel_size parcels j (Some (parcel_of read_now)) None (parcel_within j a.op at), ap parcel_size (read_parcel j a.op at ∙ handed_before plans first h a now c), sum_before)
 
-      pub carrying_handed : (new_parcels : List (Option ParcelValues)) (total : ℕ) → new_parcels ≡ set parcels j (Some (parcel_of read_now)) → total ≡ count + size_of read_now → stored s.ranks (values s) + count + size_of read_now ≤ 2 ^ 24 → IsCarrying plans first (a ∷ h) s new_parcels total
+      pub carrying_handed : (new_parcels : List (Option ParcelValues)) (total : ℕ) → new_parcels ≡ set parcels j (Some (parcel_of read_now)) → total ≡ count + size_of read_now → stored s.ranks (values s) + count + size_of read_now ≤ weight_limit → IsCarrying plans first (a ∷ h) s new_parcels total
       carrying_handed new_parcels total put sum few =
           carrying_after s new_parcels total (so_far.values_are ∙ sym (store_send k)) refl (put ∙ handed) (ap (sum_by parcel_size) put ∙ sum_handed ∙ sym sum) (send_adds k) (omega (arith, few, sum))
 

@@ -4,6 +4,7 @@ use Rattle.std.specs.Option.{option_map, option_and_then}
 use Rattle.std.proofs.lemmas.Bool.{cases_lt, and_parts, cases_Bool}
 use Rattle.std.proofs.lemmas.Option.{slice_get_within, slice_get_read}
 use Rattle.std.proofs.lemmas.List.Elements.{All-contains, Contains-get_or}
+use Rattle.goal_limits.specs.Limits.{certified_op_limit, slot_limit}
 use Rattle.goal_graph.specs.declared.action.OpId.{OpId}
 use Rattle.goal_graph.specs.declared.plan.Op.{Op}
 use Rattle.goal_graph.specs.Schedule.{Plan, op_at, kind_at, ops_at}
@@ -39,7 +40,7 @@ is_false true h = absurd (true≢false (sym h))
 is_false false h = refl
 
 -- no lesser operation is open with y, where the row of y has none but those that end before y starts
-pub none_open : (before shared : List ℕ) (x y : ℕ) → x < 2048 → y < 2048 → IsMutual shared → (has shared y x ≡ true → has before y x ≡ false → ⊥) → is_open before shared x y ≡ true → ⊥
+pub none_open : (before shared : List ℕ) (x y : ℕ) → x < certified_op_limit → y < certified_op_limit → IsMutual shared → (has shared y x ≡ true → has before y x ≡ false → ⊥) → is_open before shared x y ≡ true → ⊥
 none_open before shared x y low high both_ways ordered both =
     let a = and_parts (has shared x y) (not (has before y x) && not (has before x y)) both in
     let b = and_parts (not (has before y x)) (not (has before x y)) a.1 in
@@ -50,7 +51,7 @@ module _ (plans : List Plan) (rank : ℕ) (touches : List Touch) (touchers write
   abbrev Share : ℕ → ℕ → ℕ → Type 0
   Share x y s = Contains (touched plans (op_id rank x)) s × Contains (touched plans (op_id rank y)) s × (Contains (written plans (op_id rank x)) s ⊎ Contains (written plans (op_id rank y)) s)
 
-  meets_sound : (t : Touch) → Contains touches t → (y : ℕ) → y < 2048 → meets touchers writers t y ≡ true → Share t.op y t.slot
+  meets_sound : (t : Touch) → Contains touches t → (y : ℕ) → y < certified_op_limit → meets touchers writers t y ≡ true → Share t.op y t.slot
   meets_sound t c y few h = go t.writes refl h
     where
       go : (b : Bool) → t.writes ≡ b → (if b then has touchers t.slot y else has writers t.slot y) ≡ true → Share t.op y t.slot
@@ -105,7 +106,7 @@ module _ (plans : List Plan) (rank : ℕ) (touches : List Touch) (touchers write
       subst (λ (k : ℕ). has shared k x ≡ true) other.2 (sharing.has_all other.0 other.1 x low other.4)
 
   -- where all that shares a slot is in the order of the numbers there is no race
-  pub ordered_no_race : (before : List ℕ) → AreRows plans rank before (λ op. op < length (ops_at plans rank)) → length (ops_at plans rank) ≤ 2048 → All (IsOrdered before touchers writers) touches → IsFirstOfRank plans rank None
+  pub ordered_no_race : (before : List ℕ) → AreRows plans rank before (λ op. op < length (ops_at plans rank)) → length (ops_at plans rank) ≤ certified_op_limit → All (IsOrdered before touchers writers) touches → IsFirstOfRank plans rank None
   ordered_no_race before rows few ordered a e r =
       let x = a.first in
       let y = a.second in
@@ -117,7 +118,7 @@ module _ (plans : List Plan) (rank : ℕ) (touches : List Touch) (touchers write
       let there : has before y x ≡ true = subst (λ (k : ℕ). has before k x ≡ true) met.2 (own x (omega (arith, lower, met.2)) met.4) in
       here.not_before (rows.sound y x (omega (arith, lower, inside, met.2, few)) there)
 
-  module _ (before shared : List ℕ) (rows : AreRows plans rank before (λ op. op < length (ops_at plans rank))) (sharing : AreShared touchers writers touches shared) (few : length (ops_at plans rank) ≤ 2048) where
+  module _ (before shared : List ℕ) (rows : AreRows plans rank before (λ op. op < length (ops_at plans rank))) (sharing : AreShared touchers writers touches shared) (few : length (ops_at plans rank) ≤ certified_op_limit) where
     open_parts : (x y : ℕ) → is_open before shared x y ≡ true → (has shared x y ≡ true) × (has before y x ≡ false) × (has before x y ≡ false)
     open_parts x y h =
         let a = and_parts (has shared x y) (not (has before y x) && not (has before x y)) h in
@@ -206,19 +207,19 @@ module _ (plans : List Plan) (rank : ℕ) (small : IsSmall plans) (inside : rank
   at : slice_get plans rank ≡ Some p
   at = slice_get_read plans (length plans) rank p refl inside read
 
-  pub few_operations : length (ops_at plans rank) ≤ 2048
+  pub few_operations : length (ops_at plans rank) ≤ certified_op_limit
   few_operations =
-      let few : length p.ops ≤ 2048 = subst (λ (q : Plan). length q.ops ≤ 2048) (sym read) (small.operations rank p inside) in
+      let few : length p.ops ≤ certified_op_limit = subst (λ (q : Plan). length q.ops ≤ certified_op_limit) (sym read) (small.operations rank p inside) in
       omega (arith, ap length (ops_at_some plans rank p at), few)
 
   pub known_touches : (touches : List Touch) → touches ≡ flat_map (touches_of p.ops) p.notes → AreTouches plans rank touches
   known_touches touches e =
       subst (AreTouches plans rank) (sym e) (are_touches plans rank p at (subst (λ (q : Plan). All NamesLowSlots q.notes) (sym read) (small.slots rank p inside)))
 
-  pub low_ops : (touches : List Touch) → AreTouches plans rank touches → All (λ (t : Touch). t.op < 2048) touches
+  pub low_ops : (touches : List Touch) → AreTouches plans rank touches → All (λ (t : Touch). t.op < certified_op_limit) touches
   low_ops touches known k d within =
       omega (arith, few_operations, known.op_below (get_or touches k d) (Contains-get_or touches k d within))
 
-  pub low_slots : (touches : List Touch) → AreTouches plans rank touches → All (λ (t : Touch). t.slot < 65536) touches
+  pub low_slots : (touches : List Touch) → AreTouches plans rank touches → All (λ (t : Touch). t.slot ≤ slot_limit) touches
   low_slots touches known k d within =
       omega (arith, known.slot_low (get_or touches k d) (Contains-get_or touches k d within))

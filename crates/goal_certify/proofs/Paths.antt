@@ -5,6 +5,7 @@ use Rattle.std.proofs.lemmas.Bool.{cases_eq, cases_lt}
 use Rattle.std.proofs.lemmas.List.{get_or_append_left, get_or_push}
 use Rattle.std.proofs.lemmas.List.Sums.{sum_by-set}
 use Rattle.std.proofs.lemmas.List.Elements.{All-contains}
+use Rattle.goal_limits.specs.Limits.{certified_op_limit}
 use Rattle.goal_graph.specs.declared.action.OpId.{OpId}
 use Rattle.goal_graph.specs.declared.plan.Need.{Need}
 use Rattle.goal_graph.specs.Schedule.{Plan, ops_at, needs, needed}
@@ -134,7 +135,7 @@ module _ (plans : List Plan) (rank : ℕ) where
             true≢false (sym is_done ∙ is_open)
 
 -- the row of x is done too
-pub rows_marked : (plans : List Plan) (x : OpId) (rows : List ℕ) (done : List Bool) → AreRows plans x.rank rows (λ k. get_or done k false ≡ true) → ((k : ℕ) → k < 2048 → EndsBefore plans (op_id x.rank k) x → has rows x.op k ≡ true) → AreRows plans x.rank rows (λ k. get_or (set done x.op true) k false ≡ true)
+pub rows_marked : (plans : List Plan) (x : OpId) (rows : List ℕ) (done : List Bool) → AreRows plans x.rank rows (λ k. get_or done k false ≡ true) → ((k : ℕ) → k < certified_op_limit → EndsBefore plans (op_id x.rank k) x → has rows x.op k ≡ true) → AreRows plans x.rank rows (λ k. get_or (set done x.op true) k false ≡ true)
 rows_marked plans x rows done r row = record {
   low = r.low;
   sound = r.sound;

@@ -8,6 +8,7 @@ use Rattle.std.proofs.lemmas.List.{get_or-replicate, get_or_past, length-replica
 use Rattle.std.proofs.lemmas.Nat.Bits.{bit_at_set_same, bit_at_set_other, bit_at-zero, bit_at-trailing_zeros, bit_at_or, bit_at-lt, bit_at_and, bit_at_not}
 use Rattle.std.specs.Prelude.{bit_or, bit_and}
 use Rattle.std.specs.Int.{bit_at, bit_not, trailing_zeros}
+use Rattle.goal_limits.specs.Limits.{certified_op_limit}
 use Rattle.goal_certify.specs.Rows.{has}
 
 -- a bit of a word
@@ -78,13 +79,13 @@ joined_more old now row others other place word inside read j = record { done = 
               get_or-set_other now (32 * row + place) k _ 0 apart ∙ j.rest k (λ a b. out a (omega arith))
         ]
 
-module _ (old new : List ℕ) (row : ℕ) (others : List ℕ) (other places : ℕ) (most : places ≤ 32) (low : (k : ℕ) → k < 2048 → has others other k ≡ true → k / 64 < places) (j : IsJoined old new row others other places) where
-  pub joined_adds : (k : ℕ) → k < 2048 → has others other k ≡ true → has new row k ≡ true
+module _ (old new : List ℕ) (row : ℕ) (others : List ℕ) (other places : ℕ) (most : places ≤ 32) (low : (k : ℕ) → k < certified_op_limit → has others other k ≡ true → k / 64 < places) (j : IsJoined old new row others other places) where
+  pub joined_adds : (k : ℕ) → k < certified_op_limit → has others other k ≡ true → has new row k ≡ true
   unfolding has
   joined_adds k small h =
       ap (λ w. bit w k) (j.done (k / 64) (low k small h)) ∙ bit_or_right _ _ (k % 64) h
 
-  pub joined_keeps : (r k : ℕ) → k < 2048 → has old r k ≡ true → has new r k ≡ true
+  pub joined_keeps : (r k : ℕ) → k < certified_op_limit → has old r k ≡ true → has new r k ≡ true
   unfolding has
   joined_keeps r k small h =
       elim (cases_eq r row) [
@@ -96,7 +97,7 @@ module _ (old new : List ℕ) (row : ℕ) (others : List ℕ) (other places : �
         | inr apart ↦ ap (λ w. bit w k) (j.rest (32 * r + k / 64) (λ a b. omega arith)) ∙ h
       ]
 
-  pub joined_no_more : (r k : ℕ) → k < 2048 → has new r k ≡ true → (has old r k ≡ true) ⊎ ((r ≡ row) × (has others other k ≡ true))
+  pub joined_no_more : (r k : ℕ) → k < certified_op_limit → has new r k ≡ true → (has old r k ≡ true) ⊎ ((r ≡ row) × (has others other k ≡ true))
   unfolding has
   joined_no_more r k small h =
       elim (cases_eq r row) [
@@ -113,7 +114,7 @@ module _ (old new : List ℕ) (row : ℕ) (others : List ℕ) (other places : �
       ]
 
 -- another bit
-module _ (old : List ℕ) (row number : ℕ) (inside : 32 * row + 32 ≤ length old) (few : number < 2048) where
+module _ (old : List ℕ) (row number : ℕ) (inside : 32 * row + 32 ≤ length old) (few : number < certified_op_limit) where
   abbrev with_bit : List ℕ
   with_bit = set old (32 * row + number / 64) (bit_or (get_or old (32 * row + number / 64) 0) (1 * 2 ^ (number % 64) % 2 ^ 64))
 
@@ -123,7 +124,7 @@ module _ (old : List ℕ) (row number : ℕ) (inside : 32 * row + 32 ≤ length 
       ap (λ w. bit w number) (get_or-set_same old (32 * row + number / 64) _ 0 (omega arith))
       ∙ eq-eqb _ 1 (bit_at_set_same w64 _ (number % 64) (omega arith))
 
-  put_other : (r k : ℕ) → k < 2048 → (r ≡ row → k ≡ number → ⊥) → has with_bit r k ≡ has old r k
+  put_other : (r k : ℕ) → k < certified_op_limit → (r ≡ row → k ≡ number → ⊥) → has with_bit r k ≡ has old r k
   unfolding has
   put_other r k small apart =
       elim (cases_eq (32 * r + k / 64) (32 * row + number / 64)) [
@@ -135,7 +136,7 @@ module _ (old : List ℕ) (row number : ℕ) (inside : 32 * row + 32 ≤ length 
         | inr other ↦ ap (λ w. bit w k) (get_or-set_other old (32 * row + number / 64) (32 * r + k / 64) _ 0 other)
       ]
 
-  pub put_keeps : (r k : ℕ) → k < 2048 → has old r k ≡ true → has with_bit r k ≡ true
+  pub put_keeps : (r k : ℕ) → k < certified_op_limit → has old r k ≡ true → has with_bit r k ≡ true
   put_keeps r k small h =
       elim (cases_eq r row) [
         | inl same_row ↦
@@ -146,7 +147,7 @@ module _ (old : List ℕ) (row number : ℕ) (inside : 32 * row + 32 ≤ length 
         | inr apart ↦ put_other r k small (λ a b. apart a) ∙ h
       ]
 
-  pub put_no_more : (r k : ℕ) → k < 2048 → has with_bit r k ≡ true → (has old r k ≡ true) ⊎ ((r ≡ row) × (k ≡ number))
+  pub put_no_more : (r k : ℕ) → k < certified_op_limit → has with_bit r k ≡ true → (has old r k ≡ true) ⊎ ((r ≡ row) × (k ≡ number))
   put_no_more r k small h =
       elim (cases_eq r row) [
         | inl same_row ↦
@@ -158,7 +159,7 @@ module _ (old : List ℕ) (row number : ℕ) (inside : 32 * row + 32 ≤ length 
       ]
 
 -- a word is 0, and the others are the same
-pub cleared_word : (old : List ℕ) (row number : ℕ) → 32 * row + 32 ≤ length old → number < 2048 → (r k : ℕ) → k < 2048 → has (set old (32 * row + number / 64) 0) r k ≡ true → (has old r k ≡ true) × (r ≡ row → k ≢ number)
+pub cleared_word : (old : List ℕ) (row number : ℕ) → 32 * row + 32 ≤ length old → number < certified_op_limit → (r k : ℕ) → k < certified_op_limit → has (set old (32 * row + number / 64) 0) r k ≡ true → (has old r k ≡ true) × (r ≡ row → k ≢ number)
 unfolding has
 cleared_word old row number inside few r k small h =
     elim (cases_eq (32 * r + k / 64) (32 * row + number / 64)) [
@@ -191,7 +192,7 @@ cleared_more old now row place inside j = record {
       ];
 }
 
-pub cleared_less : (old new : List ℕ) (row words : ℕ) → words ≤ 32 → (places : ℕ) → places ≡ words → IsCleared old new row places → (r k : ℕ) → k < 2048 → has new r k ≡ true → (has old r k ≡ true) × (r ≡ row → 64 * words ≤ k)
+pub cleared_less : (old new : List ℕ) (row words : ℕ) → words ≤ 32 → (places : ℕ) → places ≡ words → IsCleared old new row places → (r k : ℕ) → k < certified_op_limit → has new r k ≡ true → (has old r k ≡ true) × (r ≡ row → 64 * words ≤ k)
 unfolding has
 cleared_less old new row words most places all j r k small h =
     elim (cases_lt (k / 64) words) [
@@ -246,7 +247,7 @@ below_lowest word i fits low =
     ]
 
 -- where the bit is not one of those that the one row has without the other, the other has it too
-pub none_beside : (these : List ℕ) (row : ℕ) (others : List ℕ) (other k : ℕ) → k < 2048 → get_or others (32 * other + k / 64) 0 < 2 ^ 64 → bit_at (bit_and (get_or these (32 * row + k / 64) 0) (bit_not w64 (get_or others (32 * other + k / 64) 0))) (k % 64) ≡ 0 → has these row k ≡ true → has others other k ≡ false → ⊥
+pub none_beside : (these : List ℕ) (row : ℕ) (others : List ℕ) (other k : ℕ) → k < certified_op_limit → get_or others (32 * other + k / 64) 0 < 2 ^ 64 → bit_at (bit_and (get_or these (32 * row + k / 64) 0) (bit_not w64 (get_or others (32 * other + k / 64) 0))) (k % 64) ≡ 0 → has these row k ≡ true → has others other k ≡ false → ⊥
 unfolding has
 none_beside these row others other k small fits none h alone =
     let x : bit_at (get_or these (32 * row + k / 64) 0) (k % 64) ≡ 1 = equals_one _ h in
@@ -255,7 +256,7 @@ none_beside these row others other k small fits none h alone =
     let n : bit_at (bit_not w64 (get_or others (32 * other + k / 64) 0)) (k % 64) ≡ 1 - bit_at (get_or others (32 * other + k / 64) 0) (k % 64) = bit_at_not w64 _ (k % 64) fits (omega arith) in
     omega (arith, none, n, x, y, z, bit_at_and (get_or these (32 * row + k / 64) 0) (bit_not w64 (get_or others (32 * other + k / 64) 0)) (k % 64))
 
-pub none_alone : (these others : List ℕ) (row k : ℕ) → k < 2048 → get_or others (32 * row + k / 64) 0 < 2 ^ 64 → bit_at (bit_and (get_or these (32 * row + k / 64) 0) (bit_not w64 (get_or others (32 * row + k / 64) 0))) (k % 64) ≡ 0 → has these row k ≡ true → has others row k ≡ false → ⊥
+pub none_alone : (these others : List ℕ) (row k : ℕ) → k < certified_op_limit → get_or others (32 * row + k / 64) 0 < 2 ^ 64 → bit_at (bit_and (get_or these (32 * row + k / 64) 0) (bit_not w64 (get_or others (32 * row + k / 64) 0))) (k % 64) ≡ 0 → has these row k ≡ true → has others row k ≡ false → ⊥
 none_alone these others row k = none_beside these row others row k
 
 -- the words of two rows at one place, where the first has no number below a bound without the other
@@ -263,7 +264,7 @@ module _ (these : List ℕ) (row : ℕ) (others : List ℕ) (other place bound :
   abbrev alone : ℕ
   alone = bit_and (get_or these (32 * row + place) 0) (bit_not w64 (get_or others (32 * other + place) 0))
 
-  pub covered_word : bound ≤ 2048 → get_or these (32 * row + place) 0 < 2 ^ 64 → get_or others (32 * other + place) 0 < 2 ^ 64 → (alone ≡ 0) ⊎ (bound ≤ 64 * place + trailing_zeros w64 alone) → (k : ℕ) → k < bound → k / 64 ≡ place → has these row k ≡ true → has others other k ≡ true
+  pub covered_word : bound ≤ certified_op_limit → get_or these (32 * row + place) 0 < 2 ^ 64 → get_or others (32 * other + place) 0 < 2 ^ 64 → (alone ≡ 0) ⊎ (bound ≤ 64 * place + trailing_zeros w64 alone) → (k : ℕ) → k < bound → k / 64 ≡ place → has these row k ≡ true → has others other k ≡ true
   covered_word few fits_these fits_others none k low here h =
       let zero_bit : bit_at alone (k % 64) ≡ 0 = ⊎_elim (λ e. ap (λ w. bit_at w (k % 64)) e ∙ bit_at-zero (k % 64)) (λ above. below_lowest alone (k % 64) (omega (arith, and_le_l (get_or these (32 * row + place) 0) (bit_not w64 (get_or others (32 * other + place) 0)), fits_these)) (omega (arith, above, low, here))) none in
       let read : bit_at (bit_and (get_or these (32 * row + k / 64) 0) (bit_not w64 (get_or others (32 * other + k / 64) 0))) (k % 64) ≡ 0 = ap (λ (p : ℕ). bit_at (bit_and (get_or these (32 * row + p) 0) (bit_not w64 (get_or others (32 * other + p) 0))) (k % 64)) here ∙ zero_bit in

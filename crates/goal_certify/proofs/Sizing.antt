@@ -8,6 +8,7 @@ use Rattle.goal_graph.specs.declared.plan.Op.{Op}
 use Rattle.goal_graph.specs.declared.plan.Note.{Note}
 use Rattle.goal_graph.specs.declared.plan.Note.TheVariants.{Moves, Adds}
 use Rattle.std.proofs.lemmas.List.Sums.{sum_by_more}
+use Rattle.goal_limits.specs.Limits.{certified_op_limit, slot_limit, moved_limit}
 use Rattle.goal_graph.specs.Schedule.{Plan, ops_at}
 use Rattle.goal_limits.specs.declared.limits.TheConstants.{MAX_NOTES}
 use Rattle.goal_graph.specs.Limits.{AreCountsWithin}
@@ -39,13 +40,13 @@ abbrev pub NoneBelow : List Plan → ℕ → Type 0
 NoneBelow plans n = (rank : ℕ) → rank < n → IsLarge plans rank → ⊥
 
 module _ (plans : List Plan) where
-  pub not_large : (rank : ℕ) (p : Plan) → slice_get plans rank ≡ Some p → length p.ops ≤ 2048 → All NamesLowSlots p.notes → sum_by moved_of (take (rank + 1) plans) ≤ 2 ^ 24 → IsLarge plans rank → ⊥
+  pub not_large : (rank : ℕ) (p : Plan) → slice_get plans rank ≡ Some p → length p.ops ≤ certified_op_limit → All NamesLowSlots p.notes → sum_by moved_of (take (rank + 1) plans) ≤ moved_limit → IsLarge plans rank → ⊥
   not_large rank p e few low light (too_many more) = omega (arith, few, more, ap length (ops_at_some plans rank p e))
   not_large rank p e few low light (too_high note c high) =
       high (All-contains NamesLowSlots p.notes note low (subst (λ (ns : List Note). Contains ns note) (notes_at_some plans rank p e) c))
   not_large rank p e few low light (too_much inside more) = omega (arith, light, more)
 
-  pub none_more_below : (rank : ℕ) (p : Plan) → NoneBelow plans rank → slice_get plans rank ≡ Some p → length p.ops ≤ 2048 → All NamesLowSlots p.notes → sum_by moved_of (take (rank + 1) plans) ≤ 2 ^ 24 → NoneBelow plans (rank + 1)
+  pub none_more_below : (rank : ℕ) (p : Plan) → NoneBelow plans rank → slice_get plans rank ≡ Some p → length p.ops ≤ certified_op_limit → All NamesLowSlots p.notes → sum_by moved_of (take (rank + 1) plans) ≤ moved_limit → NoneBelow plans (rank + 1)
   none_more_below rank p before e few low light other below large =
       ⊎_elim (λ l. before other l large) (λ g. let same : other ≡ rank = omega (arith, below, g) in not_large rank p e few low light (subst (λ (n : ℕ). IsLarge plans n) same large)) (cases_lt other rank)
 
@@ -67,27 +68,27 @@ module _ (plans : List Plan) where
       lesser other (inr f) = absurd f.1
 
   -- the three reasons
-  pub stopped_by_ops : (rank : ℕ) (p : Plan) → NoneBelow plans rank → slice_get plans rank ≡ Some p → 2048 < length p.ops → IsStopped plans 0 1 (TooLarge rank)
+  pub stopped_by_ops : (rank : ℕ) (p : Plan) → NoneBelow plans rank → slice_get plans rank ≡ Some p → certified_op_limit < length p.ops → IsStopped plans 0 1 (TooLarge rank)
   stopped_by_ops rank p before e more =
-      least_large rank before (too_many (subst (λ (os : List Op). 2048 < length os) (sym (ops_at_some plans rank p e)) more))
+      least_large rank before (too_many (subst (λ (os : List Op). certified_op_limit < length os) (sym (ops_at_some plans rank p e)) more))
 
   pub stopped_by_note : (rank : ℕ) (p : Plan) → NoneBelow plans rank → slice_get plans rank ≡ Some p → Any (λ (n : Note). NamesLowSlots n → ⊥) p.notes → IsStopped plans 0 1 (TooLarge rank)
   stopped_by_note rank p before e any =
       least_large rank before (too_high any.1 (subst (λ (ns : List Note). Contains ns any.1) (sym (notes_at_some plans rank p e)) (any.0, any.2, any.3)) any.4)
 
-  pub stopped_by_moves : (rank : ℕ) (p : Plan) → NoneBelow plans rank → slice_get plans rank ≡ Some p → 2 ^ 24 < sum_by moved_of (take (rank + 1) plans) → IsStopped plans 0 1 (TooLarge rank)
+  pub stopped_by_moves : (rank : ℕ) (p : Plan) → NoneBelow plans rank → slice_get plans rank ≡ Some p → moved_limit < sum_by moved_of (take (rank + 1) plans) → IsStopped plans 0 1 (TooLarge rank)
   stopped_by_moves rank p before e more =
       least_large rank before (too_much (slice_get_within plans rank p e) more)
 
 -- one more note
-pub low_moves : (n : Note) → NamesLowSlots n → moved_count n ≤ 65536
+pub low_moves : (n : Note) → NamesLowSlots n → moved_count n ≤ slot_limit + 1
 low_moves (Moves op lo hi) low = let l = low.1 in omega (arith, l)
 low_moves (Adds op from to) low = omega arith
 
 pub counted_more : (notes : List Note) (i : ℕ) (d : Note) (count more : ℕ) → i < length notes → count ≡ sum_by moved_count (take i notes) → more ≡ moved_count (get_or notes i d) → count + more ≡ sum_by moved_count (take (i + 1) notes)
 counted_more notes i d count more inside so_far next = omega (arith, so_far, next, sum_by_more moved_count notes i d inside)
 
-pub few_more : (note : Note) (i count more : ℕ) → count ≤ i * 65536 → more ≡ moved_count note → NamesLowSlots note → count + more ≤ (i + 1) * 65536
+pub few_more : (note : Note) (i count more : ℕ) → count ≤ i * (slot_limit + 1) → more ≡ moved_count note → NamesLowSlots note → count + more ≤ (i + 1) * (slot_limit + 1)
 few_more note i count more few next low = omega (arith, few, next, low_moves note low)
 
 -- one more rank

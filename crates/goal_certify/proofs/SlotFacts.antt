@@ -7,6 +7,7 @@ use Rattle.std.proofs.lemmas.List.{take_more}
 use Rattle.std.proofs.lemmas.List.Concat.{length-flat_map}
 use Rattle.std.proofs.lemmas.List.Elements.{All-append}
 use Rattle.std.proofs.lemmas.List.Sums.{sum_by-cons, get_or-le-sum_by}
+use Rattle.goal_limits.specs.Limits.{slot_limit, moved_limit, weight_limit}
 use Rattle.goal_graph.specs.declared.action.OpId.{OpId}
 use Rattle.goal_graph.specs.declared.plan.Note.{Note}
 use Rattle.goal_graph.specs.declared.plan.Note.TheVariants.{Moves, Adds}
@@ -24,17 +25,17 @@ use Rattle.goal_certify.proofs.Counting.{length-slots_from}
 use Rattle.goal_graph.proofs.ForCallers.{all_none, all_one}
 
 abbrev pub IsLow : ℕ → Type 0
-IsLow k = k ≤ 65535
+IsLow k = k ≤ slot_limit
 
 abbrev pub AddsLow : Adding → Type 0
-AddsLow a = (a.from ≤ 65535) × (a.to ≤ 65535)
+AddsLow a = (a.from ≤ slot_limit) × (a.to ≤ slot_limit)
 
 all_flat : {A B : Type 0} (P : B → Type 0) (f : A → List B) (Q : A → Type 0) → ((a : A) → Q a → All P (f a)) → (xs : List A) → All Q xs → All P (flat_map f xs)
 all_flat P f Q each [] all = all_none P
 all_flat P f Q each (x ∷ xs) all =
     All-append P (f x) (flat_map f xs) (each x (all 0 x (omega arith))) (all_flat P f Q each xs (λ k d l. all (suc k) d (omega (arith, l))))
 
-low_from : (lo n : ℕ) → lo + n ≤ 65536 → All IsLow (slots_from lo n)
+low_from : (lo n : ℕ) → lo + n ≤ slot_limit + 1 → All IsLow (slots_from lo n)
 unfolding slots_from
 low_from lo zero l = all_none IsLow
 low_from lo (suc n) l = All-append IsLow (lo ∷ []) (slots_from (lo + 1) n) (all_one IsLow lo (omega (arith, l))) (low_from (lo + 1) n (omega (arith, l)))
@@ -43,11 +44,11 @@ none_from : (lo : ℕ) → All IsLow (slots_from lo 0)
 unfolding slots_from
 none_from lo = all_none IsLow
 
-some_from : (lo n : ℕ) → (n ≡ 0) ⊎ (lo + n ≤ 65536) → All IsLow (slots_from lo n)
+some_from : (lo n : ℕ) → (n ≡ 0) ⊎ (lo + n ≤ slot_limit + 1) → All IsLow (slots_from lo n)
 some_from lo n (inl e) = subst (λ (m : ℕ). All IsLow (slots_from lo m)) (sym e) (none_from lo)
 some_from lo n (inr l) = low_from lo n l
 
-cases_from : (lo hi : ℕ) → hi ≤ 65535 → (hi + 1 - lo ≡ 0) ⊎ (lo + (hi + 1 - lo) ≤ 65536)
+cases_from : (lo hi : ℕ) → hi ≤ slot_limit → (hi + 1 - lo ≡ 0) ⊎ (lo + (hi + 1 - lo) ≤ slot_limit + 1)
 cases_from lo hi l = elim (cases_lt hi lo) [ inl less ↦ inl (omega (arith, less)) | inr le ↦ inr (omega (arith, le, l)) ]
 
 moved_low : (op : ℕ) (n : Note) → NamesLowSlots n → All IsLow (moved_by op n)
@@ -102,7 +103,7 @@ module _ (plans : List Plan) (small : IsSmall plans) (x : OpId) (is : IsOp plans
   adds_low =
       subst (λ (ns : List Note). All AddsLow (flat_map (added_by x.op) ns)) (sym (notes_there plans x is no_plan)) (all_flat AddsLow (added_by x.op) NamesLowSlots (added_low x.op) own.notes low_notes)
 
-  pub slots_few : length (slots plans x) ≤ 2 ^ 24
+  pub slots_few : length (slots plans x) ≤ moved_limit
   unfolding slots
   slots_few =
       omega (arith, ap (λ (ns : List Note). length (flat_map (moved_by x.op) ns)) (notes_there plans x is no_plan), sum_few x.op own.notes, get_or-le-sum_by (λ (p : Plan). sum_by moved_count p.notes) plans x.rank no_plan (rank_below plans x is), small.moves)
@@ -113,7 +114,7 @@ unfolding write
 stored_write ranks rank [] vs s low all = omega arith
 stored_write ranks rank (k ∷ ks) [] s low all = omega arith
 stored_write ranks rank (k ∷ ks) (v ∷ vs) s low all =
-    let k_low : k ≤ 65535 = all 0 k (omega arith) in
+    let k_low : k ≤ slot_limit = all 0 k (omega arith) in
     let rest : stored ranks (write rank ks vs (set_slot rank k v s)) ≤ stored ranks (set_slot rank k v s) + size_of vs = stored_write ranks rank ks vs (set_slot rank k v s) low (λ i d l. all (suc i) d (omega (arith, l))) in
     omega (arith, rest, stored_set ranks rank k v s low (omega (arith, k_low)), sum_by-cons (λ (w : Value). length w) v vs)
 
@@ -123,16 +124,16 @@ size_read f [] = refl
 size_read f (k ∷ ks) =
     omega (arith, sum_by-cons (λ (w : Value). length w) (f k) (map f ks), sum_by-cons (λ k. length (f k)) k ks, size_read f ks)
 
-pub read_bound : (ranks rank : ℕ) (s : Store) (ks : List ℕ) → rank < ranks → All IsLow ks → stored ranks s ≤ 2 ^ 24 → sum_by (λ k. length (s rank k)) ks ≤ length ks * 2 ^ 24
+pub read_bound : (ranks rank : ℕ) (s : Store) (ks : List ℕ) → rank < ranks → All IsLow ks → stored ranks s ≤ weight_limit → sum_by (λ k. length (s rank k)) ks ≤ length ks * weight_limit
 read_bound ranks rank s [] low all light = omega arith
 read_bound ranks rank s (k ∷ ks) low all light =
-    let k_low : k ≤ 65535 = all 0 k (omega arith) in
+    let k_low : k ≤ slot_limit = all 0 k (omega arith) in
     let most = stored_most ranks rank k s low (omega (arith, k_low)) in
     let rest = read_bound ranks rank s ks low (λ i d l. all (suc i) d (omega (arith, l))) light in
     omega (arith, most, rest, light, sum_by-cons (λ k. length (s rank k)) k ks)
 
 -- what an operation reads of the slots of its rank is little
-pub read_light : (plans : List Plan) → IsSmall plans → (x : OpId) → IsOp plans x → (ranks : ℕ) (s : Store) → ranks ≡ length plans → stored ranks s ≤ 2 ^ 24 → (ks : List ℕ) (vs : List Value) → ks ≡ slots plans x → vs ≡ map (s x.rank) ks → size_of vs ≤ 2 ^ 48
+pub read_light : (plans : List Plan) → IsSmall plans → (x : OpId) → IsOp plans x → (ranks : ℕ) (s : Store) → ranks ≡ length plans → stored ranks s ≤ weight_limit → (ks : List ℕ) (vs : List Value) → ks ≡ slots plans x → vs ≡ map (s x.rank) ks → size_of vs ≤ 2 ^ 48
 read_light plans small x is ranks s same light ks vs e f =
     let low : All IsLow ks = subst (All IsLow) (sym e) (slots_low plans small x is) in
     let most = read_bound ranks x.rank s ks (omega (arith, rank_below plans x is, same)) low light in
@@ -148,7 +149,7 @@ pub add_more : (rank : ℕ) (added : List Adding) (i : ℕ) (d : Adding) (s : St
 add_more rank added i d s l =
     ap (λ (items : List Adding). add_all rank items s) (take_more added i d l) ∙ add_last rank (take i added) (get_or added i d) s
 
-pub stored_more : (ranks rank : ℕ) (added : List Adding) (i : ℕ) (d : Adding) (s : Store) → rank < ranks → i < length added → (get_or added i d).to ≤ 65535 → stored ranks (add_all rank (take (i + 1) added) s) ≡ stored ranks (add_all rank (take i added) s) + length (add_all rank (take i added) s rank (get_or added i d).from)
+pub stored_more : (ranks rank : ℕ) (added : List Adding) (i : ℕ) (d : Adding) (s : Store) → rank < ranks → i < length added → (get_or added i d).to ≤ slot_limit → stored ranks (add_all rank (take (i + 1) added) s) ≡ stored ranks (add_all rank (take i added) s) + length (add_all rank (take i added) s rank (get_or added i d).from)
 stored_more ranks rank added i d s low l to_low =
     let a = get_or added i d in
     let t = add_all rank (take i added) s in
@@ -159,14 +160,14 @@ stored_more ranks rank added i d s low l to_low =
 pub record NotesAdded (rank : ℕ) (added : List Adding) (others : ℕ) (first now : Store) (ranks ranks_now i : ℕ) : Type 0 where
   pub same : ranks_now ≡ ranks
   pub stores : now ≡ add_all rank (take i added) first
-  pub within : (n : ℕ) → n ≤ i → stored ranks (add_all rank (take n added) first) + others ≤ 2 ^ 24
+  pub within : (n : ℕ) → n ≤ i → stored ranks (add_all rank (take n added) first) + others ≤ weight_limit
 
-pub none_added : (rank : ℕ) (added : List Adding) (others : ℕ) (first : Store) (ranks : ℕ) → stored ranks first + others ≤ 2 ^ 24 → NotesAdded rank added others first first ranks ranks 0
+pub none_added : (rank : ℕ) (added : List Adding) (others : ℕ) (first : Store) (ranks : ℕ) → stored ranks first + others ≤ weight_limit → NotesAdded rank added others first first ranks ranks 0
 unfolding add_all
 none_added rank added others first ranks light = record {
   same = refl;
   stores = refl;
-  within = λ n l. let e : 0 ≡ n = omega (arith, l) in subst (λ (k : ℕ). stored ranks (add_all rank (take k added) first) + others ≤ 2 ^ 24) e light;
+  within = λ n l. let e : 0 ≡ n = omega (arith, l) in subst (λ (k : ℕ). stored ranks (add_all rank (take k added) first) + others ≤ weight_limit) e light;
 }
 
 module _ (rank : ℕ) (added : List Adding) (others : ℕ) (first now : Store) (ranks ranks_now i : ℕ) (so_far : NotesAdded rank added others first now ranks ranks_now i) where
@@ -176,12 +177,12 @@ module _ (rank : ℕ) (added : List Adding) (others : ℕ) (first now : Store) (
         let more = stored_more ranks rank added i d first below inside (low i d inside).1 in
         omega (arith, more, ap (stored ranks) so_far.stores, ap (λ (n : ℕ). stored n now) so_far.same, size_is, ap (λ (s : Store). length (s rank (get_or added i d).from)) so_far.stores, total_is)
 
-    pub added_next : total ≤ 2 ^ 24 → (after : Store) (ranks_after : ℕ) → after ≡ set_slot rank (get_or added i d).to (merge (now rank (get_or added i d).to) (now rank (get_or added i d).from)) now → ranks_after ≡ ranks_now → NotesAdded rank added others first after ranks ranks_after (i + 1)
+    pub added_next : total ≤ weight_limit → (after : Store) (ranks_after : ℕ) → after ≡ set_slot rank (get_or added i d).to (merge (now rank (get_or added i d).to) (now rank (get_or added i d).from)) now → ranks_after ≡ ranks_now → NotesAdded rank added others first after ranks ranks_after (i + 1)
     added_next few after ranks_after e same = record {
       same = same ∙ so_far.same;
       stores = e ∙ ap (λ (s : Store). set_slot rank (get_or added i d).to (merge (s rank (get_or added i d).to) (s rank (get_or added i d).from)) s) so_far.stores ∙ sym (add_more rank added i d first inside);
-      within = λ n l. elim (cases_lt i n) [ inl past ↦ (let e : i + 1 ≡ n = omega (arith, l, past) in let most : stored ranks (add_all rank (take (i + 1) added) first) + others ≤ 2 ^ 24 = omega (arith, next_total, few) in subst (λ (k : ℕ). stored ranks (add_all rank (take k added) first) + others ≤ 2 ^ 24) e most) | inr le ↦ so_far.within n le ];
+      within = λ n l. elim (cases_lt i n) [ inl past ↦ (let e : i + 1 ≡ n = omega (arith, l, past) in let most : stored ranks (add_all rank (take (i + 1) added) first) + others ≤ weight_limit = omega (arith, next_total, few) in subst (λ (k : ℕ). stored ranks (add_all rank (take k added) first) + others ≤ weight_limit) e most) | inr le ↦ so_far.within n le ];
     }
 
-    pub added_over : 2 ^ 24 < total → AddsOver ranks rank added first others total
+    pub added_over : weight_limit < total → AddsOver ranks rank added first others total
     added_over heavy = (i + 1, next_total, heavy, λ k l. so_far.within k (omega (arith, l)))

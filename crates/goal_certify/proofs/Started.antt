@@ -4,6 +4,7 @@ use Rattle.std.specs.List.{sum_by}
 use Rattle.std.proofs.lemmas.Bool.{both_ways, cases_Bool, ltb-true}
 use Rattle.std.proofs.lemmas.List.Sums.{sum_by-cons}
 use Rattle.std.proofs.lemmas.List.Elements.{All-replicate}
+use Rattle.goal_limits.specs.Limits.{weight_limit}
 use Rattle.goal_graph.specs.declared.action.OpId.{OpId}
 use Rattle.goal_graph.specs.declared.action.Class.TheVariants.{Data}
 use Rattle.goal_graph.specs.Schedule.{Plan, operations}
@@ -61,7 +62,7 @@ module _ (plans : List Plan) (first : Store) where
       let opened = weight_opened plans [] start in
       omega (arith, opened, start_carried, ap (stored (length plans)) start_store)
 
-  pub carrying_at_start : (s : Kept) (parcels : List (Option ParcelValues)) → values s ≡ first → s.ranks ≡ length plans → parcels ≡ replicate (length (operations plans)) None → stored (length plans) first ≤ 2 ^ 24 → IsCarrying plans first [] s parcels 0
+  pub carrying_at_start : (s : Kept) (parcels : List (Option ParcelValues)) → values s ≡ first → s.ranks ≡ length plans → parcels ≡ replicate (length (operations plans)) None → stored (length plans) first ≤ weight_limit → IsCarrying plans first [] s parcels 0
   carrying_at_start s parcels is ranks none light = record {
     values_are = is ∙ sym start_store;
     ranks = ranks;
@@ -70,7 +71,7 @@ module _ (plans : List Plan) (first : Store) where
     light = omega (arith, light, start_weight);
   }
 
-  pub started_heavy : (wanted : ℕ → ℕ → Value → Bool) (total : ℕ) → total ≡ stored (length plans) first → 2 ^ 24 < total → IsFirstOf plans first wanted 7 9 (Weight total)
+  pub started_heavy : (wanted : ℕ → ℕ → Value → Bool) (total : ℕ) → total ≡ stored (length plans) first → weight_limit < total → IsFirstOf plans first wanted 7 9 (Weight total)
   started_heavy wanted total is over =
       weight_first plans first wanted [] total tt tt (start_weight ∙ sym is, over)
 
@@ -124,7 +125,7 @@ stopped_over plans store h fault run takes (inr over) =
     inr (λ wanted. subst (λ (f : CertFault). IsFirstOf plans store wanted 7 9 f) (sym over.1) (weight_first plans store wanted h over.0 run takes over.2))
 
 -- before the first step nothing is under way
-module _ (plans : List Plan) (first : Store) (s : Summed) (parcels : List (Option Parcel)) (is : values s.kept ≡ first) (ranks : s.kept.ranks ≡ length plans) (none : parcels ≡ replicate (length (operations plans)) None) (light : stored (length plans) first ≤ 2 ^ 24) where
+module _ (plans : List Plan) (first : Store) (s : Summed) (parcels : List (Option Parcel)) (is : values s.kept ≡ first) (ranks : s.kept.ranks ≡ length plans) (none : parcels ≡ replicate (length (operations plans)) None) (light : stored (length plans) first ≤ weight_limit) where
   pub holding_at_start : (h : List Act) → h ≡ [] → IsHolding plans first h s parcels 0
   holding_at_start h start = record {
     carrying = subst (λ (acts : List Act). IsCarrying plans first acts s.kept (values_of_parcels s.sums parcels) 0) (sym start) (carrying_at_start plans first s.kept (values_of_parcels s.sums parcels) is ranks (ap (values_of_parcels s.sums) none ∙ no_parcel_values s.sums (length (operations plans))) light);

@@ -3,6 +3,7 @@ use Rattle.std.proofs.Common.{⊎_elim, ℕ, ◌+◌, ◌*◌, ◌≡◌, ◌≢
 use Rattle.std.proofs.lemmas.Bool.{cases_eq}
 use Rattle.std.proofs.lemmas.List.{take_more, take_all, take-append-drop, get_or_default}
 use Rattle.std.proofs.lemmas.List.Elements.{Contains-push, Contains-append_left, Contains-push_cases, All-contains}
+use Rattle.goal_limits.specs.Limits.{certified_op_limit}
 use Rattle.goal_certify.specs.declared.races.touches.Touch.{Touch}
 use Rattle.goal_certify.specs.Rows.{has}
 use Rattle.goal_certify.specs.Table.{is_marked, AreEmpty, AreMarked, meets, AreShared}
@@ -33,10 +34,10 @@ in_whole {X} xs i x c =
     subst (λ (ys : List X). Contains ys x) (take-append-drop i xs) (Contains-append_left (take i xs) (drop i xs) x c)
 
 -- another touch is marked
-pub marked_more : (only_writes : Bool) (touches : List Touch) (i : ℕ) (e : Touch) (old new : List ℕ) → i < length touches → AreMarked only_writes (take i touches) old → 32 * (get_or touches i e).slot + 32 ≤ length new → length old ≤ length new → (is_marked only_writes (get_or touches i e) ≡ true → has new (get_or touches i e).slot (get_or touches i e).op ≡ true) → (All (λ (t : Touch). t.op < 2048) touches) → ((r k : ℕ) → k < 2048 → has old r k ≡ true → has new r k ≡ true) → ((r k : ℕ) → k < 2048 → has new r k ≡ true → (has old r k ≡ true) ⊎ ((is_marked only_writes (get_or touches i e) ≡ true) × (r ≡ (get_or touches i e).slot) × (k ≡ (get_or touches i e).op))) → AreMarked only_writes (take (i + 1) touches) new
+pub marked_more : (only_writes : Bool) (touches : List Touch) (i : ℕ) (e : Touch) (old new : List ℕ) → i < length touches → AreMarked only_writes (take i touches) old → 32 * (get_or touches i e).slot + 32 ≤ length new → length old ≤ length new → (is_marked only_writes (get_or touches i e) ≡ true → has new (get_or touches i e).slot (get_or touches i e).op ≡ true) → (All (λ (t : Touch). t.op < certified_op_limit) touches) → ((r k : ℕ) → k < certified_op_limit → has old r k ≡ true → has new r k ≡ true) → ((r k : ℕ) → k < certified_op_limit → has new r k ≡ true → (has old r k ≡ true) ⊎ ((is_marked only_writes (get_or touches i e) ≡ true) × (r ≡ (get_or touches i e).slot) × (k ≡ (get_or touches i e).op))) → AreMarked only_writes (take (i + 1) touches) new
 marked_more only_writes touches i e old new inside before room grown adds few_ops keeps no_more = record {
   has_all = λ t c m.
-      ⊎_elim (λ o. keeps t.slot t.op (All-contains (λ (t : Touch). t.op < 2048) touches t few_ops (in_whole touches i t o)) (before.has_all t o m)) (λ f. subst (λ (u : Touch). is_marked only_writes u ≡ true → has new u.slot u.op ≡ true) f adds m) (next_element touches i e t inside c);
+      ⊎_elim (λ o. keeps t.slot t.op (All-contains (λ (t : Touch). t.op < certified_op_limit) touches t few_ops (in_whole touches i t o)) (before.has_all t o m)) (λ f. subst (λ (u : Touch). is_marked only_writes u ≡ true → has new u.slot u.op ≡ true) f adds m) (next_element touches i e t inside c);
   no_more = λ s k few h.
       ⊎_elim (λ o. let m = before.no_more s k few o in (m.0, first_elements touches i e m.0 inside m.1, m.2, m.3, m.4)) (λ n. (get_or touches i e, last_element touches i e inside, n.0, sym n.1, sym n.2)) (no_more s k few h);
   room = λ t c.
@@ -50,7 +51,7 @@ marked_all only_writes touches i rows all m =
 
 -- what is left to wipe
 abbrev pub LeftFrom : List Touch → ℕ → List ℕ → Type 0
-LeftFrom touches i rows = (s k : ℕ) → k < 2048 → has rows s k ≡ true → (j : ℕ) × (i ≤ j) × (j < length touches) × ((e : Touch) → (get_or touches j e).slot ≡ s) × ((e : Touch) → (get_or touches j e).op ≡ k)
+LeftFrom touches i rows = (s k : ℕ) → k < certified_op_limit → has rows s k ≡ true → (j : ℕ) × (i ≤ j) × (j < length touches) × ((e : Touch) → (get_or touches j e).slot ≡ s) × ((e : Touch) → (get_or touches j e).op ≡ k)
 
 pub left_first : (only_writes : Bool) (touches : List Touch) (rows : List ℕ) → AreMarked only_writes touches rows → LeftFrom touches 0 rows
 left_first only_writes touches rows m s k few h =
@@ -58,7 +59,7 @@ left_first only_writes touches rows m s k few h =
     let found : (e : Touch) → get_or touches f.1.0 e ≡ f.0 = λ e. get_or_default touches f.1.0 e f.0 f.1.1 ∙ f.1.2 in
     (f.1.0, omega arith, f.1.1, λ e. ap (λ (t : Touch). t.slot) (found e) ∙ f.3, λ e. ap (λ (t : Touch). t.op) (found e) ∙ f.4)
 
-pub left_next : (touches : List Touch) (i : ℕ) (e : Touch) (old new : List ℕ) → LeftFrom touches i old → ((r k : ℕ) → k < 2048 → has new r k ≡ true → (has old r k ≡ true) × (r ≡ (get_or touches i e).slot → k ≢ (get_or touches i e).op)) → LeftFrom touches (i + 1) new
+pub left_next : (touches : List Touch) (i : ℕ) (e : Touch) (old new : List ℕ) → LeftFrom touches i old → ((r k : ℕ) → k < certified_op_limit → has new r k ≡ true → (has old r k ≡ true) × (r ≡ (get_or touches i e).slot → k ≢ (get_or touches i e).op)) → LeftFrom touches (i + 1) new
 left_next touches i e old new left less s k few h =
     let l = less s k few h in
     let f = left s k few l.0 in
@@ -73,7 +74,7 @@ shared_none touchers writers touches rows empty = record {
   no_more = λ r k few h. absurd (empty r k few h);
 }
 
-pub shared_more : (touchers writers : List ℕ) (touches : List Touch) (i : ℕ) (e : Touch) (old new : List ℕ) → i < length touches → AreShared touchers writers (take i touches) old → ((k : ℕ) → k < 2048 → meets touchers writers (get_or touches i e) k ≡ true → has new (get_or touches i e).op k ≡ true) → ((r k : ℕ) → k < 2048 → has old r k ≡ true → has new r k ≡ true) → ((r k : ℕ) → k < 2048 → has new r k ≡ true → (has old r k ≡ true) ⊎ ((r ≡ (get_or touches i e).op) × (meets touchers writers (get_or touches i e) k ≡ true))) → AreShared touchers writers (take (i + 1) touches) new
+pub shared_more : (touchers writers : List ℕ) (touches : List Touch) (i : ℕ) (e : Touch) (old new : List ℕ) → i < length touches → AreShared touchers writers (take i touches) old → ((k : ℕ) → k < certified_op_limit → meets touchers writers (get_or touches i e) k ≡ true → has new (get_or touches i e).op k ≡ true) → ((r k : ℕ) → k < certified_op_limit → has old r k ≡ true → has new r k ≡ true) → ((r k : ℕ) → k < certified_op_limit → has new r k ≡ true → (has old r k ≡ true) ⊎ ((r ≡ (get_or touches i e).op) × (meets touchers writers (get_or touches i e) k ≡ true))) → AreShared touchers writers (take (i + 1) touches) new
 shared_more touchers writers touches i e old new inside before adds keeps no_more = record {
   has_all = λ t c k few m.
       ⊎_elim (λ o. keeps t.op k few (before.has_all t o k few m)) (λ f. subst (λ (u : Touch). meets touchers writers u k ≡ true → has new u.op k ≡ true) f (adds k few) m) (next_element touches i e t inside c);

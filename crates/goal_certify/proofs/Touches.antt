@@ -6,6 +6,7 @@ use Rattle.std.proofs.lemmas.List.{map_push}
 use Rattle.std.proofs.lemmas.Option.{slice_get_within}
 use Rattle.std.proofs.lemmas.List.Concat.{flat_map-cons}
 use Rattle.std.proofs.lemmas.List.Elements.{All-contains, Contains-append_cases, Contains-append_left, Contains-append_right}
+use Rattle.goal_limits.specs.Limits.{slot_limit}
 use Rattle.goal_graph.specs.declared.plan.Op.{Op}
 use Rattle.goal_graph.specs.declared.plan.Kind.{Kind}
 use Rattle.goal_graph.specs.declared.plan.Kind.TheVariants.{Calc, Send, Recv}
@@ -261,7 +262,7 @@ module _ (plans : List Plan) (rank : ℕ) (p : Plan) (at : slice_get plans rank 
   noted_op_exists (Moves op lo hi) None t e c = absurd (omega (arith, c.1))
   noted_op_exists (Adds op from to) None t e c = absurd (omega (arith, c.1))
 
-  touch_is_low : (n : Note) (q : Option Kind) (t : Touch) → NamesLowSlots n → Contains (touches_in q n) t → t.slot ≤ 65535
+  touch_is_low : (n : Note) (q : Option Kind) (t : Touch) → NamesLowSlots n → Contains (touches_in q n) t → t.slot ≤ slot_limit
   unfolding moved
   touch_is_low (Moves op lo hi) (Some (Send bytes to tag)) t l c =
       let m = contains_source (λ (s : ℕ). record { op = op; slot = s; writes = false }) (slots_from lo (hi + 1 - lo)) t c in

@@ -5,24 +5,15 @@ ghost use Rattle.goal_certify.specs.Stages.{IsFree, IsStopped};
 
 use goal_blocks::CertFault;
 use goal_graph::{Note, Sched};
-use goal_limits::MAX_NOTES;
-
-/// The most operations that a rank may have.
-const MOST_OPS: usize = 2_048;
-
-/// The highest slot that a note may name.
-const HIGHEST_SLOT: u32 = 65_535;
-
-/// The most slots that all notes together may move.
-const MOST_MOVED: u64 = 1 << 24;
+use goal_limits::{MAX_CERTIFIED_OPS, MAX_MOVED, MAX_NOTES, MAX_SLOT};
 
 // Whether a note names no slot that is too high.
 fn names_low_slots(note: Note) -> bool
     ensures { IsTrue result ↔ NamesLowSlots note }
 {
     match note {
-        Note::Moves { lo, hi, .. } => lo <= HIGHEST_SLOT && hi <= HIGHEST_SLOT,
-        Note::Adds { from, to, .. } => from <= HIGHEST_SLOT && to <= HIGHEST_SLOT,
+        Note::Moves { lo, hi, .. } => lo <= MAX_SLOT && hi <= MAX_SLOT,
+        Note::Adds { from, to, .. } => from <= MAX_SLOT && to <= MAX_SLOT,
     }
 }
 
@@ -64,14 +55,14 @@ pub fn check_sizes(sched: &Sched) -> Result<(), CertFault>
     let mut moved: u64 = 0;
     for (rank, plan) in sched.plans().iter().enumerate() {
         let rank = rank as u32;
-        if plan.ops.len() > MOST_OPS {
+        if plan.ops.len() > MAX_CERTIFIED_OPS {
             return Err(CertFault::TooLarge { rank });
         }
         match count_all_moved(&plan.notes) {
             Some(count) => moved += count,
             None => return Err(CertFault::TooLarge { rank }),
         }
-        if moved > MOST_MOVED {
+        if moved > MAX_MOVED {
             return Err(CertFault::TooLarge { rank });
         }
     }

@@ -80,7 +80,7 @@ pub fn barrier_step(ranks: u32, bytes: u64, rank: u32, number: u32) -> Step
 
 // Returns the rank that differs in the binary digit of a round.
 fn flipped(rank: u32, round: u32) -> u32
-    requires rank { rank < 2 ^ 16 }
+    requires rank { rank < MAX_RANKS }
     requires round { round < 16 }
     ensures { result ≡ flipped rank round }
 {

@@ -10,7 +10,7 @@ mod memory;
 pub use collective::Collective;
 pub use laws::laws_of_limits;
 pub use limits::{
-    MAX_BUDGET, MAX_BYTES, MAX_DEPS, MAX_INPUT, MAX_NANOS, MAX_NOTES, MAX_OPS, MAX_PARAM,
-    MAX_PER_BYTE, MAX_RANKS, MAX_ROUNDS,
+    MAX_BUDGET, MAX_BYTES, MAX_CERTIFIED_OPS, MAX_DEPS, MAX_INPUT, MAX_MOVED, MAX_NANOS, MAX_NOTES,
+    MAX_OPS, MAX_PARAM, MAX_PER_BYTE, MAX_RANKS, MAX_ROUNDS, MAX_SLOT, MAX_WEIGHT,
 };
 pub use memory::NoMemory;

@@ -1,5 +1,5 @@
-//! The limits of a schedule, its parts, its input and its parameters. `specs/Limits` has the same numbers,
-//! except for the time budget.
+//! The limits of a schedule, its parts, its input and its parameters, and of what is certified. `specs/Limits` has the
+//! same numbers, except for the time budget.
 
 /// The most ranks of a schedule: 2^16. A schedule has at least one.
 pub const MAX_RANKS: u32 = 65_536;
@@ -31,6 +31,18 @@ pub const MAX_PARAM: u64 = 1_099_511_627_775;
 
 /// The largest gap and overhead for each byte, in nanoseconds: 2^20-1.
 pub const MAX_PER_BYTE: u64 = 1_048_575;
+
+/// The most operations of a rank in a certified schedule: 2^11.
+pub const MAX_CERTIFIED_OPS: usize = 2_048;
+
+/// The highest slot that a note of a certified schedule names: 2^16-1.
+pub const MAX_SLOT: u32 = 65_535;
+
+/// The most slots that all notes of a certified schedule move: 2^24.
+pub const MAX_MOVED: u64 = 16_777_216;
+
+/// The most contributions that are held at once during certification: 2^24.
+pub const MAX_WEIGHT: u64 = 16_777_216;
 
 /// The largest time budget of a schedule, in nanoseconds: 2^63-1.
 pub const MAX_BUDGET: u64 = 9_223_372_036_854_775_807;

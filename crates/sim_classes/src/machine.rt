@@ -1,5 +1,6 @@
 //! Machines.
 ghost use Rattle.std.specs.Prelude.{◌≡◌, ◌≤◌, length};
+ghost use Rattle.goal_limits.specs.Limits.{rank_limit};
 ghost use Rattle.sim_classes.specs.Parts.{machine_of_parts, IsWhole};
 
 use crate::pair_classes::PairClasses;
@@ -23,6 +24,6 @@ pub struct Machine {
     pub(crate) usual: u32,
     pub(crate) nodes: Vec<u32>,
     pub(crate) pair_classes: PairClasses,
-    pub(crate) ghost few: { length nodes.items ≤ 65536 },
+    pub(crate) ghost few: { length nodes.items ≤ rank_limit },
     pub(crate) ghost whole: { IsWhole (machine_of_parts classes.items inside usual nodes.items pair_classes) },
 }

@@ -1,6 +1,6 @@
 //! Rows of bits, one after another: each row is a set of numbers below 2,048.
 ghost use Rattle.std.specs.Prelude.{ℕ, ◌≡◌, ◌≢◌, ◌+◌, ◌*◌, ◌<◌, ◌≤◌, ◌⊎◌, true, length, OnOk};
-ghost use Rattle.goal_limits.specs.Limits.{certified_op_limit};
+ghost use Rattle.goal_limits.specs.Limits.{certified_op_limit, slot_limit};
 ghost use Rattle.goal_certify.specs.Rows.{has};
 
 use std::alloc::AllocError;
@@ -98,7 +98,7 @@ fn clear_words(rows: &mut [u64], row: usize, words: usize)
 
 /// Extends the table up to this row. New rows are empty.
 pub(crate) fn make_room(rows: &mut Vec<u64>, row: usize) -> Result<(), AllocError>
-    requires { row < 65536 }
+    requires { row ≤ slot_limit }
     ensures room { OnOk result (32 * row + 32 ≤ length rows.new.items) }
     ensures grown { OnOk result (length rows.old.items ≤ length rows.new.items) }
     ensures same { OnOk result ((r k : ℕ) → has rows.new.items r k ≡ has rows.old.items r k) }

@@ -1,6 +1,6 @@
 //! Which operations of a rank touch one slot.
 ghost use Rattle.std.specs.Prelude.{ℕ, ◌≡◌, ◌+◌, ◌*◌, ◌<◌, ◌≤◌, ◌⊎◌, true, false, length, All, Contains, OnOk, IfOk};
-ghost use Rattle.goal_limits.specs.Limits.{certified_op_limit};
+ghost use Rattle.goal_limits.specs.Limits.{certified_op_limit, slot_limit};
 ghost use Rattle.goal_certify.specs.Rows.{has};
 ghost use Rattle.goal_certify.specs.Table.{is_marked, AreEmpty, AreMarked, meets, AreShared};
 
@@ -16,7 +16,7 @@ pub(crate) fn mark(
 ) -> Result<(), AllocError>
     requires empty { AreEmpty rows.old.items }
     requires ops { All (λ t. t.op < certified_op_limit) touches.now }
-    requires slots { All (λ t. t.slot < 65536) touches.now }
+    requires slots { All (λ t. t.slot ≤ slot_limit) touches.now }
     ensures { OnOk result (AreMarked only_writes touches.now rows.new.items) }
 {
     for touch in touches {
@@ -28,7 +28,7 @@ pub(crate) fn mark(
 // Puts the operation into the row of the slot.
 fn mark_one(rows: &mut Vec<u64>, touch: Touch, only_writes: bool) -> Result<(), AllocError>
     requires op { touch.op < certified_op_limit }
-    requires slot { touch.slot < 65536 }
+    requires slot { touch.slot ≤ slot_limit }
     ensures room { OnOk result (32 * touch.slot + 32 ≤ length rows.new.items) }
     ensures grown { OnOk result (length rows.old.items ≤ length rows.new.items) }
     ensures adds { OnOk result (is_marked only_writes touch ≡ true → has rows.new.items touch.slot touch.op ≡ true) }

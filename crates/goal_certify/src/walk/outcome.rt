@@ -13,7 +13,7 @@ use super::Walker;
 use super::parcel::{Holdings, Parcel};
 use super::stalls::check_stalls;
 use super::stray::first_stray;
-use super::values::{MOST_HELD, carry};
+use super::values::carry;
 use goal_blocks::{CertFault, Collective, Segment, SlotTable, initial_size, laws_of_faults};
 use goal_graph::Sched;
 use goal_values::SlotValues;
@@ -50,7 +50,7 @@ fn final_values(
     let sched = walker.sched();
     let ranks = sched.plans().len() as u32;
     let held = initial_size(ranks, what);
-    if held > MOST_HELD {
+    if held > MAX_WEIGHT {
         return Err(CertFault::Weight { held });
     }
     let Ok(table) = SlotTable::new(alloc, sched) else {

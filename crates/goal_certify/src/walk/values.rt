@@ -1,5 +1,5 @@
 //! How an action changes the values of slots and those under way. Contributions are counted before they are added, so
-//! that never more than 2^24 are held.
+//! that never more than `MAX_WEIGHT` are held.
 ghost use Rattle.std.specs.Prelude.{◌≡◌, ℕ, ◌+◌, ◌<◌, ◌≤◌, Some, None, slice_index_or, slice_set, length, map, OnOk, IfOk, IfErr};
 ghost use Rattle.goal_limits.specs.Limits.{weight_limit};
 ghost use Rattle.goal_graph.specs.Fault.{IsOp};
@@ -24,10 +24,8 @@ use super::action::Action;
 use super::parcel::{Holdings, Parcel};
 use goal_blocks::{CertFault, SlotTable};
 use goal_graph::{Class, Kind, OpId};
+use goal_limits::MAX_WEIGHT;
 use goal_values::SlotValues;
-
-/// The largest number of contributions that may be held.
-pub const MOST_HELD: u64 = 1 << 24;
 
 /// A calc adds by its notes, while `others` other contributions are held.
 pub fn add_notes(
@@ -48,7 +46,7 @@ pub fn add_notes(
 {
     for adding in table.adds_of(calc) {
         let total = store.held() + others + store.size_at(calc.rank, adding.from);
-        if total > MOST_HELD {
+        if total > MAX_WEIGHT {
             return Err(CertFault::Weight { held: total });
         }
         let Ok(()) = store.add(calc.rank, adding.from, adding.to) else {
@@ -80,7 +78,7 @@ pub fn hand_over(
     };
     let size = store.payload_size(&payload);
     let total = store.held() + others + size;
-    if total > MOST_HELD {
+    if total > MAX_WEIGHT {
         return Err(CertFault::Weight { held: total });
     }
     Ok(Parcel { payload, size })

@@ -1,5 +1,6 @@
 -- At the start the slots hold what the collective has, and nothing is under way.
 use Rattle.std.proofs.Common.{ℕ, ◌^◌, ◌≤◌, ◌≡◌, ◌⊎◌, inr, Bool, List, length, replicate, None, sym, ap, ◌∙◌, subst}
+use Rattle.goal_limits.specs.Limits.{weight_limit}
 use Rattle.goal_graph.specs.Schedule.{Plan, operations}
 use Rattle.goal_blocks.specs.declared.cert_fault.CertFault.TheVariants.{NoMemory}
 use Rattle.goal_blocks.specs.Collectives.{initial}
@@ -13,12 +14,12 @@ use Rattle.goal_certify.specs.Stages.{IsFirstOf}
 use Rattle.goal_certify.proofs.Started.{holding_at_start, left_at_end, started_heavy, stopped_over}
 use Rattle.goal_certify.proofs.walk.outcome.final_values.Goals as goal
 
-pub returns-then-held-gt-MOST_HELD-clause-fault : goal.returns-then-held-gt-MOST_HELD-clause-fault
-returns-then-held-gt-MOST_HELD-clause-fault c =
+pub returns-then-held-gt-MAX_WEIGHT-clause-fault : goal.returns-then-held-gt-MAX_WEIGHT-clause-fault
+returns-then-held-gt-MAX_WEIGHT-clause-fault c =
     let plans = c.args.walker.now.plans in
     let read = c.plans.ensures.plans ∙ c.sched-sched.ensures in
     let size = c.initial_size-held.ensures ∙ ap (λ (ps : List Plan). stored (length ps) (initial c.args.what (length ps))) read ∙ sym (stored_exchanged c.args.segment.width c.args.segment.block c.args.what (length plans) c.requires.fits) in
-    inr (λ wanted. started_heavy plans (initial_in c.args.what c.args.segment.width c.args.segment.block (length plans)) wanted c.initial_size-held.result size c.if-held-gt-MOST_HELD.true)
+    inr (λ wanted. started_heavy plans (initial_in c.args.what c.args.segment.width c.args.segment.block (length plans)) wanted c.initial_size-held.result size c.if-held-gt-MAX_WEIGHT.true)
 
 pub carry-requires-clause-held : goal.carry-requires-clause-held
 carry-requires-clause-held c =
@@ -31,7 +32,7 @@ carry-requires-clause-held c =
     let ranks = c.new-store.ensures.ranks ∙ ap (λ (ps : List Plan). length ps) read in
     let count = c.count.ensures.count ∙ ap (λ (ps : List Plan). length (operations ps)) c.sched-sched.ensures in
     let none = c.in_ok-parcels.ensures ∙ ap (λ (n : ℕ). replicate n None) count in
-    let light = subst (λ (n : ℕ). n ≤ 2 ^ 24) size c.if-held-gt-MOST_HELD.false in
+    let light = subst (λ (n : ℕ). n ≤ weight_limit) size c.if-held-gt-MAX_WEIGHT.false in
     (first, holding_at_start plans first c.new-store.result c.in_ok-parcels.parcels.items values ranks none light c.args.walker.now.history c.requires.start)
 
 pub returns-in-Err-clause-fault : goal.returns-in-Err-clause-fault
@@ -45,7 +46,7 @@ returns-in-Err-clause-fault c =
     let ranks = c.new-store.ensures.ranks ∙ ap (λ (ps : List Plan). length ps) read in
     let count = c.count.ensures.count ∙ ap (λ (ps : List Plan). length (operations ps)) c.sched-sched.ensures in
     let none = c.in_ok-parcels.ensures ∙ ap (λ (n : ℕ). replicate n None) count in
-    let light = subst (λ (n : ℕ). n ≤ 2 ^ 24) size c.if-held-gt-MOST_HELD.false in
+    let light = subst (λ (n : ℕ). n ≤ weight_limit) size c.if-held-gt-MAX_WEIGHT.false in
     let held = holding_at_start plans first c.new-store.result c.in_ok-parcels.parcels.items values ranks none light c.args.walker.now.history c.requires.start in
     let w = c.carry.new.walker in
     let stopped = stopped_over w.plans first w.history c.in-Err.fault c.known.ensures.each c.known.ensures.first (c.in-Err.ensures.over first held) in
@@ -62,7 +63,7 @@ returns-clause-left c =
     let ranks = c.new-store.ensures.ranks ∙ ap (λ (ps : List Plan). length ps) read in
     let count = c.count.ensures.count ∙ ap (λ (ps : List Plan). length (operations ps)) c.sched-sched.ensures in
     let none = c.in_ok-parcels.ensures ∙ ap (λ (n : ℕ). replicate n None) count in
-    let light = subst (λ (n : ℕ). n ≤ 2 ^ 24) size c.if-held-gt-MOST_HELD.false in
+    let light = subst (λ (n : ℕ). n ≤ weight_limit) size c.if-held-gt-MAX_WEIGHT.false in
     let held = holding_at_start plans first c.new-store.result c.in_ok-parcels.parcels.items values ranks none light c.args.walker.now.history c.requires.start in
     let w = c.carry.new.walker in
     let store = c.carry.new.held.store in

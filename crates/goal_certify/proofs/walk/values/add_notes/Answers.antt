@@ -1,4 +1,5 @@
 use Rattle.std.proofs.Common.{◌+◌, ◌^◌, ◌<◌, ◌≤◌, ℕ, List, inr, length, get_or, refl, ap, ◌∙◌, subst, arith}
+use Rattle.goal_limits.specs.Limits.{weight_limit}
 use Rattle.goal_blocks.specs.declared.slots.Adding.{Adding}
 use Rattle.goal_blocks.specs.Values.{merge, set_slot}
 use Rattle.goal_values.specs.Kept.{values}
@@ -20,8 +21,8 @@ pub size_at-requires : goal.size_at-requires
 size_at-requires c =
     omega (arith, rank_below c.args.table.now c.args.calc c.requires.exists, c.requires.ranks, c.loop-adding.invariant.added.same)
 
-pub returns-then-total-gt-MOST_HELD-clause-over : goal.returns-then-total-gt-MOST_HELD-clause-over
-returns-then-total-gt-MOST_HELD-clause-over c =
+pub returns-then-total-gt-MAX_WEIGHT-clause-over : goal.returns-then-total-gt-MAX_WEIGHT-clause-over
+returns-then-total-gt-MAX_WEIGHT-clause-over c =
     let items = c.adds_of-adding-items.ensures in
     let k = c.loop-adding.adding-index in
     let rank = c.args.calc.rank in
@@ -29,7 +30,7 @@ returns-then-total-gt-MOST_HELD-clause-over c =
     let inside = subst (λ (xs : List Adding). k < length xs) items c.loop-adding-test.true in
     let below : rank < c.args.store.now.kept.ranks = omega (arith, rank_below c.args.table.now c.args.calc c.requires.exists, c.requires.ranks) in
     let size = c.size_at.ensures.size ∙ ap (λ (xs : List Adding). length (now rank (get_or xs k none).from)) items in
-    let heavy : 2 ^ 24 < c.held.result + c.args.others + c.size_at.result = omega (arith, c.if-total-gt-MOST_HELD.true) in
+    let heavy : weight_limit < c.held.result + c.args.others + c.size_at.result = omega (arith, c.if-total-gt-MAX_WEIGHT.true) in
     inr (c.held.result + c.args.others + c.size_at.result, refl, added_over _ _ _ _ now _ _ k c.loop-adding.invariant.added none inside below (adds_low c.args.table.now c.requires.small c.args.calc c.requires.exists) c.size_at.result _ size (ap (λ (n : ℕ). n + c.args.others + c.size_at.result) c.held.ensures) heavy)
 
 pub add-requires-clause-rank : goal.add-requires-clause-rank
@@ -45,7 +46,7 @@ loop-adding-preserved c =
     let inside = subst (λ (xs : List Adding). k < length xs) items c.loop-adding-test.true in
     let below : rank < c.args.store.now.kept.ranks = omega (arith, rank_below c.args.table.now c.args.calc c.requires.exists, c.requires.ranks) in
     let size = c.size_at.ensures.size ∙ ap (λ (xs : List Adding). length (now rank (get_or xs k none).from)) items in
-    let few : c.held.result + c.args.others + c.size_at.result ≤ 2 ^ 24 = omega (arith, c.if-total-gt-MOST_HELD.false) in
+    let few : c.held.result + c.args.others + c.size_at.result ≤ weight_limit = omega (arith, c.if-total-gt-MAX_WEIGHT.false) in
     let put = c.in-Ok.ensures.added ∙ ap (λ (xs : List Adding). set_slot rank (get_or xs k none).to (merge (now rank (get_or xs k none).to) (now rank (get_or xs k none).from)) now) items in
     record {
       added = added_next _ _ _ _ now _ _ k c.loop-adding.invariant.added none inside below (adds_low c.args.table.now c.requires.small c.args.calc c.requires.exists) c.size_at.result _ size (ap (λ (n : ℕ). n + c.args.others + c.size_at.result) c.held.ensures) few (values c.add.new.self.kept) c.add.new.self.kept.ranks put c.add.ensures.ranks;

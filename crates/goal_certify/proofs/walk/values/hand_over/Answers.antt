@@ -1,4 +1,5 @@
 use Rattle.std.proofs.Common.{◌^◌, ◌≤◌, arith}
+use Rattle.goal_limits.specs.Limits.{weight_limit}
 use Rattle.goal_blocks.specs.SlotRanges.{slots_in}
 use Rattle.goal_values.specs.Kept.{values}
 use Rattle.goal_values.specs.Summed.{payload_values}
@@ -13,12 +14,12 @@ read-requires c =
 
 pub payload_size-size-requires-clause-fits : goal.payload_size-size-requires-clause-fits
 payload_size-size-requires-clause-fits c =
-    let light : stored c.args.store.now.kept.ranks (values c.args.store.now.kept) ≤ 2 ^ 24 = omega (arith, c.requires.light) in
+    let light : stored c.args.store.now.kept.ranks (values c.args.store.now.kept) ≤ weight_limit = omega (arith, c.requires.light) in
     let few = read_light c.args.table.now c.requires.small c.args.send c.requires.exists c.args.store.now.kept.ranks (values c.args.store.now.kept) c.requires.ranks light (slots_in c.slots_of-slots.result.now) (payload_values c.args.store.now.sums c.in-Ok.payload) c.slots_of-slots.ensures c.in-Ok.ensures.values in
     omega (arith, few)
 
 pub overflow_add-total-2 : goal.overflow_add-total-2
 overflow_add-total-2 c =
-    let light : stored c.args.store.now.kept.ranks (values c.args.store.now.kept) ≤ 2 ^ 24 = omega (arith, c.requires.light) in
+    let light : stored c.args.store.now.kept.ranks (values c.args.store.now.kept) ≤ weight_limit = omega (arith, c.requires.light) in
     let few = read_light c.args.table.now c.requires.small c.args.send c.requires.exists c.args.store.now.kept.ranks (values c.args.store.now.kept) c.requires.ranks light (slots_in c.slots_of-slots.result.now) (payload_values c.args.store.now.sums c.in-Ok.payload) c.slots_of-slots.ensures c.in-Ok.ensures.values in
     omega (arith, few, c.payload_size-size.ensures, c.held.ensures, c.requires.light)

@@ -1,4 +1,5 @@
 use Rattle.std.proofs.Common.{◌≡◌, ◌+◌, ◌^◌, ◌≤◌, List, map, drop, Some, slice_get, refl, ap, ◌∙◌, sym, subst}
+use Rattle.goal_limits.specs.Limits.{weight_limit}
 use Rattle.goal_graph.specs.Schedule.{operations}
 use Rattle.goal_blocks.specs.Slots.{slots}
 use Rattle.goal_blocks.specs.Weight.{stored}
@@ -32,7 +33,7 @@ returns-clause-follows c =
     let j = c.index-place.result in
     let at = ap (λ (ps : List Plan). slice_get (operations ps) j) (sym c.sched.ensures) ∙ c.index-place.ensures.index in
     let is = c.in-Ok.ensures.parcel ∙ ap (λ (ps : List Plan). parcel_of (map (values s.kept x.rank) (slots ps x))) c.requires.taken.table_is in
-    let few = subst (λ (ps : List Plan). stored s.kept.ranks (values s.kept) + c.args.held.now.carried + size_of (map (values s.kept x.rank) (slots ps x)) ≤ 2 ^ 24) c.requires.taken.table_is c.in-Ok.ensures.within in
+    let few = subst (λ (ps : List Plan). stored s.kept.ranks (values s.kept) + c.args.held.now.carried + size_of (map (values s.kept x.rank) (slots ps x)) ≤ weight_limit) c.requires.taken.table_is c.in-Ok.ensures.within in
     λ first so_far. holding_set plans first c.args.walker.now.history c.args.held.now.parcels.items s s (drop 1 c.args.walker.now.history) c.args.held.now.carried _ j (Some c.in-Ok.parcel) _ c.put_in.ensures so_far refl c.in-Ok.ensures.payload (sent plans c.args.walker.now.history (act_of c.args.action) c.requires.taken.newest c.known.ensures.each first s.kept (values_of_parcels s.sums c.args.held.now.parcels.items) c.args.held.now.carried so_far.carrying c.requires.class j at (values_of_parcel s.sums c.in-Ok.parcel) _ _ is refl refl few)
 
 pub returns-in-Err-clause-over : goal.returns-in-Err-clause-over
