@@ -3,6 +3,7 @@ use Rattle.std.proofs.Common.{⊎_elim, ℕ, zero, suc, ◌+◌, ◌-◌, ◌*�
 use Rattle.std.proofs.Math.Nat.{pow-suc}
 use Rattle.std.proofs.lemmas.Bool.{lt-ltb, ne_eqb, cases_lt, cases_eq}
 use Rattle.std.proofs.lemmas.Nat.{pow_pos, div-mul-add, div-add-mod', mod_below}
+use Rattle.goal_limits.specs.Limits.{certified_rank_limit, rank_limit}
 use Rattle.goal_limits.specs.declared.collective.Collective.TheVariants.{Allreduce}
 use Rattle.goal_blocks.specs.Values.{Value, Store, merge}
 use Rattle.goal_blocks.specs.Certification.{IsCertified}
@@ -67,7 +68,7 @@ flipped_twice r k = go (digit_of r k).is
     go (inr e) =
         ap (λ (s : ℕ). flipped (flipped s k) k) e ∙ ap (λ (s : ℕ). flipped s k) (flipped_odd (digit_of r k).half k (digit_of r k).rest (digit_of r k).low) ∙ flipped_even (digit_of r k).half k (digit_of r k).rest (digit_of r k).low ∙ sym e
 
-module _ (m bytes : ℕ) (few : 2 ^ m ≤ 65536) where
+module _ (m bytes : ℕ) (few : 2 ^ m ≤ rank_limit) where
   abbrev ranks : ℕ
   ranks = 2 ^ m
 
@@ -194,10 +195,10 @@ module _ (m bytes : ℕ) (few : 2 ^ m ≤ 65536) where
       go true = refl
       go false = refl
 
-  few_rounds : ranks ≤ 2048 → n ≤ 11
+  few_rounds : ranks ≤ certified_rank_limit → n ≤ 11
   few_rounds light = let some = pow_pos m in digits_few (ranks - 1) 11 (omega (arith, few)) (omega (arith, light, some))
 
-  pub allreduce_certified : ranks ≤ 2048 → IsCertifiedFor Allreduce (made Allreduce ranks bytes)
+  pub allreduce_certified : ranks ≤ certified_rank_limit → IsCertifiedFor Allreduce (made Allreduce ranks bytes)
   unfolding made allreduce_in
   allreduce_certified light =
       let least = few_rounds light in
@@ -210,7 +211,7 @@ module _ (m bytes : ℕ) (few : 2 ^ m ≤ 65536) where
       subst (λ (k : ℕ). IsRightEverywhere (made Allreduce ranks bytes) (initial Allreduce k) (wanted Allreduce k)) (sym (length_plans ranks (λ r. 3 * n) (λ r i. allreduce_in bytes r i))) (rounds_right ranks n bytes flipped flipped to_rank to_rank twice_is twice_is first (wanted Allreduce ranks) first_is end_is (λ r s inside. inl (λ v. elsewhere r s v)))
 
   -- with more ranks there are more than 11 rounds, and too much is held
-  pub allreduce_heavy : 2048 < ranks → IsCertifiedFor Allreduce (made Allreduce ranks bytes) → ⊥
+  pub allreduce_heavy : certified_rank_limit < ranks → IsCertifiedFor Allreduce (made Allreduce ranks bytes) → ⊥
   unfolding made allreduce_in
   allreduce_heavy many c =
       rounds_too_heavy ranks n bytes flipped flipped to_rank to_rank twice_is twice_is first first_is many few (many_rounds ranks many few) (wanted Allreduce ranks) (subst (λ (k : ℕ). IsCertified (made Allreduce ranks bytes) (initial Allreduce k) (wanted Allreduce k)) (length_plans ranks (λ r. 3 * n) (λ r i. allreduce_in bytes r i)) c)

@@ -2,6 +2,7 @@
 use Rattle.std.proofs.Common.{⊎_elim, ℕ, zero, suc, ◌+◌, ◌-◌, ◌*◌, ◌/◌, ◌%◌, ◌^◌, ◌<◌, ◌≤◌, ◌≡◌, ◌&&◌, ◌⊎◌, nat_lt, nat_le, inl, inr, Bool, true, false, List, [], ◌∷◌, map, length, All, Option, Some, if◌then◌else◌, refl, sym, ap, ◌∙◌, subst, arith, eq-eqb, flat_map}
 use Rattle.std.specs.List.{range_with_len, sum_by}
 use Rattle.std.proofs.lemmas.Bool.{lt-ltb, ltb-true, le-leb, leb-true, cases_lt, cases_eq}
+use Rattle.goal_limits.specs.Limits.{weight_limit}
 use Rattle.goal_graph.specs.declared.action.OpId.{OpId}
 use Rattle.goal_graph.specs.declared.plan.Kind.TheVariants.{Calc, Recv}
 use Rattle.goal_graph.specs.declared.plan.Note.TheVariants.{Moves, Adds}
@@ -290,7 +291,7 @@ module _ (ranks bytes : ℕ) (some : 0 < ranks) (few : ranks ≤ 512) where
     total = total;
   }
     where
-      total : sum_below ranks (λ r. sum_below (2 ^ 32) (cap r)) + sum_by (λ r. sum_by (load r) (range_with_len 0 (count r))) (range_with_len 0 ranks) ≤ 2 ^ 24
+      total : sum_below ranks (λ r. sum_below (2 ^ 32) (cap r)) + sum_by (λ r. sum_by (load r) (range_with_len 0 (count r))) (range_with_len 0 ranks) ≤ weight_limit
       total =
           let stores = sum_below_few ranks 1024 (λ r. sum_below (2 ^ 32) (cap r)) (λ r l. let s = sum_low_few (2 ^ 32) (ranks + ranks) 1 (cap r) (cap_few r) (cap_high r) in omega (arith, s, few)) in
           let loads = entries_few ranks count load 1 (λ r i l m. omega arith) in

@@ -3,6 +3,7 @@ use Rattle.std.proofs.Common.{⊎_elim, ℕ, zero, suc, ◌+◌, ◌-◌, ◌*�
 use Rattle.std.specs.List.{range_with_len, list_all}
 use Rattle.std.proofs.Math.Nat.{pow-suc}
 use Rattle.std.proofs.lemmas.Bool.{both_ways, lt-ltb, ne_eqb, cases_lt}
+use Rattle.goal_limits.specs.Limits.{certified_rank_limit, rank_limit}
 use Rattle.goal_limits.specs.declared.collective.Collective.TheVariants.{Barrier}
 use Rattle.goal_blocks.specs.Values.{Contribution, Value, Store, is_lower, insert_one, merge}
 use Rattle.goal_blocks.specs.Certification.{IsCertified}
@@ -87,7 +88,7 @@ back_more ranks r a b p q = go (back_is ranks r a) (back_is ranks (back ranks r 
     go (inr (x, e)) (inr (y, f)) (inl (z, g)) = omega (arith, p, q, x, e, y, f, z, g)
     go (inr (x, e)) (inr (y, f)) (inr (z, g)) = omega (arith, p, q, x, e, y, f, z, g)
 
-module _ (ranks bytes : ℕ) (some : 0 < ranks) (few : ranks ≤ 65536) where
+module _ (ranks bytes : ℕ) (some : 0 < ranks) (few : ranks ≤ rank_limit) where
   abbrev n : ℕ
   n = digits (ranks - 1)
 
@@ -161,10 +162,10 @@ module _ (ranks bytes : ℕ) (some : 0 < ranks) (few : ranks ≤ 65536) where
       go true = refl
       go false = refl
 
-  few_rounds : ranks ≤ 2048 → n ≤ 11
+  few_rounds : ranks ≤ certified_rank_limit → n ≤ 11
   few_rounds light = digits_few (ranks - 1) 11 (omega (arith, few)) (omega (arith, light, some))
 
-  pub barrier_certified : ranks ≤ 2048 → IsCertifiedFor Barrier (made Barrier ranks bytes)
+  pub barrier_certified : ranks ≤ certified_rank_limit → IsCertifiedFor Barrier (made Barrier ranks bytes)
   unfolding made barrier_in
   barrier_certified light =
       let least = few_rounds light in
@@ -177,7 +178,7 @@ module _ (ranks bytes : ℕ) (some : 0 < ranks) (few : ranks ≤ 65536) where
       subst (λ (m : ℕ). IsRightEverywhere (made Barrier ranks bytes) (initial Barrier m) (wanted Barrier m)) (sym (length_plans ranks (λ r. 3 * n) (λ r i. barrier_in ranks bytes r i))) (rounds_right ranks n bytes to from to_rank from_rank there_and_back back_and_there first (wanted Barrier ranks) first_is end_is (λ r s inside. inl (λ v. elsewhere r s v)))
 
   -- with more ranks there are more than 11 rounds, and too much is held
-  pub barrier_heavy : 2048 < ranks → IsCertifiedFor Barrier (made Barrier ranks bytes) → ⊥
+  pub barrier_heavy : certified_rank_limit < ranks → IsCertifiedFor Barrier (made Barrier ranks bytes) → ⊥
   unfolding made barrier_in
   barrier_heavy many c =
       rounds_too_heavy ranks n bytes to from to_rank from_rank there_and_back back_and_there first first_is many few (many_rounds ranks many few) (wanted Barrier ranks) (subst (λ (m : ℕ). IsCertified (made Barrier ranks bytes) (initial Barrier m) (wanted Barrier m)) (length_plans ranks (λ r. 3 * n) (λ r i. barrier_in ranks bytes r i)) c)

@@ -2,6 +2,7 @@
 use Rattle.std.proofs.Common.{ℕ, zero, suc, ◌+◌, ◌^◌, ◌<◌, ◌≤◌, ◌≡◌, ◌==◌, ◌&&◌, ◌⊎◌, nat_lt, inl, inr, Bool, true, false, List, [], ◌∷◌, map, length, All, Option, Some, if◌then◌else◌, refl, sym, ap, ◌∙◌, subst, arith, eq-eqb}
 use Rattle.std.specs.List.{range_with_len, sum_by}
 use Rattle.std.proofs.lemmas.Bool.{lt-ltb, ne_eqb}
+use Rattle.goal_limits.specs.Limits.{weight_limit, rank_limit}
 use Rattle.goal_graph.specs.declared.plan.Kind.{Kind}
 use Rattle.goal_graph.specs.declared.plan.Kind.TheVariants.{Calc, Send, Recv}
 use Rattle.goal_graph.specs.declared.plan.Note.TheVariants.{Moves}
@@ -34,7 +35,7 @@ tag_of (Send bytes to tag) = tag
 tag_of (Recv room from (Some tag)) = tag
 tag_of _ = 0
 
-module _ (ranks root bytes : ℕ) (rooted : root < ranks) (few : ranks ≤ 65536) where
+module _ (ranks root bytes : ℕ) (rooted : root < ranks) (few : ranks ≤ rank_limit) where
   abbrev count : ℕ → ℕ
   count r = bcast_count ranks (back ranks r root)
 
@@ -198,7 +199,7 @@ module _ (ranks root bytes : ℕ) (rooted : root < ranks) (few : ranks ≤ 65536
     total = total;
   }
     where
-      total : sum_below ranks (λ r. sum_below (2 ^ 32) (cap r)) + sum_by (λ r. sum_by (load r) (range_with_len 0 (count r))) (range_with_len 0 ranks) ≤ 2 ^ 24
+      total : sum_below ranks (λ r. sum_below (2 ^ 32) (cap r)) + sum_by (λ r. sum_by (load r) (range_with_len 0 (count r))) (range_with_len 0 ranks) ≤ weight_limit
       total =
           let stores = sum_below_few ranks 1 (λ r. sum_below (2 ^ 32) (cap r)) (λ r l. cap_sum r) in
           let loads = entries_few ranks count load 1 (λ r i l m. omega arith) in

@@ -26,6 +26,7 @@ use Rattle.goal_blocks.specs.Walk.{no_send, ComesFirst, IsWalk, TakesFirst, AllE
 use Rattle.goal_blocks.specs.Matched.{IsMatched}
 use Rattle.goal_blocks.specs.Certification.{NamesLowSlots, IsSmall, HasEqualLengths, IsLight, HoldsWanted, IsCertified}
 use Rattle.std.specs.Int.Count.{count_leading_zeros}
+use Rattle.goal_limits.specs.Limits.{certified_op_limit, weight_limit}
 use Rattle.goal_blocks.specs.Entries.{plan_by, made_by}
 use Rattle.goal_blocks.specs.Positions.{ahead, back, digits}
 use Rattle.goal_blocks.specs.Made.{bcast_in, bcast_count}
@@ -80,7 +81,7 @@ small = record { operations = counts; slots = names; moves = omega arith }
     low zero d l = (omega arith, omega arith)
     low (suc k) d l = absurd (omega (arith, l))
 
-    counts : (k : ℕ) (d : Plan) → k < 2 → length (slice_index_or two k d).ops ≤ 2048
+    counts : (k : ℕ) (d : Plan) → k < 2 → length (slice_index_or two k d).ops ≤ certified_op_limit
     counts zero d l = omega arith
     counts (suc zero) d l = omega arith
     counts (suc (suc k)) d l = absurd (omega (arith, l))
@@ -266,7 +267,7 @@ pub record IsThin (store : Store) : Type 0 where
   pub first : (x : ℕ) → x < 2 → length (store x 0) ≤ 1
   pub others : (x k : ℕ) → x < 2 → length (store x (suc k)) ≡ 0
 
-pub thin_light : (h : List Act) (held : Held) → IsThin held.store → carried two h held ≤ 1 → weight two h held ≤ 2 ^ 24
+pub thin_light : (h : List Act) (held : Held) → IsThin held.store → carried two h held ≤ 1 → weight two h held ≤ weight_limit
 unfolding weight stored
 thin_light h held thin few =
     let each : (x : ℕ) → x < 2 → sum_below (2 ^ 32) (λ k. length (held.store x k)) ≤ 1 = λ x l. one_slot (2 ^ 32) (λ k. length (held.store x k)) (thin.first x l) (λ k. thin.others x k l) in

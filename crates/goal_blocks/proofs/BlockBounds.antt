@@ -6,6 +6,7 @@ use Rattle.std.proofs.Math.Nat.{pow-suc}
 use Rattle.std.proofs.Math.Pow.{pow_mono}
 use Rattle.std.proofs.lemmas.List.Sums.{sum_by-cons}
 use Rattle.std.proofs.lemmas.Nat.{pow_pos}
+use Rattle.goal_limits.specs.Limits.{rank_limit}
 use Rattle.goal_graph.specs.declared.action.OpId.{OpId}
 use Rattle.goal_graph.specs.declared.plan.Kind.{Kind}
 use Rattle.goal_blocks.specs.Values.{Value, Store}
@@ -29,7 +30,7 @@ lengths_of_one f one (k ∷ ks) =
     let rest = lengths_of_one f one ks in
     sum_by-cons (λ (v : Value). length v) (f k) (map f ks) ∙ omega (arith, here, rest)
 
-module _ (ranks : ℕ) (few : ranks ≤ 65536) (root : ℕ) (rooted : root < ranks) where
+module _ (ranks : ℕ) (few : ranks ≤ rank_limit) (root : ℕ) (rooted : root < ranks) where
   -- an entry of v moves at most as many slots as its block has, and low ones
   pub record IsMoving (v n : ℕ) (x : Entry) : Type 0 where
     pub few_moved : length (moved x) ≤ block_size ranks v

@@ -5,6 +5,7 @@ use Rattle.std.specs.List.{sum_by, range_with_len}
 use Rattle.std.proofs.lemmas.List.{length-map}
 use Rattle.std.proofs.lemmas.List.FromFn.{length-map-range_with_len}
 use Rattle.std.proofs.lemmas.List.Sums.{sum_by-cons, sum_by-append}
+use Rattle.goal_limits.specs.Limits.{weight_limit}
 use Rattle.goal_graph.specs.declared.action.OpId.{OpId}
 use Rattle.goal_graph.specs.declared.plan.Kind.{Kind}
 use Rattle.goal_graph.specs.declared.plan.Kind.TheVariants.{Calc, Recv}
@@ -136,7 +137,7 @@ module _ (ranks : ℕ) (count : ℕ → ℕ) (e : ℕ → ℕ → Entry) where
       pub first_cap : (r k : ℕ) → length (first r k) ≤ cap r k
       pub leaves_cap : (r i k : ℕ) → IsThere r i → Mem k (writes (e r i)) → length (leaves r i k) ≤ cap r k
       pub finds_load : (m : M) → sum_by (λ (v : Value). length v) (map (finds (send m).rank (send m).op) (moved (e (send m).rank (send m).op))) ≤ load (send m).rank (send m).op
-      pub total : sum_below ranks (λ r. sum_below (2 ^ 32) (cap r)) + sum_by (λ r. sum_by (load r) (range_with_len 0 (count r))) (range_with_len 0 ranks) ≤ 2 ^ 24
+      pub total : sum_below ranks (λ r. sum_below (2 ^ 32) (cap r)) + sum_by (λ r. sum_by (load r) (range_with_len 0 (count r))) (range_with_len 0 ranks) ≤ weight_limit
 
     module _ (M : Type 0) (bytes : ℕ) (send recv : M → OpId) (tag : M → ℕ) (level : ℕ → ℕ → ℕ) (blueprint : IsBlueprint M bytes send recv tag level) where
       abbrev entry_at : OpId → Entry
@@ -435,9 +436,9 @@ module _ (ranks : ℕ) (count : ℕ → ℕ) (e : ℕ → ℕ → Entry) where
             few_found s =
                 subst (λ (ks : List ℕ). sum_by (λ (v : Value). length v) (map (found (send s)) ks) ≤ load (send s).rank (send s).op) (sym (slots_are (send s) (send_is_there s))) (bounded.finds_load s)
 
-            total : sum_below (length made_plans) (λ r. sum_below (2 ^ 32) (cap r)) + sum_by (λ x. load x.rank x.op) (operations made_plans) ≤ 2 ^ 24
+            total : sum_below (length made_plans) (λ r. sum_below (2 ^ 32) (cap r)) + sum_by (λ x. load x.rank x.op) (operations made_plans) ≤ weight_limit
             total =
-                subst (λ (n : ℕ). sum_below n (λ r. sum_below (2 ^ 32) (cap r)) + sum_by (λ x. load x.rank x.op) (operations made_plans) ≤ 2 ^ 24) (sym (length_plans ranks count e)) (subst (λ (n : ℕ). sum_below ranks (λ r. sum_below (2 ^ 32) (cap r)) + n ≤ 2 ^ 24) (sym (sum_operations ranks count e load)) bounded.total)
+                subst (λ (n : ℕ). sum_below n (λ r. sum_below (2 ^ 32) (cap r)) + sum_by (λ x. load x.rank x.op) (operations made_plans) ≤ weight_limit) (sym (length_plans ranks count e)) (subst (λ (n : ℕ). sum_below ranks (λ r. sum_below (2 ^ 32) (cap r)) + n ≤ weight_limit) (sym (sum_operations ranks count e load)) bounded.total)
 
         pub blueprint_certified : IsSmall made_plans → IsCertified made_plans first wanted
         blueprint_certified small = record {

@@ -2,6 +2,7 @@
 use Rattle.std.proofs.Common.{⊎_elim, ℕ, zero, suc, ◌+◌, ◌^◌, ◌<◌, ◌≤◌, ◌≡◌, ◌⊎◌, inl, inr, Bool, true, false, List, [], ◌∷◌, length, slice_index_or, All, is_some, Option, Some, None, refl, sym, ap, ◌∙◌, subst, arith}
 use Rattle.std.specs.List.{sum_by}
 use Rattle.std.proofs.lemmas.Bool.{both_ways}
+use Rattle.goal_limits.specs.Limits.{certified_op_limit, moved_limit}
 use Rattle.goal_graph.specs.declared.action.OpId.{OpId}
 use Rattle.goal_graph.specs.declared.plan.Kind.{Kind}
 use Rattle.goal_graph.specs.declared.plan.Kind.TheVariants.{Send, Recv}
@@ -116,10 +117,10 @@ abbrev ranks_of : Plan → Plan → List Plan
 ranks_of p q = p ∷ q ∷ []
 
 -- of two ranks with few operations
-small_two : (p q : Plan) → length p.ops ≤ 2048 → length q.ops ≤ 2048 → All NamesLowSlots p.notes → All NamesLowSlots q.notes → sum_by moved_count p.notes + sum_by moved_count q.notes ≤ 100 → IsSmall (ranks_of p q)
+small_two : (p q : Plan) → length p.ops ≤ certified_op_limit → length q.ops ≤ certified_op_limit → All NamesLowSlots p.notes → All NamesLowSlots q.notes → sum_by moved_count p.notes + sum_by moved_count q.notes ≤ 100 → IsSmall (ranks_of p q)
 small_two p q few less low lower moved = record { operations = counts; slots = names; moves = sums }
   where
-    counts : (k : ℕ) (d : Plan) → k < 2 → length (slice_index_or (ranks_of p q) k d).ops ≤ 2048
+    counts : (k : ℕ) (d : Plan) → k < 2 → length (slice_index_or (ranks_of p q) k d).ops ≤ certified_op_limit
     counts zero d l = few
     counts (suc zero) d l = less
     counts (suc (suc k)) d l = absurd (omega (arith, l))
@@ -129,7 +130,7 @@ small_two p q few less low lower moved = record { operations = counts; slots = n
     names (suc zero) d l = lower
     names (suc (suc k)) d l = absurd (omega (arith, l))
 
-    sums : sum_by (λ (p : Plan). sum_by moved_count p.notes) (ranks_of p q) ≤ 2 ^ 24
+    sums : sum_by (λ (p : Plan). sum_by moved_count p.notes) (ranks_of p q) ≤ moved_limit
     sums = omega (arith, moved)
 
 no_notes : All NamesLowSlots []

@@ -6,6 +6,7 @@ use Rattle.std.proofs.lemmas.Bool.{both_ways}
 use Rattle.std.proofs.lemmas.List.Elements.{All-contains}
 use Rattle.std.proofs.lemmas.List.Sums.{sum_by-take-le}
 use Rattle.std.proofs.lemmas.Option.{get_or_from_slice_get, slice_get_within}
+use Rattle.goal_limits.specs.Limits.{certified_op_limit}
 use Rattle.goal_graph.specs.declared.action.OpId.{OpId}
 use Rattle.goal_graph.specs.declared.plan.Kind.{Kind}
 use Rattle.goal_graph.specs.declared.plan.Kind.TheVariants.{Calc, Send, Recv}
@@ -32,9 +33,9 @@ module _ (plans : List Plan) where
   unfolding ops_at notes_at
   large_not_small rank small (too_many many) = go (slice_get plans rank) refl many
     where
-      go : (o : Option Plan) → slice_get plans rank ≡ o → 2048 < length (unwrap_or (option_map (λ (p : Plan). p.ops) o) []) → ⊥
+      go : (o : Option Plan) → slice_get plans rank ≡ o → certified_op_limit < length (unwrap_or (option_map (λ (p : Plan). p.ops) o) []) → ⊥
       go None e m = omega (arith, m)
-      go (Some p) e m = let few = of_rank (λ (p : Plan). length p.ops ≤ 2048) small.operations rank p e in omega (arith, few, m)
+      go (Some p) e m = let few = of_rank (λ (p : Plan). length p.ops ≤ certified_op_limit) small.operations rank p e in omega (arith, few, m)
   large_not_small rank small (too_high n c high) = go (slice_get plans rank) refl c
     where
       go : (o : Option Plan) → slice_get plans rank ≡ o → Contains (unwrap_or (option_map (λ (p : Plan). p.notes) o) []) n → ⊥

@@ -4,6 +4,7 @@ use Rattle.std.proofs.Common.{Some, ⊎_elim, ℕ, zero, suc, ◌+◌, ◌^◌, 
 use Rattle.std.specs.List.{range_with_len}
 use Rattle.std.proofs.lemmas.Bool.{true≢false, lt-ltb, ltb-true, eqb-true, cases_lt, cases_eq}
 use Rattle.std.proofs.lemmas.Nat.{pow_pos}
+use Rattle.goal_limits.specs.Limits.{rank_limit}
 use Rattle.goal_graph.specs.declared.action.OpId.{OpId}
 use Rattle.goal_graph.specs.declared.plan.Kind.TheVariants.{Calc, Send, Recv}
 use Rattle.goal_limits.specs.declared.collective.Collective.TheVariants.{Gather}
@@ -30,7 +31,7 @@ use Rattle.goal_blocks.proofs.Shares.{IsInShare, share_in, in_share}
 use Rattle.goal_blocks.proofs.BcastCertified.{tag_of}
 use Rattle.goal_blocks.proofs.Blueprint.{moved, touches, writes, Precedes, now, Origin, Final, IsBlueprint, blueprint_certified}
 
-module _ (ranks root bytes : ℕ) (rooted : root < ranks) (few : ranks ≤ 65536) where
+module _ (ranks root bytes : ℕ) (rooted : root < ranks) (few : ranks ≤ rank_limit) where
   abbrev each : ℕ → ℕ → Entry
   each v i = gather_in ranks root bytes v i
 

@@ -2,6 +2,7 @@
 use Rattle.std.proofs.Common.{⊎_elim, ℕ, zero, suc, ◌+◌, ◌≤◌, ◌^◌, ◌≡◌, ◌⊎◌, inl, inr, Bool, true, false, List, [], ◌∷◌, map, length, take, slice_index_or, Option, Some, None, if◌then◌else◌, refl, sym, ap, ◌∙◌, subst, arith}
 use Rattle.std.specs.List.{sum_by}
 use Rattle.std.proofs.lemmas.Bool.{both_ways}
+use Rattle.goal_limits.specs.Limits.{weight_limit}
 use Rattle.goal_graph.specs.declared.action.OpId.{OpId}
 use Rattle.goal_graph.specs.declared.action.Class.{Class}
 use Rattle.goal_graph.specs.declared.action.Class.TheVariants.{Arrive, Serve, Data, Post, Begin}
@@ -52,7 +53,7 @@ pub record AreBounds (plans : List Plan) (first : Store) (finds leaves : OpId �
   pub leaves_cap : (y : OpId) (k : ℕ) → Mem k (written plans y) → length (leaves y k) ≤ cap y.rank k
   pub finds_load : (m : OpId) → IsSend plans m → sum_by (λ (v : Value). length v) (map (finds m) (slots plans m)) ≤ load m
   pub one_adding : (x : OpId) → IsCalc plans x → length (adds plans x) ≤ 1
-  pub total : sum_below (length plans) (λ r. sum_below (2 ^ 32) (cap r)) + sum_by load (operations plans) ≤ 2 ^ 24
+  pub total : sum_below (length plans) (λ r. sum_below (2 ^ 32) (cap r)) + sum_by load (operations plans) ≤ weight_limit
 
 module _ (plans : List Plan) (matched : IsMatched plans) (first : Store) (finds leaves : OpId → ℕ → Value) (flow : IsFlow plans matched first finds leaves) (cap : ℕ → ℕ → ℕ) (load : OpId → ℕ) (bounds : AreBounds plans first finds leaves cap load) where
   abbrev held : List Act → Held
@@ -82,7 +83,7 @@ module _ (plans : List Plan) (matched : IsMatched plans) (first : Store) (finds 
       each m true = payload_few h i m
       each m false = omega arith
 
-  weight_few : (g h : List Act) → IsInterleaving plans no_send h → stored (length plans) (held h).store + carried plans g (held h) ≤ 2 ^ 24
+  weight_few : (g h : List Act) → IsInterleaving plans no_send h → stored (length plans) (held h).store + carried plans g (held h) ≤ weight_limit
   weight_few g h i =
       let a = stored_le (length plans) (held h).store cap (value_few h i) in
       let b = carried_few g h i in
@@ -109,7 +110,7 @@ module _ (plans : List Plan) (matched : IsMatched plans) (first : Store) (finds 
   added_few a h i (Some (Recv room from tag)) e = tt
   added_few a h i (Some (Calc nanos)) e = λ n. each n (take_few n (adds plans a.op) (bounds.one_adding a.op (record { nanos = nanos; kind = e })))
     where
-      whole : stored (length plans) (add_all a.op.rank (adds plans a.op) (held h).store) + carried plans h (held h) ≤ 2 ^ 24
+      whole : stored (length plans) (add_all a.op.rank (adds plans a.op) (held h).store) + carried plans h (held h) ≤ weight_limit
       whole =
           let s = stored_le (length plans) (held (a ∷ h)).store cap (value_few (a ∷ h) i) in
           let now = subst (λ (t : Store). stored (length plans) t ≤ sum_below (length plans) (λ r. sum_below (2 ^ 32) (cap r))) (added_now a h i nanos e) s in
@@ -117,11 +118,11 @@ module _ (plans : List Plan) (matched : IsMatched plans) (first : Store) (finds 
           let t = bounds.total in
           omega (arith, now, b, t)
 
-      each : (n : ℕ) → ((take n (adds plans a.op) ≡ []) ⊎ (take n (adds plans a.op) ≡ adds plans a.op)) → stored (length plans) (add_all a.op.rank (take n (adds plans a.op)) (held h).store) + carried plans h (held h) ≤ 2 ^ 24
+      each : (n : ℕ) → ((take n (adds plans a.op) ≡ []) ⊎ (take n (adds plans a.op) ≡ adds plans a.op)) → stored (length plans) (add_all a.op.rank (take n (adds plans a.op)) (held h).store) + carried plans h (held h) ≤ weight_limit
       each n (inl none) =
-          subst (λ (more : List Adding). stored (length plans) (add_all a.op.rank more (held h).store) + carried plans h (held h) ≤ 2 ^ 24) (sym none) (weight_few h h i.0)
+          subst (λ (more : List Adding). stored (length plans) (add_all a.op.rank more (held h).store) + carried plans h (held h) ≤ weight_limit) (sym none) (weight_few h h i.0)
       each n (inr all) =
-          subst (λ (more : List Adding). stored (length plans) (add_all a.op.rank more (held h).store) + carried plans h (held h) ≤ 2 ^ 24) (sym all) whole
+          subst (λ (more : List Adding). stored (length plans) (add_all a.op.rank more (held h).store) + carried plans h (held h) ≤ weight_limit) (sym all) whole
 
   pub light : (h : List Act) → IsInterleaving plans no_send h → IsLight plans first h
   unfolding weight

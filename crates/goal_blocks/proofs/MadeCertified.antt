@@ -2,6 +2,7 @@
 -- right everywhere.
 use Rattle.std.proofs.Common.{⊎_elim, ℕ, ◌^◌, ◌≤◌, ◌<◌, length, sym, subst, arith}
 use Rattle.std.proofs.lemmas.Bool.{cases_lt}
+use Rattle.goal_limits.specs.Limits.{certified_rank_limit, rank_limit}
 use Rattle.goal_limits.specs.declared.limits.TheConstants.{MAX_BYTES}
 use Rattle.goal_limits.specs.declared.collective.Collective.{Collective}
 use Rattle.goal_limits.specs.declared.collective.Collective.TheVariants.{Bcast, Barrier, Allgather, Allreduce, Alltoall, Reduce, Gather, Scatter, ReduceScatter, Scan}
@@ -21,7 +22,7 @@ use Rattle.goal_blocks.proofs.GatherCertified.{gather_certified}
 use Rattle.goal_blocks.proofs.ScatterCertified.{scatter_certified}
 use Rattle.goal_blocks.proofs.ScanCertified.{scan_certified}
 
-power_few : (ranks : ℕ) (p : IsPossible Allreduce ranks) → 2 ^ p.power.0 ≤ 65536
+power_few : (ranks : ℕ) (p : IsPossible Allreduce ranks) → 2 ^ p.power.0 ≤ rank_limit
 power_few ranks p = let few = p.few_ranks in let is = p.power.1 in omega (arith, few, is)
 
 pub made_certified : (what : Collective) (ranks bytes : ℕ) → IsPossible what ranks → bytes ≤ MAX_BYTES → IsCertifiedByProof what ranks → IsCertifiedFor what (made what ranks bytes)
@@ -30,7 +31,7 @@ made_certified Allgather ranks bytes p small proved = allgather_certified ranks 
 made_certified Scan ranks bytes p small proved = scan_certified ranks bytes p.some_rank p.few_ranks small
 made_certified Barrier ranks bytes p small proved = let few = p.few_ranks in barrier_certified ranks bytes p.some_rank (omega (arith, few)) proved
 made_certified Allreduce ranks bytes p small proved =
-    subst (λ (n : ℕ). IsCertifiedFor Allreduce (made Allreduce n bytes)) (sym p.power.1) (allreduce_certified p.power.0 bytes (power_few ranks p) (subst (λ (n : ℕ). n ≤ 2048) p.power.1 proved))
+    subst (λ (n : ℕ). IsCertifiedFor Allreduce (made Allreduce n bytes)) (sym p.power.1) (allreduce_certified p.power.0 bytes (power_few ranks p) (subst (λ (n : ℕ). n ≤ certified_rank_limit) p.power.1 proved))
 made_certified Alltoall ranks bytes p small proved = alltoall_certified ranks bytes p.some_rank p.few_ranks small
 made_certified (Reduce root) ranks bytes p small proved = reduce_certified ranks root bytes p.root p.few_ranks small
 made_certified (Gather root) ranks bytes p small proved = gather_certified ranks root bytes p.root p.few_ranks
@@ -45,9 +46,9 @@ made_right what ranks bytes p small proved =
 pub only_certified : (what : Collective) (ranks bytes : ℕ) → IsPossible what ranks → IsCertifiedFor what (made what ranks bytes) → IsCertifiedByProof what ranks
 only_certified Barrier ranks bytes p c =
     let few = p.few_ranks in
-    ⊎_elim (λ many. absurd (barrier_heavy ranks bytes p.some_rank (omega (arith, few)) many c)) (λ light. light) (cases_lt 2048 ranks)
+    ⊎_elim (λ many. absurd (barrier_heavy ranks bytes p.some_rank (omega (arith, few)) many c)) (λ light. light) (cases_lt certified_rank_limit ranks)
 only_certified Allreduce ranks bytes p c =
-    ⊎_elim (λ many. absurd (allreduce_heavy p.power.0 bytes (power_few ranks p) (subst (λ (n : ℕ). 2048 < n) p.power.1 many) (subst (λ (n : ℕ). IsCertifiedFor Allreduce (made Allreduce n bytes)) p.power.1 c))) (λ light. light) (cases_lt 2048 ranks)
+    ⊎_elim (λ many. absurd (allreduce_heavy p.power.0 bytes (power_few ranks p) (subst (λ (n : ℕ). certified_rank_limit < n) p.power.1 many) (subst (λ (n : ℕ). IsCertifiedFor Allreduce (made Allreduce n bytes)) p.power.1 c))) (λ light. light) (cases_lt certified_rank_limit ranks)
 only_certified (Bcast root) ranks bytes p c = tt
 only_certified Allgather ranks bytes p c = tt
 only_certified Alltoall ranks bytes p c = tt

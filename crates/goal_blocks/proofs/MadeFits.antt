@@ -13,6 +13,7 @@ use Rattle.goal_blocks.specs.Positions.{ahead, back, flipped, digits}
 use Rattle.goal_blocks.specs.Made.{bcast_in, bcast_count, before_round, round_in, barrier_in, allreduce_in, before_send, ring_in, allgather_in, shift_in, alltoall_in}
 use Rattle.goal_blocks.specs.MadeRooted.{part_in, reduce_scatter_in, scan_in, scan_count}
 use Rattle.std.specs.Int.{IsPowerOfTwo}
+use Rattle.goal_limits.specs.Limits.{rank_limit}
 use Rattle.goal_blocks.proofs.RingAndTree.{ahead_below, back_below, flipped_below, digits_low, digits_few, digits_some, upward_some, upward_few}
 use Rattle.goal_blocks.proofs.Totals.{sum_range_few}
 use Rattle.goal_blocks.proofs.Slim.{IsSlim, All_one, All_two, slot_in_order, sending_slim, receiving_slim, summing_slim, slim_fitting}
@@ -161,7 +162,7 @@ module _ (ranks bytes : ℕ) (small : bytes ≤ MAX_BYTES) where
       scan_slim (even_total ranks 2048 3 (λ r. scan_count ranks r) few (λ r in_rank. scan_few r)) (omega arith) (omega arith) (omega arith)
 
   -- the broadcast
-  module _ (root : ℕ) (rooted : root < ranks) (few : ranks ≤ 65536) where
+  module _ (root : ℕ) (rooted : root < ranks) (few : ranks ≤ rank_limit) where
     bcast_slim : (v i : ℕ) → v < ranks → i < bcast_count ranks v → IsSlim ranks i 1 1 (bcast_in ranks root bytes v i)
     unfolding bcast_in bcast_count
     bcast_slim zero i in_rank inside =

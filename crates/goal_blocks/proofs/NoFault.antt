@@ -5,6 +5,7 @@ use Rattle.std.proofs.lemmas.Bool.{both_ways, cases_Bool, cases_lt, cases_eq}
 use Rattle.std.proofs.lemmas.List.{take_all}
 use Rattle.std.proofs.lemmas.List.Elements.{All-contains_itself}
 use Rattle.std.proofs.lemmas.Option.{slice_get-get_or}
+use Rattle.goal_limits.specs.Limits.{certified_op_limit, slot_limit, moved_limit, weight_limit}
 use Rattle.goal_graph.specs.declared.action.OpId.{OpId}
 use Rattle.goal_graph.specs.declared.plan.Kind.{Kind}
 use Rattle.goal_graph.specs.declared.plan.Kind.TheVariants.{Calc, Send, Recv}
@@ -35,23 +36,23 @@ use Rattle.goal_blocks.proofs.Walk.{one_walk}
 
 cases_low : (n : Note) → NamesLowSlots n ⊎ (NamesLowSlots n → ⊥)
 cases_low (Moves op lo hi) =
-    ⊎_elim (λ l. inr (λ p. let q = p.0 in omega (arith, l, q))) (λ a. ⊎_elim (λ l. inr (λ p. let q = p.1 in omega (arith, l, q))) (λ b. inl (a, b)) (cases_lt 65535 hi)) (cases_lt 65535 lo)
+    ⊎_elim (λ l. inr (λ p. let q = p.0 in omega (arith, l, q))) (λ a. ⊎_elim (λ l. inr (λ p. let q = p.1 in omega (arith, l, q))) (λ b. inl (a, b)) (cases_lt slot_limit hi)) (cases_lt slot_limit lo)
 cases_low (Adds op from to) =
-    ⊎_elim (λ l. inr (λ p. let q = p.0 in omega (arith, l, q))) (λ a. ⊎_elim (λ l. inr (λ p. let q = p.1 in omega (arith, l, q))) (λ b. inl (a, b)) (cases_lt 65535 to)) (cases_lt 65535 from)
+    ⊎_elim (λ l. inr (λ p. let q = p.0 in omega (arith, l, q))) (λ a. ⊎_elim (λ l. inr (λ p. let q = p.1 in omega (arith, l, q))) (λ b. inl (a, b)) (cases_lt slot_limit to)) (cases_lt slot_limit from)
 
 module _ (plans : List Plan) where
   notes_of_rank : (k : ℕ) (d : Plan) → k < length plans → notes_at plans k ≡ (get_or plans k d).notes
   unfolding notes_at
   notes_of_rank k d l = rw (slice_get-get_or plans k d l) refl
 
-  moves_small : (ps : List Plan) → ((rank : ℕ) → rank < length ps → 2 ^ 24 < sum_by (λ (p : Plan). sum_by moved_count p.notes) (take (rank + 1) ps) → ⊥) → sum_by (λ (p : Plan). sum_by moved_count p.notes) ps ≤ 2 ^ 24
+  moves_small : (ps : List Plan) → ((rank : ℕ) → rank < length ps → moved_limit < sum_by (λ (p : Plan). sum_by moved_count p.notes) (take (rank + 1) ps) → ⊥) → sum_by (λ (p : Plan). sum_by moved_count p.notes) ps ≤ moved_limit
   moves_small [] none = omega arith
   moves_small (p ∷ ps) none =
-      ⊎_elim (λ over. absurd (none (length ps) (omega arith) (subst (λ (qs : List Plan). 2 ^ 24 < sum_by (λ (p : Plan). sum_by moved_count p.notes) qs) (sym (take_all (length ps + 1) (p ∷ ps) (omega arith))) over))) (λ few. few) (cases_lt (2 ^ 24) (sum_by (λ (p : Plan). sum_by moved_count p.notes) (p ∷ ps)))
+      ⊎_elim (λ over. absurd (none (length ps) (omega arith) (subst (λ (qs : List Plan). moved_limit < sum_by (λ (p : Plan). sum_by moved_count p.notes) qs) (sym (take_all (length ps + 1) (p ∷ ps) (omega arith))) over))) (λ few. few) (cases_lt moved_limit (sum_by (λ (p : Plan). sum_by moved_count p.notes) (p ∷ ps)))
 
   pub small_from : ((rank : ℕ) → IsLarge plans rank → ⊥) → IsSmall plans
   small_from none = record {
-    operations = λ k d l. ⊎_elim (λ over. absurd (none k (too_many (subst (λ (n : ℕ). 2048 < n) (sym (ap length (ops_at_some plans k (get_or plans k d) (slice_get-get_or plans k d l)))) over)))) (λ few. few) (cases_lt 2048 (length (get_or plans k d).ops));
+    operations = λ k d l. ⊎_elim (λ over. absurd (none k (too_many (subst (λ (n : ℕ). certified_op_limit < n) (sym (ap length (ops_at_some plans k (get_or plans k d) (slice_get-get_or plans k d l)))) over)))) (λ few. few) (cases_lt certified_op_limit (length (get_or plans k d).ops));
     slots = λ k d l j e m. ⊎_elim (λ low. low) (λ high. absurd (none k (too_high (get_or (get_or plans k d).notes j e) (subst (λ (ns : List Note). Contains ns (get_or (get_or plans k d).notes j e)) (sym (notes_of_rank k d l)) (All-contains_itself (get_or plans k d).notes j e m)) high))) (cases_low (get_or (get_or plans k d).notes j e));
     moves = moves_small plans (λ rank l over. none rank (too_much l over));
   }
@@ -125,7 +126,7 @@ module _ (plans : List Plan) where
 
   module _ (first : Store) where
     adds_light : (h : List Act) (held : Held) (x : OpId) (k : Option Kind) → ((total : ℕ) → AddsTooMuch plans h held x k total → ⊥) → AddsAreLight plans h held x k
-    adds_light h held x (Some (Calc nanos)) none = strong_induction (λ n. weight_within plans h held x n ≤ 2 ^ 24) (λ n before. ⊎_elim (λ over. absurd (none (weight_within plans h held x n) (n, refl, over, before))) (λ few. few) (cases_lt (2 ^ 24) (weight_within plans h held x n)))
+    adds_light h held x (Some (Calc nanos)) none = strong_induction (λ n. weight_within plans h held x n ≤ weight_limit) (λ n before. ⊎_elim (λ over. absurd (none (weight_within plans h held x n) (n, refl, over, before))) (λ few. few) (cases_lt weight_limit (weight_within plans h held x n)))
     adds_light h held x (Some (Send bytes to tag)) none = tt
     adds_light h held x (Some (Recv room from tag)) none = tt
     adds_light h held x None none = tt
@@ -133,11 +134,11 @@ module _ (plans : List Plan) where
     light_more : (a : Act) (h : List Act) → IsLight plans first h → ((total : ℕ) → IsFirstTooHeavy plans first (a ∷ h) total → ⊥) → IsLight plans first (a ∷ h)
     light_more a h light none =
         let adds_are = adds_light h (held_after plans no_send first h) a.op (kind_at plans a.op) (λ n much. none n (inr (light, inl much))) in
-        (light, adds_are, ⊎_elim (λ over. absurd (none (weight plans (a ∷ h) (held_after plans no_send first (a ∷ h))) (inr (light, inr (adds_are, refl, over))))) (λ few. few) (cases_lt (2 ^ 24) (weight plans (a ∷ h) (held_after plans no_send first (a ∷ h)))))
+        (light, adds_are, ⊎_elim (λ over. absurd (none (weight plans (a ∷ h) (held_after plans no_send first (a ∷ h))) (inr (light, inr (adds_are, refl, over))))) (λ few. few) (cases_lt weight_limit (weight plans (a ∷ h) (held_after plans no_send first (a ∷ h)))))
 
     pub light_from : (h : List Act) → ((total : ℕ) → IsFirstTooHeavy plans first h total → ⊥) → IsLight plans first h
     light_from [] none =
-        ⊎_elim (λ over. absurd (none (weight plans [] (held_after plans no_send first [])) (refl, over))) (λ few. few) (cases_lt (2 ^ 24) (weight plans [] (held_after plans no_send first [])))
+        ⊎_elim (λ over. absurd (none (weight plans [] (held_after plans no_send first [])) (refl, over))) (λ few. few) (cases_lt weight_limit (weight plans [] (held_after plans no_send first [])))
     light_from (a ∷ h) none = light_more a h (light_from h (λ n heavy. none n (inl heavy))) none
 
     module _ (wanted : ℕ → ℕ → Value → Bool) (none : (fault : CertFault) → HasFault plans first wanted fault → ⊥) where

@@ -5,6 +5,7 @@ use Rattle.std.specs.List.{sum_by}
 use Rattle.std.proofs.lemmas.List.{length-map}
 use Rattle.std.proofs.lemmas.List.Sums.{sum_by-cons}
 use Rattle.std.proofs.lemmas.Option.{slice_get-get_or}
+use Rattle.goal_limits.specs.Limits.{certified_op_limit, moved_limit}
 use Rattle.goal_graph.specs.declared.action.OpId.{OpId}
 use Rattle.goal_graph.specs.declared.plan.Kind.{Kind}
 use Rattle.goal_graph.specs.declared.plan.Kind.TheVariants.{Calc, Send, Recv}
@@ -88,9 +89,9 @@ module _ (to back : ℕ → ℕ) (plans : List Plan) (perm : IsPermutation (leng
 
   small_placed : IsSmall plans → IsSmall other
   small_placed small = record {
-    operations = all_placed (λ (p : Plan). length p.ops ≤ 2048) (λ p few. subst (λ (n : ℕ). n ≤ 2048) (sym (length-map p.ops (placed_of to))) few) small.operations;
+    operations = all_placed (λ (p : Plan). length p.ops ≤ certified_op_limit) (λ p few. subst (λ (n : ℕ). n ≤ certified_op_limit) (sym (length-map p.ops (placed_of to))) few) small.operations;
     slots = all_placed (λ (p : Plan). All NamesLowSlots p.notes) (λ p low. low) small.slots;
-    moves = subst (λ (n : ℕ). n ≤ 2 ^ 24) (sym (sum_placed (λ (p : Plan). sum_by moved_count p.notes) to back plans perm (λ p. refl))) small.moves;
+    moves = subst (λ (n : ℕ). n ≤ moved_limit) (sym (sum_placed (λ (p : Plan). sum_by moved_count p.notes) to back plans perm (λ p. refl))) small.moves;
   }
 
   same_op_of : (x y : OpId) → placed_op back x ≡ placed_op back y → x ≡ y

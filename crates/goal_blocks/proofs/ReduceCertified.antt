@@ -5,6 +5,7 @@ use Rattle.std.proofs.Math.Nat.{pow-suc}
 use Rattle.std.proofs.Math.Pow.{pow_mono}
 use Rattle.std.proofs.lemmas.Bool.{lt-ltb, ltb-true, ne_eqb, cases_lt, cases_eq}
 use Rattle.std.proofs.lemmas.Nat.{pow_pos}
+use Rattle.goal_limits.specs.Limits.{slot_limit, weight_limit, rank_limit}
 use Rattle.goal_graph.specs.declared.action.OpId.{OpId}
 use Rattle.goal_graph.specs.declared.plan.Kind.TheVariants.{Calc, Recv}
 use Rattle.goal_graph.specs.declared.plan.Note.TheVariants.{Moves, Adds}
@@ -44,7 +45,7 @@ cases_double : (i : ℕ) → ((j : ℕ) × (i ≡ j + j)) ⊎ ((j : ℕ) × (i �
 cases_double i =
     ⊎_elim (λ e. inl (i / 2, omega (arith, e))) (λ d. inr (i / 2, omega (arith, d))) (cases_eq (i % 2) 0)
 
-module _ (ranks root bytes : ℕ) (rooted : root < ranks) (few : ranks ≤ 65536) where
+module _ (ranks root bytes : ℕ) (rooted : root < ranks) (few : ranks ≤ rank_limit) where
   -- by virtual ranks: how many children v has, and its operations
   abbrev children : ℕ → ℕ
   children v = rounds ranks v
@@ -564,7 +565,7 @@ module _ (ranks root bytes : ℕ) (rooted : root < ranks) (few : ranks ≤ 65536
           let twice = pow-suc 2 t in
           omega (arith, child, low_many, twice)
 
-  total : sum_below ranks (λ r. sum_below (2 ^ 32) (cap r)) + sum_by (λ r. sum_by (load r) (range_with_len 0 (count r))) (range_with_len 0 ranks) ≤ 2 ^ 24
+  total : sum_below ranks (λ r. sum_below (2 ^ 32) (cap r)) + sum_by (λ r. sum_by (load r) (range_with_len 0 (count r))) (range_with_len 0 ranks) ≤ weight_limit
   total =
       let sizes = sizes_sum ranks few root rooted in
       let stores = sum_below_le (λ r. sum_below (2 ^ 32) (cap r)) (λ r. 4 * block_size ranks (place r)) ranks (λ r l. store_few r l) in
@@ -594,7 +595,7 @@ module _ (ranks root bytes : ℕ) (rooted : root < ranks) (few : ranks ≤ 65536
       Low : Entry → Type 0
       Low x = All NamesLowSlots (notes_of i x) × (sum_by moved_count (notes_of i x) ≤ 1)
 
-      one : (k : ℕ) → k ≤ 65535 → All NamesLowSlots (Moves i k k ∷ []) × (sum_by moved_count (Moves i k k ∷ []) ≤ 1)
+      one : (k : ℕ) → k ≤ slot_limit → All NamesLowSlots (Moves i k k ∷ []) × (sum_by moved_count (Moves i k k ∷ []) ≤ 1)
       one k small = (All_one NamesLowSlots (Moves i k k) (small, small), omega arith)
 
       go : Part v i → Low (step v i)

@@ -2,6 +2,7 @@
 use Rattle.std.proofs.Common.{⊎_elim, ℕ, zero, suc, ◌+◌, ◌-◌, ◌*◌, ◌/◌, ◌%◌, ◌^◌, ◌<◌, ◌≤◌, ◌≡◌, ◌==◌, ◌⊎◌, nat_lt, inl, inr, Bool, true, false, List, [], ◌∷◌, map, length, All, Option, Some, if◌then◌else◌, refl, sym, ap, ◌∙◌, subst, arith, eq-eqb, flat_map}
 use Rattle.std.specs.List.{range_with_len, sum_by}
 use Rattle.std.proofs.lemmas.Bool.{lt-ltb, ltb-true, ne_eqb, cases_lt, cases_eq}
+use Rattle.goal_limits.specs.Limits.{slot_limit, weight_limit}
 use Rattle.goal_graph.specs.declared.action.OpId.{OpId}
 use Rattle.goal_graph.specs.declared.plan.Kind.TheVariants.{Calc, Recv}
 use Rattle.goal_graph.specs.declared.plan.Note.TheVariants.{Moves, Adds}
@@ -490,7 +491,7 @@ module _ (ranks bytes : ℕ) (some : 0 < ranks) (few : ranks ≤ 128) where
   few_ops : sum_by count (range_with_len 0 ranks) ≤ ranks * 381
   few_ops = sum_range_few count ranks 381 (λ r l. omega (arith, few))
 
-  total : sum_below ranks (λ r. sum_below (2 ^ 32) (cap r)) + sum_by (λ r. sum_by (load r) (range_with_len 0 (count r))) (range_with_len 0 ranks) ≤ 2 ^ 24
+  total : sum_below ranks (λ r. sum_below (2 ^ 32) (cap r)) + sum_by (λ r. sum_by (load r) (range_with_len 0 (count r))) (range_with_len 0 ranks) ≤ weight_limit
   total =
       let stores = sum_below_few ranks 32768 (λ r. sum_below (2 ^ 32) (cap r)) (λ r l. sum_low_few (2 ^ 32) 256 128 (cap r) (cap_few r) (cap_high r)) in
       let loads = entries_few ranks count load 128 (λ r i l m. omega arith) in
@@ -511,7 +512,7 @@ module _ (ranks bytes : ℕ) (some : 0 < ranks) (few : ranks ≤ 128) where
       Low : Entry → Type 0
       Low x = All NamesLowSlots (notes_of i x) × (sum_by moved_count (notes_of i x) ≤ 1)
 
-      one : (k : ℕ) → k ≤ 65535 → All NamesLowSlots (Moves i k k ∷ []) × (sum_by moved_count (Moves i k k ∷ []) ≤ 1)
+      one : (k : ℕ) → k ≤ slot_limit → All NamesLowSlots (Moves i k k ∷ []) × (sum_by moved_count (Moves i k k ∷ []) ≤ 1)
       one k low = (All_one NamesLowSlots (Moves i k k) (low, low), omega arith)
 
   small : IsSmall (made ReduceScatter ranks bytes)

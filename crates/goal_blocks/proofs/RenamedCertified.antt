@@ -3,6 +3,7 @@ use Rattle.std.proofs.Common.{ℕ, ◌+◌, ◌^◌, ◌≤◌, ◌≡◌, ◌�
 use Rattle.std.specs.List.{sum_by}
 use Rattle.std.proofs.lemmas.List.{length-map, take-map}
 use Rattle.std.proofs.lemmas.List.Concat.{flat_map-cons}
+use Rattle.goal_limits.specs.Limits.{weight_limit}
 use Rattle.goal_graph.specs.declared.action.OpId.{OpId}
 use Rattle.goal_graph.specs.declared.action.Class.TheVariants.{Data}
 use Rattle.goal_graph.specs.declared.plan.Kind.{Kind}
@@ -153,15 +154,15 @@ module _ (name old : ℕ → ℕ → ℕ) (plans other : List Plan) (undone : Is
     adds_light h held x (Some (Send bytes to tag)) light = tt
     adds_light h held x (Some (Recv room from tag)) light = tt
     adds_light h held x (Some (Calc nanos)) light =
-        λ n. subst (λ (w : ℕ). w ≤ 2 ^ 24) (within_alike h held x n) (light n)
+        λ n. subst (λ (w : ℕ). w ≤ weight_limit) (within_alike h held x n) (light n)
 
     module _ (first : Store) where
       same_held : (h : List Act) → held_after other no_send first h ≡ renamed_held name old undone (held_after plans no_send (under name first) h)
       same_held h = held_named name old undone plans other is no_send first h
 
-      few_alike : (h : List Act) → weight other h (held_after other no_send first h) ≤ 2 ^ 24 → weight plans h (held_after plans no_send (under name first) h) ≤ 2 ^ 24
+      few_alike : (h : List Act) → weight other h (held_after other no_send first h) ≤ weight_limit → weight plans h (held_after plans no_send (under name first) h) ≤ weight_limit
       few_alike h few =
-          subst (λ (w : ℕ). w ≤ 2 ^ 24) (ap (weight other h) (same_held h) ∙ weight_alike h (held_after plans no_send (under name first) h)) few
+          subst (λ (w : ℕ). w ≤ weight_limit) (ap (weight other h) (same_held h) ∙ weight_alike h (held_after plans no_send (under name first) h)) few
 
       light_alike : (h : List Act) → IsLight other first h → IsLight plans (under name first) h
       light_alike [] light = few_alike [] light

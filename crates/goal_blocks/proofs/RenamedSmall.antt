@@ -4,6 +4,7 @@ use Rattle.std.specs.List.{sum_by}
 use Rattle.std.proofs.lemmas.List.Concat.{flat_map-cons}
 use Rattle.std.proofs.lemmas.List.Elements.{All-nil, All-cons, All-head, All-tail, All-append}
 use Rattle.std.proofs.lemmas.List.Sums.{sum_by-cons, sum_by-append}
+use Rattle.goal_limits.specs.Limits.{certified_op_limit, slot_limit, moved_limit, rank_limit}
 use Rattle.goal_graph.specs.declared.plan.Note.{Note}
 use Rattle.goal_graph.specs.declared.plan.Note.TheVariants.{Moves, Adds}
 use Rattle.goal_graph.specs.Schedule.{Plan}
@@ -12,11 +13,11 @@ use Rattle.goal_blocks.specs.Certification.{NamesLowSlots, moved_count, IsSmall}
 use Rattle.goal_blocks.specs.Renamed.{renamed_note, renamed_plan, renamed_from, renamed}
 use Rattle.goal_blocks.specs.Laws.{KeepsSlots}
 
-module _ (name : ℕ → ℕ) (low : (slot : ℕ) → slot ≤ 65535 → name slot ≤ 65535) where
+module _ (name : ℕ → ℕ) (low : (slot : ℕ) → slot ≤ slot_limit → name slot ≤ slot_limit) where
   abbrev one : ℕ → ℕ → Note
   one op slot = Moves op (name slot) (name slot)
 
-  low_moves : (op lo n : ℕ) → lo + n ≤ 65536 → All NamesLowSlots (map (one op) (slots_from lo n))
+  low_moves : (op lo n : ℕ) → lo + n ≤ slot_limit + 1 → All NamesLowSlots (map (one op) (slots_from lo n))
   unfolding slots_from
   low_moves op lo zero h = All-nil NamesLowSlots
   low_moves op lo (suc n) h =
@@ -53,7 +54,7 @@ module _ (name : ℕ → ℕ) (low : (slot : ℕ) → slot ≤ 65535 → name sl
       ∙ (λ i. count_note n i + count_notes ns i) ∙ sym (sum_by-cons moved_count n ns)
 
 abbrev FewOps : Plan → Type 0
-FewOps p = length p.ops ≤ 2048
+FewOps p = length p.ops ≤ certified_op_limit
 
 abbrev LowNotes : Plan → Type 0
 LowNotes p = All NamesLowSlots p.notes
@@ -86,5 +87,5 @@ module _ (name : ℕ → ℕ → ℕ) where
   renamed_small plans low small = record {
     operations = few_ops 0 plans small.operations;
     slots = low_slots low 0 plans small.slots;
-    moves = subst (λ (n : ℕ). n ≤ 2 ^ 24) (sym (same_moves low 0 plans)) small.moves;
+    moves = subst (λ (n : ℕ). n ≤ moved_limit) (sym (same_moves low 0 plans)) small.moves;
   }

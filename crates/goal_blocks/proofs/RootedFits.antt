@@ -5,6 +5,7 @@ use Rattle.std.specs.List.{range_with_len}
 use Rattle.std.proofs.lemmas.Bool.Decides.{nat_tests}
 use Rattle.std.proofs.lemmas.List.Elements.{All-nil, All-cons}
 use Rattle.std.proofs.lemmas.List.FromFn.{length-range_with_len}
+use Rattle.goal_limits.specs.Limits.{rank_limit}
 use Rattle.goal_limits.specs.declared.limits.TheConstants.{MAX_BYTES}
 use Rattle.goal_blocks.specs.Entries.{Span, slot, sending, receiving}
 use Rattle.goal_blocks.specs.Fitting.{AreFitting}
@@ -35,7 +36,7 @@ span_is_share ranks x y inside = go (leb x y) refl
     go true e = record { ordered = All_one (λ (s : Span). s.lo ≤ s.hi) (record { lo = x; hi = y }) (grind (arith, nat_tests)); short = omega arith }
     go false e = record { ordered = All_two (λ (s : Span). s.lo ≤ s.hi) (record { lo = x; hi = ranks - 1 }) (record { lo = 0; hi = y }) (omega arith) (omega arith); short = omega arith }
 
-module _ (ranks bytes : ℕ) (small : bytes ≤ MAX_BYTES) (root : ℕ) (rooted : root < ranks) (few : ranks ≤ 65536) where
+module _ (ranks bytes : ℕ) (small : bytes ≤ MAX_BYTES) (root : ℕ) (rooted : root < ranks) (few : ranks ≤ rank_limit) where
   share_is : (v s : ℕ) → v < ranks → IsShare (share ranks root v s)
   unfolding share
   share_is v s inside = span_is_share ranks (ahead ranks v root) (ahead ranks (min (v + s) ranks - 1) root) (ahead_below ranks v root inside (omega arith))

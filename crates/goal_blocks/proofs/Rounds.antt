@@ -6,6 +6,7 @@ use Rattle.std.proofs.Math.Nat.{pow-suc, pow-le-pow_right}
 use Rattle.std.proofs.lemmas.Bool.{ne_eqb, cases_lt, cases_eq}
 use Rattle.std.proofs.lemmas.List.Sums.{sum_by-cons, sum_by-append}
 use Rattle.std.proofs.lemmas.Nat.{pow_pos}
+use Rattle.goal_limits.specs.Limits.{slot_limit, weight_limit}
 use Rattle.goal_graph.specs.declared.action.OpId.{OpId}
 use Rattle.goal_graph.specs.declared.plan.Kind.TheVariants.{Calc, Recv}
 use Rattle.goal_graph.specs.declared.plan.Note.TheVariants.{Moves, Adds}
@@ -404,7 +405,7 @@ module _ (ranks n bytes : ℕ) (to from : ℕ → ℕ → ℕ) (to_rank : (r k :
           let room = load_send t.sender t.round in
           subst (λ (ks : List ℕ). sum_by (λ (v : Value). length v) (map (rounds_finds t.sender (3 * t.round)) ks) ≤ load t.sender (3 * t.round)) (sym (ap moved (sends t.sender t.round) ∙ moved_slot 0)) (omega (arith, is, room))
 
-      total : sum_below ranks (λ r. sum_below (2 ^ 32) (cap r)) + sum_by (λ r. sum_by (load r) (range_with_len 0 (rounds_count r))) (range_with_len 0 ranks) ≤ 2 ^ 24
+      total : sum_below ranks (λ r. sum_below (2 ^ 32) (cap r)) + sum_by (λ r. sum_by (load r) (range_with_len 0 (rounds_count r))) (range_with_len 0 ranks) ≤ weight_limit
       total =
           let stores = sum_below_few ranks 4096 (λ r. sum_below (2 ^ 32) (cap r)) (λ r l. let s = doubling_high n (2 ^ 32 - 1) (omega (arith, few_rounds)) in omega (arith, s, few_gained)) in
           let loads = sum_range_few (λ r. sum_by (load r) (range_with_len 0 (rounds_count r))) ranks 2048 (λ r l. let s = loads_few r n in omega (arith, s, few_gained)) in
@@ -428,7 +429,7 @@ module _ (ranks n bytes : ℕ) (to from : ℕ → ℕ → ℕ) (to_rank : (r k :
           Low : Entry → Type 0
           Low x = All NamesLowSlots (notes_of i x) × (sum_by moved_count (notes_of i x) ≤ 1)
 
-          one : (k : ℕ) → k ≤ 65535 → All NamesLowSlots (Moves i k k ∷ []) × (sum_by moved_count (Moves i k k ∷ []) ≤ 1)
+          one : (k : ℕ) → k ≤ slot_limit → All NamesLowSlots (Moves i k k ∷ []) × (sum_by moved_count (Moves i k k ∷ []) ≤ 1)
           one k low = (All_one NamesLowSlots (Moves i k k) (low, low), omega arith)
 
       rounds_small : IsSmall (made_by ranks rounds_count rounds_entry)

@@ -3,6 +3,7 @@
 use Rattle.std.proofs.Common.{⊎_elim, ℕ, zero, suc, ◌+◌, ◌-◌, ◌*◌, ◌^◌, ◌<◌, ◌≤◌, ◌≡◌, ◌⊎◌, nat_le, inl, inr, Bool, true, List, [], ◌∷◌, length, ap, subst, arith}
 use Rattle.std.proofs.Math.Pow.{pow_mono}
 use Rattle.std.proofs.lemmas.Bool.{le-leb, leb-true, cases_lt}
+use Rattle.goal_limits.specs.Limits.{certified_rank_limit, weight_limit, rank_limit}
 use Rattle.goal_graph.specs.Schedule.{Plan}
 use Rattle.goal_graph.specs.Action.{Act}
 use Rattle.goal_blocks.specs.Values.{Value, Store, held_after}
@@ -21,7 +22,7 @@ use Rattle.goal_blocks.proofs.Rounds.{rounds_count, rounds_entry, gained, length
 use Rattle.goal_blocks.proofs.Blueprint.{writes, Final, final_values}
 
 -- at the end of these actions not too much is held
-light_now : (plans : List Plan) (first : Store) (h : List Act) → IsLight plans first h → weight plans h (held_after plans no_send first h) ≤ 2 ^ 24
+light_now : (plans : List Plan) (first : Store) (h : List Act) → IsLight plans first h → weight plans h (held_after plans no_send first h) ≤ weight_limit
 light_now plans first [] light = light
 light_now plans first (a ∷ h) light = light.2
 
@@ -35,7 +36,7 @@ sum_below_many (suc n) c f each =
     grind (arith, rest, here)
 
 -- with more than 2,048 ranks there are 12 rounds or more, and no more than 16
-pub many_rounds : (ranks : ℕ) → 2048 < ranks → ranks ≤ 65536 → (12 ≤ digits (ranks - 1)) × (digits (ranks - 1) ≤ 16)
+pub many_rounds : (ranks : ℕ) → certified_rank_limit < ranks → ranks ≤ rank_limit → (12 ≤ digits (ranks - 1)) × (digits (ranks - 1) ≤ 16)
 many_rounds ranks many few =
     (⊎_elim (λ less. absurd (let high = digits_high (ranks - 1) 11 (omega (arith, few)) (omega (arith, less)) in omega (arith, high, many))) (λ more. more) (cases_lt (digits (ranks - 1)) 12), digits_few (ranks - 1) 16 (omega (arith, few)) (omega (arith, many, few)))
 
@@ -94,8 +95,8 @@ module _ (ranks n bytes : ℕ) (to from : ℕ → ℕ → ℕ) (to_rank : (r k :
       let size = length_plans ranks count entry in
       leb-true (doubling n k) (length ((held_after plans no_send first w).store r k)) (final_values ranks count entry first at_least finds leaves (Turn ranks n bytes to from to_rank from_rank there_and_back back_and_there) bytes (λ t. turn_send ranks n bytes to from to_rank from_rank there_and_back back_and_there t) (λ t. turn_recv ranks n bytes to from to_rank from_rank there_and_back back_and_there t) (λ t. t.round) (λ r i. rounds_level ranks n bytes to from to_rank from_rank there_and_back back_and_there r i) (rounds_blueprint ranks n bytes to from to_rank from_rank there_and_back back_and_there first at_least first_is end_is others) w is r k (omega (arith, inside, size)))
 
-  module _ (many : 2048 < ranks) (few : ranks ≤ 65536) (rounds : (12 ≤ n) × (n ≤ 16)) where
-    stored_many : (w : List Act) → IsWalk plans w → 2 ^ 24 < stored ranks (held_after plans no_send first w).store
+  module _ (many : certified_rank_limit < ranks) (few : ranks ≤ rank_limit) (rounds : (12 ≤ n) × (n ≤ 16)) where
+    stored_many : (w : List Act) → IsWalk plans w → weight_limit < stored ranks (held_after plans no_send first w).store
     unfolding stored
     stored_many w is =
         let all = sum_below_many ranks 8191 (λ r. sum_below (2 ^ 32) (λ k. length ((held_after plans no_send first w).store r k))) (λ r l. in_rank r l) in

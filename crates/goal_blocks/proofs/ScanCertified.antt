@@ -3,6 +3,7 @@ use Rattle.std.proofs.Common.{⊎_elim, ℕ, zero, suc, ◌+◌, ◌*◌, ◌^�
 use Rattle.std.specs.List.{range_with_len, sum_by}
 use Rattle.std.proofs.lemmas.Bool.{lt-ltb, ltb-true, ne_eqb}
 use Rattle.std.proofs.lemmas.List.Elements.{All-head, All-tail, All-map}
+use Rattle.goal_limits.specs.Limits.{weight_limit}
 use Rattle.goal_graph.specs.declared.plan.Kind.TheVariants.{Calc, Recv}
 use Rattle.goal_graph.specs.declared.plan.Note.TheVariants.{Moves, Adds}
 use Rattle.goal_limits.specs.declared.limits.TheConstants.{MAX_BYTES}
@@ -298,7 +299,7 @@ module _ (ranks bytes : ℕ) (some : 0 < ranks) (few : ranks ≤ 2048) where
       let size = length_of_each (suc w + 1) 0 in
       rw two (omega (arith, size, inside))
 
-  total : sum_below ranks (λ r. sum_below (2 ^ 32) (cap r)) + sum_by (λ r. sum_by (load r) (range_with_len 0 (count r))) (range_with_len 0 ranks) ≤ 2 ^ 24
+  total : sum_below ranks (λ r. sum_below (2 ^ 32) (cap r)) + sum_by (λ r. sum_by (load r) (range_with_len 0 (count r))) (range_with_len 0 ranks) ≤ weight_limit
   total =
       let stores = sum_below_few ranks 4096 (λ r. sum_below (2 ^ 32) (cap r)) (λ r l. let s = cap_sum r in omega (arith, s, few)) in
       let loads = sum_range_few (λ r. sum_by (load r) (range_with_len 0 (count r))) ranks 2048 (λ r l. let s = load_sum r in omega (arith, s, few)) in

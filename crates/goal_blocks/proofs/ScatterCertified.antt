@@ -5,6 +5,7 @@ use Rattle.std.proofs.Math.Pow.{pow_mono}
 use Rattle.std.proofs.Math.Nat.{pow-suc}
 use Rattle.std.proofs.lemmas.Bool.{lt-ltb, ltb-true, eqb-true, cases_lt, cases_eq}
 use Rattle.std.proofs.lemmas.Nat.{pow_pos}
+use Rattle.goal_limits.specs.Limits.{rank_limit}
 use Rattle.goal_graph.specs.declared.action.OpId.{OpId}
 use Rattle.goal_graph.specs.declared.plan.Kind.TheVariants.{Calc, Send, Recv}
 use Rattle.goal_limits.specs.declared.collective.Collective.TheVariants.{Scatter}
@@ -35,7 +36,7 @@ abbrev before_gift : ℕ → List ℕ
 before_gift zero = []
 before_gift (suc w) = 0 ∷ []
 
-module _ (ranks root bytes : ℕ) (rooted : root < ranks) (few : ranks ≤ 65536) where
+module _ (ranks root bytes : ℕ) (rooted : root < ranks) (few : ranks ≤ rank_limit) where
   abbrev each : ℕ → ℕ → Entry
   each v i = scatter_in ranks root bytes v i
 

@@ -8,6 +8,7 @@ use Rattle.std.proofs.lemmas.List.{length-append}
 use Rattle.std.proofs.lemmas.List.Concat.{length-flat_map}
 use Rattle.std.proofs.lemmas.List.Elements.{All-map}
 use Rattle.std.proofs.lemmas.List.Sums.{sum_by-cons, sum_by-append}
+use Rattle.goal_limits.specs.Limits.{slot_limit, rank_limit}
 use Rattle.goal_graph.specs.declared.plan.Note.{Note}
 use Rattle.goal_graph.specs.declared.plan.Note.TheVariants.{Moves, Adds}
 use Rattle.goal_blocks.specs.Slots.{Adding, slots_from}
@@ -77,7 +78,7 @@ moved_notes i e =
 
 -- a span whose slots notes can name
 abbrev pub IsLowSpan : Span → Type 0
-IsLowSpan s = (s.lo ≤ 65535) × (s.hi ≤ 65535)
+IsLowSpan s = (s.lo ≤ slot_limit) × (s.hi ≤ slot_limit)
 
 pub moving_low : (i : ℕ) (spans : List Span) → All IsLowSpan spans → All NamesLowSlots (map (λ (s : Span). Moves i s.lo s.hi) spans ++ [])
 moving_low i spans low =
@@ -175,7 +176,7 @@ module _ (ranks root v s : ℕ) (rooted : root < ranks) (inside : v < ranks) (so
       ap length share_slots ∙ length-append (slots_from lo first_run) (slots_from 0 (many - first_run)) ∙ omega (arith, a, b)
 
   -- its spans are of ranks
-  pub share_low : ranks ≤ 65536 → All IsLowSpan (share ranks root v s)
+  pub share_low : ranks ≤ rank_limit → All IsLowSpan (share ranks root v s)
   unfolding share
   share_low few = go (leb lo hi)
     where

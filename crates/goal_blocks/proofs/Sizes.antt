@@ -7,6 +7,7 @@ use Rattle.std.proofs.lemmas.List.Concat.{flat_map-cons}
 use Rattle.std.proofs.lemmas.List.Elements.{All-map}
 use Rattle.std.proofs.lemmas.List.FromFn.{length-map-range_with_len}
 use Rattle.std.proofs.lemmas.List.Sums.{sum_by-cons, sum_by-append}
+use Rattle.goal_limits.specs.Limits.{certified_op_limit, moved_limit}
 use Rattle.goal_graph.specs.Schedule.{Plan}
 use Rattle.goal_blocks.specs.Weight.{sum_below}
 use Rattle.goal_blocks.specs.Certification.{NamesLowSlots, moved_count, IsSmall}
@@ -41,7 +42,7 @@ module _ (ranks : ℕ) (count : ℕ → ℕ) (e : ℕ → ℕ → Entry) where
   All-made P h =
       All-map P (λ (r : ℕ). plan_by (count r) (e r)) (range_with_len 0 ranks) (All-range (λ (r : ℕ). P (plan_by (count r) (e r))) ranks h)
 
-  few_ops : (r : ℕ) → count r ≤ 2048 → length (plan_by (count r) (e r)).ops ≤ 2048
+  few_ops : (r : ℕ) → count r ≤ certified_op_limit → length (plan_by (count r) (e r)).ops ≤ certified_op_limit
   unfolding plan_by
   few_ops r few =
       let same = length-map-range_with_len (λ (i : ℕ). op_of (e r i)) 0 (count r) in omega (arith, same, few)
@@ -62,14 +63,14 @@ module _ (ranks : ℕ) (count : ℕ → ℕ) (e : ℕ → ℕ → Entry) where
       sum_by-map (λ (p : Plan). sum_by moved_count p.notes) (λ (r : ℕ). plan_by (count r) (e r)) (range_with_len 0 ranks) ∙ ap (λ (f : ℕ → ℕ). sum_by f (range_with_len 0 ranks)) (λ i r. moves_of_rank r i)
 
   -- entries of which each moves at most so many slots, all of them low, and not too many together
-  pub entries_moved : (load : ℕ → ℕ → ℕ) → ((r : ℕ) → r < ranks → count r ≤ 2048) → ((r i : ℕ) → r < ranks → i < count r → All NamesLowSlots (notes_of i (e r i))) → ((r i : ℕ) → r < ranks → i < count r → sum_by moved_count (notes_of i (e r i)) ≤ load r i) → sum_by (λ (r : ℕ). sum_by (load r) (range_with_len 0 (count r))) (range_with_len 0 ranks) ≤ 2 ^ 24 → IsSmall (made_by ranks count e)
+  pub entries_moved : (load : ℕ → ℕ → ℕ) → ((r : ℕ) → r < ranks → count r ≤ certified_op_limit) → ((r i : ℕ) → r < ranks → i < count r → All NamesLowSlots (notes_of i (e r i))) → ((r i : ℕ) → r < ranks → i < count r → sum_by moved_count (notes_of i (e r i)) ≤ load r i) → sum_by (λ (r : ℕ). sum_by (load r) (range_with_len 0 (count r))) (range_with_len 0 ranks) ≤ moved_limit → IsSmall (made_by ranks count e)
   entries_moved load few low each total = record {
-    operations = All-made (λ (p : Plan). length p.ops ≤ 2048) (λ r l. few_ops r (few r l));
+    operations = All-made (λ (p : Plan). length p.ops ≤ certified_op_limit) (λ r l. few_ops r (few r l));
     slots = All-made (λ (p : Plan). All NamesLowSlots p.notes) (λ r l. low_notes r (λ i m. low r i l m));
-    moves = subst (λ (n : ℕ). n ≤ 2 ^ 24) (sym moves_made) (le_trans (sum_by_le (λ (r : ℕ). sum_by (λ (i : ℕ). sum_by moved_count (notes_of i (e r i))) (range_with_len 0 (count r))) (λ (r : ℕ). sum_by (load r) (range_with_len 0 (count r))) (range_with_len 0 ranks) (All-range (λ (r : ℕ). sum_by (λ (i : ℕ). sum_by moved_count (notes_of i (e r i))) (range_with_len 0 (count r)) ≤ sum_by (load r) (range_with_len 0 (count r))) ranks (λ r l. sum_by_le (λ (i : ℕ). sum_by moved_count (notes_of i (e r i))) (load r) (range_with_len 0 (count r)) (All-range (λ (i : ℕ). sum_by moved_count (notes_of i (e r i)) ≤ load r i) (count r) (λ i m. each r i l m))))) total);
+    moves = subst (λ (n : ℕ). n ≤ moved_limit) (sym moves_made) (le_trans (sum_by_le (λ (r : ℕ). sum_by (λ (i : ℕ). sum_by moved_count (notes_of i (e r i))) (range_with_len 0 (count r))) (λ (r : ℕ). sum_by (load r) (range_with_len 0 (count r))) (range_with_len 0 ranks) (All-range (λ (r : ℕ). sum_by (λ (i : ℕ). sum_by moved_count (notes_of i (e r i))) (range_with_len 0 (count r)) ≤ sum_by (load r) (range_with_len 0 (count r))) ranks (λ r l. sum_by_le (λ (i : ℕ). sum_by moved_count (notes_of i (e r i))) (load r) (range_with_len 0 (count r)) (All-range (λ (i : ℕ). sum_by moved_count (notes_of i (e r i)) ≤ load r i) (count r) (λ i m. each r i l m))))) total);
   }
 
   -- the same, where each moves at most c slots
-  pub entries_small : (c : ℕ) → ((r : ℕ) → r < ranks → count r ≤ 2048) → ((r i : ℕ) → r < ranks → i < count r → All NamesLowSlots (notes_of i (e r i))) → ((r i : ℕ) → r < ranks → i < count r → sum_by moved_count (notes_of i (e r i)) ≤ c) → sum_by count (range_with_len 0 ranks) * c ≤ 2 ^ 24 → IsSmall (made_by ranks count e)
+  pub entries_small : (c : ℕ) → ((r : ℕ) → r < ranks → count r ≤ certified_op_limit) → ((r i : ℕ) → r < ranks → i < count r → All NamesLowSlots (notes_of i (e r i))) → ((r i : ℕ) → r < ranks → i < count r → sum_by moved_count (notes_of i (e r i)) ≤ c) → sum_by count (range_with_len 0 ranks) * c ≤ moved_limit → IsSmall (made_by ranks count e)
   entries_small c few low each total =
       entries_moved (λ r i. c) few low each (le_trans (entries_few ranks count (λ r i. c) c (λ r i l m. omega arith)) total)

@@ -1,6 +1,7 @@
 -- What the slots hold at the start, and how much that is.
 use Rattle.std.proofs.Common.{ℕ, zero, suc, ◌*◌, ◌<◌, ◌≤◌, ◌==◌, ◌&&◌, nat_lt, ◌≡◌, Bool, true, false, [], length, if◌then◌else◌, refl, sym, ap, ◌∙◌, arith, eq-eqb, ⊎_elim, suc-mul, zero-mul, ◌^◌}
 use Rattle.std.proofs.lemmas.Bool.{cases_eq, eqb-true, true≢false, lt-ltb, le-ltb}
+use Rattle.goal_limits.specs.Limits.{rank_limit}
 use Rattle.goal_limits.specs.declared.collective.Collective.{Collective}
 use Rattle.goal_limits.specs.declared.collective.Collective.TheVariants.{Bcast, Barrier, Allgather, Allreduce, Alltoall, Reduce, Gather, Scatter, ReduceScatter, Scan}
 use Rattle.goal_blocks.specs.Collectives.{single, initial, initial_at}
@@ -128,7 +129,7 @@ one_contribution_each what ranks place low one =
     all = let ones = sum_constant ranks 1 in omega (arith, ones)
 
 -- each rank has one contribution for each rank
-rank_each : (what : Collective) (ranks : ℕ) → ranks ≤ 65536 → ((r k : ℕ) → length (initial_at what ranks r k) ≡ (if nat_lt k ranks then 1 else 0)) → stored ranks (initial what ranks) ≡ ranks * ranks
+rank_each : (what : Collective) (ranks : ℕ) → ranks ≤ rank_limit → ((r k : ℕ) → length (initial_at what ranks r k) ≡ (if nat_lt k ranks then 1 else 0)) → stored ranks (initial what ranks) ≡ ranks * ranks
 unfolding stored
 rank_each what ranks few each =
     sum_same ranks (λ r. sum_below (2 ^ 32) (λ k. length (initial what ranks r k))) (λ r. ranks) (λ r l. sum_same (2 ^ 32) (λ k. length (initial what ranks r k)) (first ranks) (λ k b. ap length (initial_in what ranks r k l) ∙ each r k) ∙ sum_first (2 ^ 32) ranks (omega (arith, few)))
@@ -163,22 +164,22 @@ stored_reduce ranks root = one_contribution_each (Reduce root) ranks (λ r. 0) (
 pub stored_scan : (ranks : ℕ) → stored ranks (initial Scan ranks) ≡ ranks
 stored_scan ranks = one_contribution_each Scan ranks (λ r. 0) (λ r l. omega arith) (λ r k. size_if (k == 0) r 0)
 
-pub stored_allgather : (ranks : ℕ) → ranks ≤ 65536 → stored ranks (initial Allgather ranks) ≡ ranks
+pub stored_allgather : (ranks : ℕ) → ranks ≤ rank_limit → stored ranks (initial Allgather ranks) ≡ ranks
 stored_allgather ranks few = one_contribution_each Allgather ranks (λ r. r) (λ r l. omega (arith, l, few)) (λ r k. size_if (k == r) r 0)
 
-pub stored_gather : (ranks root : ℕ) → ranks ≤ 65536 → stored ranks (initial (Gather root) ranks) ≡ ranks
+pub stored_gather : (ranks root : ℕ) → ranks ≤ rank_limit → stored ranks (initial (Gather root) ranks) ≡ ranks
 stored_gather ranks root few = one_contribution_each (Gather root) ranks (λ r. r) (λ r l. omega (arith, l, few)) (λ r k. size_if (k == r) r 0)
 
-pub stored_alltoall : (ranks : ℕ) → ranks ≤ 65536 → stored ranks (initial Alltoall ranks) ≡ ranks * ranks
+pub stored_alltoall : (ranks : ℕ) → ranks ≤ rank_limit → stored ranks (initial Alltoall ranks) ≡ ranks * ranks
 stored_alltoall ranks few = rank_each Alltoall ranks few (λ r k. size_if (nat_lt k ranks) r k)
 
-pub stored_reduce_scatter : (ranks : ℕ) → ranks ≤ 65536 → stored ranks (initial ReduceScatter ranks) ≡ ranks * ranks
+pub stored_reduce_scatter : (ranks : ℕ) → ranks ≤ rank_limit → stored ranks (initial ReduceScatter ranks) ≡ ranks * ranks
 stored_reduce_scatter ranks few = rank_each ReduceScatter ranks few (λ r k. size_if (nat_lt k ranks) r k)
 
 bcast_rows : (ranks root : ℕ) → stored ranks (initial (Bcast root) ranks) ≡ sum_below ranks (λ r. if r == root then 1 else 0)
 bcast_rows ranks root = of_root (Bcast root) ranks root 1 (λ r. root_or_none r root 0 (λ k. k == 0) (λ k. 0) 1 (sum_at (2 ^ 32) 0 1 (omega arith)))
 
-scatter_rows : (ranks root : ℕ) → ranks ≤ 65536 → stored ranks (initial (Scatter root) ranks) ≡ sum_below ranks (λ r. if r == root then ranks else 0)
+scatter_rows : (ranks root : ℕ) → ranks ≤ rank_limit → stored ranks (initial (Scatter root) ranks) ≡ sum_below ranks (λ r. if r == root then ranks else 0)
 scatter_rows ranks root few = of_root (Scatter root) ranks root ranks (λ r. root_or_none r root 0 (λ k. nat_lt k ranks) (λ k. k) ranks (sum_first (2 ^ 32) ranks (omega (arith, few))))
 
 pub stored_bcast : (ranks root : ℕ) → root < ranks → stored ranks (initial (Bcast root) ranks) ≡ 1
@@ -187,10 +188,10 @@ stored_bcast ranks root l = bcast_rows ranks root ∙ sum_at ranks root 1 l
 pub stored_bcast_none : (ranks root : ℕ) → ranks ≤ root → stored ranks (initial (Bcast root) ranks) ≡ 0
 stored_bcast_none ranks root l = bcast_rows ranks root ∙ sum_past ranks root 1 l
 
-pub stored_scatter : (ranks root : ℕ) → ranks ≤ 65536 → root < ranks → stored ranks (initial (Scatter root) ranks) ≡ ranks
+pub stored_scatter : (ranks root : ℕ) → ranks ≤ rank_limit → root < ranks → stored ranks (initial (Scatter root) ranks) ≡ ranks
 stored_scatter ranks root few l = scatter_rows ranks root few ∙ sum_at ranks root ranks l
 
-pub stored_scatter_none : (ranks root : ℕ) → ranks ≤ 65536 → ranks ≤ root → stored ranks (initial (Scatter root) ranks) ≡ 0
+pub stored_scatter_none : (ranks root : ℕ) → ranks ≤ rank_limit → ranks ≤ root → stored ranks (initial (Scatter root) ranks) ≡ 0
 stored_scatter_none ranks root few l = scatter_rows ranks root few ∙ sum_past ranks root ranks l
 
 -- the size of a collective that is told by its case

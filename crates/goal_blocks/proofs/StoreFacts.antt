@@ -15,6 +15,7 @@ use Rattle.goal_blocks.proofs.SlotSums.{stored_set, stored_most}
 use Rattle.goal_blocks.proofs.Starts.{initial_sorted}
 use Rattle.goal_graph.proofs.ForCallers.{alike_numbers, eqb-swapped}
 use Rattle.std.specs.Cmp.{tied_then}
+use Rattle.goal_limits.specs.Limits.{rank_limit}
 
 -- the test of a place
 pub same_place : (rank slot r k : ℕ) → is_at (place_cmp (rank, slot)) (r, k) ≡ ((r == rank) && (k == slot))
@@ -176,7 +177,7 @@ values_empty what ranks m e = λ i r k. at r k i
     at : (r k : ℕ) → values (kept_of_cells what ranks m) r k ≡ initial what ranks r k
     at r k = value_if_not_written (kept_of_cells what ranks m) r k (written_found (kept_of_cells what ranks m) m refl (r, k) ∙ ap (λ es. option_map contents (lookup (is_at (place_cmp (r, k))) es)) e)
 
-pub sound_empty : (what : Collective) (ranks : ℕ) (m : Cells) (held : ℕ) → m.entries ≡ [] → ranks ≤ 65536 → held ≡ stored ranks (initial what ranks) → IsSound (kept_of_cells what ranks m) held
+pub sound_empty : (what : Collective) (ranks : ℕ) (m : Cells) (held : ℕ) → m.entries ≡ [] → ranks ≤ rank_limit → held ≡ stored ranks (initial what ranks) → IsSound (kept_of_cells what ranks m) held
 sound_empty what ranks m held e few is = record {
   ranks = few;
   sorted = λ r k. subst (λ (f : Store). IsSorted (f r k)) (sym (values_empty what ranks m e)) (initial_sorted what ranks r k);

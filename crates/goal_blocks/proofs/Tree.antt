@@ -5,6 +5,7 @@ use Rattle.std.specs.Int.Count.{count_trailing_zeros, under, trailing_of_zero}
 use Rattle.std.proofs.Math.Nat.{pow-suc}
 use Rattle.std.proofs.Math.Pow.{pow_mono}
 use Rattle.std.proofs.lemmas.Bool.{cases_lt}
+use Rattle.goal_limits.specs.Limits.{rank_limit}
 use Rattle.goal_blocks.specs.Positions.{digits, low, rounds}
 use Rattle.goal_blocks.proofs.RingAndTree.{digits_low, digits_high, digits_some}
 use Rattle.goal_blocks.proofs.Trees.{rounds_few, rounds_zero, rounds_above}
@@ -96,7 +97,7 @@ pub record IsInRound (ranks v w j : ℕ) : Type 0 where
   pub from : v + 2 ^ j ≤ w
   pub before : w < v + 2 ^ j + 2 ^ j
 
-module _ (ranks : ℕ) (few : ranks ≤ 65536) where
+module _ (ranks : ℕ) (few : ranks ≤ rank_limit) where
   -- all rounds of a virtual rank are below its lowest digit 1
   pub rounds_low : (v : ℕ) → rounds ranks v ≤ low v
   rounds_low zero =

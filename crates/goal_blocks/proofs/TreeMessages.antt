@@ -2,6 +2,7 @@
 -- at the child and the end at the parent are told by the virtual rank, and by the virtual rank and the round.
 use Rattle.std.proofs.Common.{◌≡◌, ◌⊎◌, ℕ, ◌+◌, ◌-◌, ◌^◌, ◌<◌, ◌≤◌, Some, inl, inr, ⊎_elim, sym, ap, ◌∙◌, arith}
 use Rattle.std.proofs.lemmas.Nat.{pow_pos}
+use Rattle.goal_limits.specs.Limits.{rank_limit}
 use Rattle.goal_graph.specs.declared.action.OpId.{OpId}
 use Rattle.goal_graph.specs.declared.plan.Kind.TheVariants.{Calc, Send, Recv}
 use Rattle.goal_blocks.specs.Entries.{Entry}
@@ -19,7 +20,7 @@ pub record TreeEdge (ranks : ℕ) : Type 0 where
   pub some : 0 < child
   pub inside : child < ranks
 
-module _ (ranks root bytes : ℕ) (rooted : root < ranks) (few : ranks ≤ 65536) where
+module _ (ranks root bytes : ℕ) (rooted : root < ranks) (few : ranks ≤ rank_limit) where
   abbrev pub above : TreeEdge ranks → ℕ
   above m = m.child - 2 ^ low m.child
 

@@ -4,6 +4,7 @@ use Rattle.std.specs.List.{range_with_len, sum_by}
 use Rattle.std.proofs.Math.Nat.{le_trans, mul-le-mul_right}
 use Rattle.std.proofs.lemmas.Bool.{lt-ltb, le-leb, cases_lt}
 use Rattle.std.proofs.lemmas.Bool.Decides.{nat_tests}
+use Rattle.goal_limits.specs.Limits.{rank_limit}
 use Rattle.goal_blocks.specs.Positions.{back, low}
 use Rattle.goal_blocks.specs.Weight.{sum_below}
 use Rattle.goal_blocks.proofs.Totals.{sum_range_few}
@@ -50,7 +51,7 @@ unfolding sum_below
 sum_below_times c f zero = omega arith
 sum_below_times c f (suc n) = let rest = sum_below_times c f n in grind (arith, rest)
 
-module _ (ranks : ℕ) (few : ranks ≤ 65536) where
+module _ (ranks : ℕ) (few : ranks ≤ rank_limit) where
   size_above : (w : ℕ) → block_size ranks (1 + w) ≤ lowest_power 32 (1 + w)
   unfolding block_size lowest_power low
   size_above w =
@@ -61,7 +62,7 @@ module _ (ranks : ℕ) (few : ranks ≤ 65536) where
   unfolding block_size
   size_root = omega (arith, few)
 
-  sizes_below : (n : ℕ) → n ≤ 65536 → sum_below n (block_size ranks) ≤ 589824
+  sizes_below : (n : ℕ) → n ≤ rank_limit → sum_below n (block_size ranks) ≤ 589824
   sizes_below zero le =
       let none = sum_below_le (block_size ranks) (λ v. 0) 0 (λ i l. absurd (omega (arith, l))) in
       let zeros = sum_below_none (λ v. 0) 0 (λ i. refl) in

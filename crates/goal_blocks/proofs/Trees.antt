@@ -7,6 +7,7 @@ use Rattle.std.proofs.Math.Nat.{pow-suc}
 use Rattle.std.proofs.lemmas.Bool.Decides.{nat_tests}
 use Rattle.std.proofs.lemmas.List.FromFn.{sum_by-map-range_with_len_more}
 use Rattle.std.proofs.lemmas.Nat.{pow_pos}
+use Rattle.goal_limits.specs.Limits.{rank_limit}
 use Rattle.goal_blocks.specs.Positions.{back, digits, low, rounds}
 use Rattle.goal_blocks.specs.Weight.{sum_below}
 use Rattle.goal_blocks.proofs.Fitting.{sum_by-map}
@@ -160,7 +161,7 @@ lowest_powers_sum (suc j) (suc k) le =
     let product : suc j * (2 ^ j + 2 ^ j) ≡ 2 * (j * 2 ^ j) + 2 ^ j + 2 ^ j = grind arith in
     rw (e, sum_below_pairs (lowest_power (suc k)) (2 ^ j), product) (omega (arith, rest, pairs, twice))
 
-module _ (ranks : ℕ) (few : ranks ≤ 65536) where
+module _ (ranks : ℕ) (few : ranks ≤ rank_limit) where
   pub rounds_zero : rounds ranks 0 ≡ digits (ranks - 1)
   unfolding rounds
   rounds_zero = refl
@@ -193,7 +194,7 @@ module _ (ranks : ℕ) (few : ranks ≤ 65536) where
       rw (rounds_above (1 + w) (omega arith), e) (omega arith)
 
   -- the children of all virtual ranks
-  rounds_sum : (n : ℕ) → n ≤ 65536 → sum_below n (rounds ranks) ≤ 65552
+  rounds_sum : (n : ℕ) → n ≤ rank_limit → sum_below n (rounds ranks) ≤ 65552
   rounds_sum zero le = omega (arith, sum_below_le (rounds ranks) (λ v. 0) 0 (λ i l. absurd (omega arith)), sum_below_none (λ v. 0) 0 (λ i. refl))
   rounds_sum (suc m) le =
       let n : suc m ≡ 1 + m = omega arith in

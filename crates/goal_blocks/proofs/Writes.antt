@@ -4,6 +4,7 @@ use Rattle.std.specs.List.{sum_by}
 use Rattle.std.proofs.lemmas.List.{map-append}
 use Rattle.std.proofs.lemmas.List.Elements.{All-weaker, All-contains_itself, Contains-push_cases, Contains-append_cases}
 use Rattle.std.proofs.lemmas.List.Sums.{sum_by-cons}
+use Rattle.goal_limits.specs.Limits.{weight_limit}
 use Rattle.goal_blocks.specs.Values.{Contribution, Value, Store, write, set_slot}
 use Rattle.goal_blocks.specs.Weight.{stored}
 use Rattle.goal_blocks.specs.Stored.{lists_of}
@@ -51,7 +52,7 @@ module _ (P Q : ℕ → Type 0) (all : List ℕ) where
   taken_all slots none before =
       All-weaker (Contains all) P (λ k c. ⊎_elim (λ there. absurd (none_in k (subst (λ (ks : List ℕ). Contains ks k) none there))) (λ p. p) (before k c)) all (All-contains_itself all)
 
-pub light_next : (ranks more rank slot : ℕ) (v : Value) (vs all : List Value) (s t : Store) → all ≡ v ∷ vs → t ≡ set_slot rank slot v s → more ≡ ranks → rank < ranks → slot < 2 ^ 32 → stored ranks s + sum_by (λ (w : Value). length w) all ≤ 2 ^ 24 → stored more t + sum_by (λ (w : Value). length w) vs ≤ 2 ^ 24
+pub light_next : (ranks more rank slot : ℕ) (v : Value) (vs all : List Value) (s t : Store) → all ≡ v ∷ vs → t ≡ set_slot rank slot v s → more ≡ ranks → rank < ranks → slot < 2 ^ 32 → stored ranks s + sum_by (λ (w : Value). length w) all ≤ weight_limit → stored more t + sum_by (λ (w : Value). length w) vs ≤ weight_limit
 light_next ranks more rank slot v vs all s t e set same low small light =
     let sum : sum_by (λ (w : Value). length w) all ≡ length v + sum_by (λ (w : Value). length w) vs = ap (sum_by (λ (w : Value). length w)) e ∙ sum_by-cons (λ (w : Value). length w) v vs in
     let now : stored more t ≡ stored ranks (set_slot rank slot v s) = ap (stored more) set ∙ ap (λ (n : ℕ). stored n (set_slot rank slot v s)) same in

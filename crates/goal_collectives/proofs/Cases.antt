@@ -2,6 +2,7 @@
 use Rattle.std.proofs.lemmas.Nat.{pow_pos}
 use Rattle.std.proofs.Common.{◌≡◌, ◌≢◌, ℕ, zero, suc, ◌+◌, ◌-◌, ◌*◌, ◌/◌, ◌%◌, ◌^◌, ◌<◌, ◌≤◌, eqb, true, false, List, [], ◌∷◌, refl, ap, arith}
 use Rattle.std.proofs.lemmas.Bool.Decides.{nat_tests}
+use Rattle.goal_limits.specs.Limits.{rank_limit}
 use Rattle.goal_blocks.specs.Entries.{slot, sending, receiving, summing}
 use Rattle.goal_blocks.specs.Positions.{ahead, back, flipped, digits}
 use Rattle.goal_blocks.specs.Made.{bcast_in, bcast_count, bcast_send, before_send, allgather_in, alltoall_in, round_in, barrier_in, allreduce_in}
@@ -44,16 +45,16 @@ pub record IsRound (ranks v j : ℕ) : Type 0 where
   pub few : j < 16
   pub child : v + 2 ^ j < ranks
 
-pub round_below : (ranks v j : ℕ) → ranks ≤ 65536 → v < ranks → j < digits (ranks - 1 - v) → IsRound ranks v j
+pub round_below : (ranks v j : ℕ) → ranks ≤ rank_limit → v < ranks → j < digits (ranks - 1 - v) → IsRound ranks v j
 round_below ranks v j few inside lt =
     let low = digits_low (ranks - 1 - v) j (omega arith) lt in
     let digits_few = digits_few (ranks - 1 - v) 16 (omega arith) (omega arith) in
     record { few = omega arith; child = omega arith }
 
-pub root_round : (ranks v i : ℕ) → ranks ≤ 65536 → v < ranks → v ≡ 0 → i < bcast_count ranks v → IsRound ranks v i
+pub root_round : (ranks v i : ℕ) → ranks ≤ rank_limit → v < ranks → v ≡ 0 → i < bcast_count ranks v → IsRound ranks v i
 root_round ranks v i few inside h lt = round_below ranks v i few inside (omega (arith, bcast_count_root ranks v h))
 
-pub other_round : (ranks v i : ℕ) → ranks ≤ 65536 → v < ranks → 0 < v → 0 < i → i < bcast_count ranks v → IsRound ranks v (digits v + (i - 1))
+pub other_round : (ranks v i : ℕ) → ranks ≤ rank_limit → v < ranks → 0 < v → 0 < i → i < bcast_count ranks v → IsRound ranks v (digits v + (i - 1))
 other_round ranks v i few inside h k lt = round_below ranks v (digits v + (i - 1)) few inside (omega (arith, bcast_count_other ranks v h))
 
 -- the round in which a virtual rank receives is below 16, and its parent exists
@@ -70,7 +71,7 @@ own_round v few some =
 -- the barrier and the allreduce
 
 -- a round is below 16, and 2 to it below the ranks
-pub third_round : (ranks i : ℕ) → ranks ≤ 65536 → i < 3 * digits (ranks - 1) → (i / 3 < 16) × (2 ^ (i / 3) < ranks)
+pub third_round : (ranks i : ℕ) → ranks ≤ rank_limit → i < 3 * digits (ranks - 1) → (i / 3 < 16) × (2 ^ (i / 3) < ranks)
 third_round ranks i few lt =
     let digits_few = digits_few (ranks - 1) 16 (omega arith) (omega arith) in
     let low = digits_low (ranks - 1) (i / 3) (omega arith) (omega arith) in

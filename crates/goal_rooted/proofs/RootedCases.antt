@@ -2,6 +2,7 @@
 use Rattle.std.proofs.Common.{◌≡◌, ◌≢◌, ℕ, zero, suc, ◌+◌, ◌-◌, ◌*◌, ◌/◌, ◌%◌, ◌^◌, ◌<◌, ◌≤◌, eqb, leb, true, false, [], ◌∷◌, refl, ap, arith, min}
 use Rattle.std.proofs.Math.Nat.{le_trans}
 use Rattle.std.proofs.lemmas.Bool.Decides.{nat_tests}
+use Rattle.goal_limits.specs.Limits.{rank_limit}
 use Rattle.goal_limits.specs.declared.collective.Collective.{Collective}
 use Rattle.goal_limits.specs.declared.collective.Collective.TheVariants.{Bcast, Barrier, Allgather, Allreduce, Alltoall, Reduce, Gather, Scatter, ReduceScatter, Scan}
 use Rattle.goal_limits.specs.MostRanks.{most_ranks}
@@ -33,7 +34,7 @@ pub record IsChild (ranks v j : ℕ) : Type 0 where
   pub few : j < 16
   pub child : v + 2 ^ j < ranks
 
-pub child_of : (ranks v j : ℕ) → ranks ≤ 65536 → v < ranks → j < rounds ranks v → IsChild ranks v j
+pub child_of : (ranks v j : ℕ) → ranks ≤ rank_limit → v < ranks → j < rounds ranks v → IsChild ranks v j
 child_of ranks v j few inside lt =
     record { few = omega (arith, rounds_few ranks few v); child = child_below ranks few v j inside lt }
 

@@ -5,6 +5,7 @@ use Rattle.std.specs.Map.{lookup}
 use Rattle.std.specs.Ordering.{nat_cmp}
 use Rattle.std.specs.BTreeMap.{is_at}
 use Rattle.std.proofs.lemmas.Option.{same_Some}
+use Rattle.goal_limits.specs.Limits.{rank_limit}
 use Rattle.goal_limits.specs.declared.collective.Collective.{Collective}
 use Rattle.goal_blocks.specs.declared.segment.Segment.{Segment}
 use Rattle.goal_blocks.specs.Values.{Value, set_slot}
@@ -115,7 +116,7 @@ module _ (what : Collective) (ranks : ℕ) (segment : Segment) (m : Terms) (empt
       at r k =
           value_from_terms what ranks segment sums m r k ∙ ap (λ (o : Option Term). unwrap_or (option_map (meaning sums) o) (initial_in what segment.width segment.block ranks r k)) (none_there r k)
 
-  pub sound_empty : (held : ℕ) → ranks ≤ 65536 → segment.block * segment.width + segment.width ≤ 2 ^ 32 → held ≡ stored ranks (initial what ranks) → IsSound (record { kept = kept_in what ranks segment sums m; sums = sums }) m held
+  pub sound_empty : (held : ℕ) → ranks ≤ rank_limit → segment.block * segment.width + segment.width ≤ 2 ^ 32 → held ≡ stored ranks (initial what ranks) → IsSound (record { kept = kept_in what ranks segment sums m; sums = sums }) m held
   sound_empty held few fits is = record {
     ranks = few;
     fits = fits;

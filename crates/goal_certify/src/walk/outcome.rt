@@ -16,6 +16,7 @@ use super::stray::first_stray;
 use super::values::carry;
 use goal_blocks::{CertFault, Collective, Segment, SlotTable, initial_size, laws_of_faults};
 use goal_graph::Sched;
+use goal_limits::MAX_WEIGHT;
 use goal_values::SlotValues;
 use std::alloc::{AllocError, Global};
 

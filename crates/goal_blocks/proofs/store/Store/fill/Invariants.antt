@@ -1,6 +1,7 @@
 use Rattle.std.proofs.Common.{ℕ, ◌≡◌, ◌+◌, ◌≤◌, ◌^◌, All, IsSome, length}
 use Rattle.std.specs.List.{sum_by}
 use Rattle.std.specs.Vec.Iter.{into_iter_items, into_iter_len}
+use Rattle.goal_limits.specs.Limits.{weight_limit}
 use Rattle.goal_blocks.specs.Values.{Value, write}
 use Rattle.goal_blocks.specs.Weight.{stored}
 use Rattle.goal_blocks.specs.Stored.{values, written_at, lists_of, IsSorted}
@@ -17,5 +18,5 @@ invariant-loop-value l =
     (l.self.ranks ≡ l.initial.self.ranks) ×
     All (λ k. IsSome (written_at l.initial.self (l.rank, k))) l.left ×
     ((k : ℕ) → IsSome (written_at l.initial.self (l.rank, k)) → IsSome (written_at l.self (l.rank, k))) ×
-    (stored l.self.ranks (values l.self) + sum_by (λ (v : Value). length v) (lists_of (into_iter_items l.value-iterator)) ≤ 2 ^ 24) ×
+    (stored l.self.ranks (values l.self) + sum_by (λ (v : Value). length v) (lists_of (into_iter_items l.value-iterator)) ≤ weight_limit) ×
     (into_iter_len l.value-iterator ≡ length (into_iter_items l.value-iterator))

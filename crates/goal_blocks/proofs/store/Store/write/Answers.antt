@@ -1,5 +1,6 @@
 use Rattle.std.proofs.Common.{ℕ, ◌+◌, ◌^◌, ◌≤◌, inl, List, IsSome, Contains, refl, ◌∙◌, length, sym, subst}
 use Rattle.std.specs.List.{sum_by}
+use Rattle.goal_limits.specs.Limits.{weight_limit}
 use Rattle.goal_blocks.specs.Values.{Value}
 use Rattle.goal_blocks.specs.Stored.{written_at}
 use Rattle.goal_blocks.specs.Weight.{stored}
@@ -30,4 +31,4 @@ fill-requires-clause-set c =
 
 pub fill-requires-clause-light : goal.fill-requires-clause-light
 fill-requires-clause-light c =
-    subst (λ (n : ℕ). n ≤ 2 ^ 24) (sym (λ i. stored (c.loop-slot.invariant.ranks i) (c.loop-slot.invariant.same i) + sum_by (λ (v : Value). length v) (c.payload.view_is i))) c.requires.light
+    subst (λ (n : ℕ). n ≤ weight_limit) (sym (λ i. stored (c.loop-slot.invariant.ranks i) (c.loop-slot.invariant.same i) + sum_by (λ (v : Value). length v) (c.payload.view_is i))) c.requires.light

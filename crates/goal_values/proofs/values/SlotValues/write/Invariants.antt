@@ -1,5 +1,6 @@
 use Rattle.std.proofs.Common.{ℕ, ◌≡◌, ◌≢◌, ◌+◌, ◌^◌, ◌≤◌, length, map, drop}
 use Rattle.std.specs.List.{sum_by}
+use Rattle.goal_limits.specs.Limits.{weight_limit}
 use Rattle.goal_blocks.specs.SlotRanges.{slots_in}
 use Rattle.goal_blocks.specs.Values.{Value, write}
 use Rattle.goal_blocks.specs.Weight.{stored}
@@ -14,6 +15,6 @@ invariant-loop-term l = record {
   ranks : l.self.kept.ranks ≡ l.initial.self.kept.ranks;
   many : length l.slots + l.term-index ≡ length l.terms;
   left : write l.rank l.slots (drop l.term-index (map (meaning l.initial.self.sums) l.terms)) (values l.self.kept) ≡ write l.rank (slots_in l.ranges) (map (meaning l.initial.self.sums) l.terms) (values l.initial.self.kept);
-  light : stored l.self.kept.ranks (values l.self.kept) + sum_by (λ (v : Value). length v) (drop l.term-index (map (meaning l.initial.self.sums) l.terms)) ≤ 2 ^ 24;
+  light : stored l.self.kept.ranks (values l.self.kept) + sum_by (λ (v : Value). length v) (drop l.term-index (map (meaning l.initial.self.sums) l.terms)) ≤ weight_limit;
   others : (r k : ℕ) → r ≢ l.rank → values l.self.kept r k ≡ values l.initial.self.kept r k;
 }
