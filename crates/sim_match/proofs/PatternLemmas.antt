@@ -1,6 +1,9 @@
 -- Patterns and their numbers.
 use Rattle.std.proofs.Common.{ℕ, zero, suc, ◌<◌, ◌≤◌, ◌+◌, ◌≡◌, ◌==◌, ◌&&◌, ◌||◌, Bool, true, false, List, [], ◌∷◌, ◌++◌, length, get_or, map, Option, Some, None, is_some, inl, inr, slice_get, take, position, refl, arith, sym, ap, ap₂, ◌∙◌, subst, eq-eqb, Contains}
+use Rattle.std.specs.Cmp.{tied_then}
 use Rattle.std.specs.List.{list_any, list_all, position_or_len}
+use Rattle.std.specs.Option.{option_cmp}
+use Rattle.std.specs.Ordering.{is_eq, nat_cmp}
 use Rattle.std.proofs.lemmas.Bool.{cond-true, cond-false, le-ltb, both_ways, and_parts, and_from, eqb-true, ne_eqb, lt-ltb, cases_lt, false_from_ne_true}
 use Rattle.std.proofs.lemmas.Option.{none-some, same_Some, get_or_from_slice_get, slice_get_within, slice_get_read}
 use Rattle.std.proofs.lemmas.List.Elements.{All-get_or, Contains-append_left, Contains-append_right}
@@ -12,11 +15,11 @@ use Rattle.goal_graph.specs.declared.plan.Kind.{Kind}
 use Rattle.goal_graph.specs.declared.plan.Kind.TheVariants.{Calc, Send, Recv}
 use Rattle.goal_graph.specs.Schedule.{Plan, kind_at, operations, IsSend, IsReceive}
 use Rattle.goal_graph.specs.Matching.{accepts, fits, fits_kinds}
-use Rattle.goal_graph.proofs.ForCallers.{kind_listed, same_choice_true, same_choice_itself}
+use Rattle.goal_graph.proofs.ForCallers.{alike_choices, alike_numbers, kind_listed, same_choice_true, same_choice_itself}
 use Rattle.sim_match.specs.declared.pattern.Pattern.{Pattern}
 use Rattle.sim_match.specs.declared.pattern.Wild.{Wild}
 use Rattle.sim_match.specs.declared.pattern.Wild.TheVariants.{AnyTag, AnySource, Any}
-use Rattle.sim_match.specs.Patterns.{same_choice, same_pattern, pattern_of, patterns_for, same_number, number, list_number, numbers_for, list_of, lists_for, for_list, wild_pattern, is_wild, IsListed, AreListed}
+use Rattle.sim_match.specs.Patterns.{same_choice, same_pattern, pattern_cmp, pattern_of, patterns_for, same_number, number, list_number, numbers_for, list_of, lists_for, for_list, wild_pattern, is_wild, IsListed, AreListed}
 use Rattle.sim_match.specs.Capacities.{AreOnce, AreWithin}
 
 pub same_pattern_true : (p q : Pattern) → same_pattern p q ≡ true → p ≡ q
@@ -27,6 +30,11 @@ same_pattern_true p q e =
     let from = same_choice_true p.from q.from inner.0 in
     let tag = same_choice_true p.tag q.tag inner.1 in
     λ i. record { rank = rank i; from = from i; tag = tag i }
+
+-- patterns are equal by their order exactly where they are the same
+pub alike_patterns : (p q : Pattern) → is_eq (pattern_cmp p q) ≡ same_pattern p q
+alike_patterns p q =
+    sym (tied_then (nat_cmp p.rank q.rank) _) ∙ ap₂ (λ (s t : Bool). s && t) (alike_numbers p.rank q.rank) (sym (tied_then (option_cmp nat_cmp p.from q.from) _) ∙ ap₂ (λ (s t : Bool). s && t) (alike_choices p.from q.from) (alike_choices p.tag q.tag))
 
 pub same_pattern_itself : (p : Pattern) → same_pattern p p ≡ true
 same_pattern_itself p =

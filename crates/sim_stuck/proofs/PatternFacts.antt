@@ -1,21 +1,12 @@
--- Patterns that are alike, and the receives that fit a message, by its patterns.
+-- The receives that fit a message, by its patterns.
 use Rattle.std.proofs.Common.{ℕ, ◌≡◌, ◌==◌, ◌&&◌, ◌||◌, Bool, true, false, Option, Some, None, cond, refl, sym, ap, ap₂, ◌∙◌}
-use Rattle.std.specs.Ordering.{nat_cmp, is_eq}
-use Rattle.std.specs.Option.{option_cmp}
+use Rattle.std.specs.Ordering.{is_eq}
 use Rattle.goal_graph.specs.Matching.{accepts}
 use Rattle.sim_match.specs.declared.pattern.Pattern.{Pattern}
-use Rattle.sim_match.specs.Patterns.{pattern_cmp}
-use Rattle.goal_graph.proofs.ForCallers.{alike_numbers, alike_choices, eqb-swapped}
-use Rattle.std.specs.Cmp.{tied_then}
+use Rattle.sim_match.specs.Patterns.{pattern_cmp, same_pattern}
+use Rattle.sim_match.proofs.ForCallers.{alike_patterns}
+use Rattle.goal_graph.proofs.ForCallers.{eqb-swapped}
 use Rattle.goal_graph.specs.Choices.{same_choice}
-
--- p, of a message, is the pattern q of a receive
-abbrev pub is_alike : Pattern → Pattern → Bool
-is_alike p q = (p.rank == q.rank) && (same_choice q.from p.from && same_choice q.tag p.tag)
-
-pub alike_back : (p q : Pattern) → is_eq (pattern_cmp q p) ≡ is_alike p q
-alike_back p q =
-    sym (tied_then (nat_cmp q.rank p.rank) _) ∙ ap₂ (λ (s t : Bool). s && t) (alike_numbers q.rank p.rank ∙ eqb-swapped q.rank p.rank) (sym (tied_then (option_cmp nat_cmp q.from p.from) _) ∙ ap₂ (λ (s t : Bool). s && t) (alike_choices q.from p.from) (alike_choices q.tag p.tag))
 
 abbrev pub exact_of : ℕ → ℕ → ℕ → Pattern
 exact_of source to tag = record { rank = to; from = Some source; tag = Some tag }
@@ -30,8 +21,9 @@ abbrev pub any_of : ℕ → Pattern
 any_of to = record { rank = to; from = None; tag = None }
 
 -- a pattern accepts a message exactly if it is one of the message's four
-pub four : (q : Pattern) (source to with_tag : ℕ) → ((to == q.rank) && accepts q.from source && accepts q.tag with_tag) ≡ ((is_alike (exact_of source to with_tag) q || is_alike (any_tag_of source to) q) || (is_alike (any_source_of to with_tag) q || is_alike (any_of to) q))
-four q source to with_tag = go (to == q.rank) q.from q.tag
+pub four : (q : Pattern) (source to with_tag : ℕ) → ((to == q.rank) && accepts q.from source && accepts q.tag with_tag) ≡ ((same_pattern q (exact_of source to with_tag) || same_pattern q (any_tag_of source to)) || (same_pattern q (any_source_of to with_tag) || same_pattern q (any_of to)))
+four q source to with_tag =
+    ap (λ (s : Bool). s && accepts q.from source && accepts q.tag with_tag) (eqb-swapped to q.rank) ∙ go (q.rank == to) q.from q.tag
   where
     none_none : (s : Bool) → (s && true && true) ≡ (((s && (false && false)) || (s && (false && true))) || ((s && (true && false)) || (s && (true && true))))
     none_none true = refl
@@ -65,9 +57,9 @@ choice_swapped None (Some n) = refl
 choice_swapped (Some k) None = refl
 choice_swapped (Some k) (Some n) = eqb-swapped k n
 
-alike_ahead : (p q : Pattern) → is_eq (pattern_cmp p q) ≡ is_alike p q
-alike_ahead p q =
-    alike_back q p ∙ ap₂ (λ (s t : Bool). s && t) (eqb-swapped q.rank p.rank) (ap₂ (λ (s t : Bool). s && t) (choice_swapped p.from q.from) (choice_swapped p.tag q.tag))
+alike_turned : (p q : Pattern) → is_eq (pattern_cmp p q) ≡ same_pattern q p
+alike_turned p q =
+    alike_patterns p q ∙ ap₂ (λ (s t : Bool). s && t) (eqb-swapped p.rank q.rank) (ap₂ (λ (s t : Bool). s && t) (choice_swapped p.from q.from) (choice_swapped p.tag q.tag))
 
 put_once : {X : Type 0} (a b c d : Bool) (x y : X) → cond d x (cond c x (cond b x (cond a x y))) ≡ cond ((a || b) || (c || d)) x y
 put_once a b c true x y = ap (λ (t : Bool). cond t x y) (sym (last a b c))
@@ -92,4 +84,4 @@ put_once false false false false x y = refl
 pub four_put : (q : Pattern) (source to with_tag : ℕ) {X : Type 0} (x y : X) → cond (is_eq (pattern_cmp (any_of to) q)) x (cond (is_eq (pattern_cmp (any_source_of to with_tag) q)) x (cond (is_eq (pattern_cmp (any_tag_of source to) q)) x (cond (is_eq (pattern_cmp (exact_of source to with_tag) q)) x y))) ≡ cond ((to == q.rank) && accepts q.from source && accepts q.tag with_tag) x y
 four_put q source to with_tag x y =
     put_once (is_eq (pattern_cmp (exact_of source to with_tag) q)) (is_eq (pattern_cmp (any_tag_of source to) q)) (is_eq (pattern_cmp (any_source_of to with_tag) q)) (is_eq (pattern_cmp (any_of to) q)) x y
-    ∙ ap (λ (t : Bool). cond t x y) (ap₂ (λ (s t : Bool). s || t) (ap₂ (λ (s t : Bool). s || t) (alike_ahead (exact_of source to with_tag) q) (alike_ahead (any_tag_of source to) q)) (ap₂ (λ (s t : Bool). s || t) (alike_ahead (any_source_of to with_tag) q) (alike_ahead (any_of to) q)) ∙ sym (four q source to with_tag))
+    ∙ ap (λ (t : Bool). cond t x y) (ap₂ (λ (s t : Bool). s || t) (ap₂ (λ (s t : Bool). s || t) (alike_turned (exact_of source to with_tag) q) (alike_turned (any_tag_of source to) q)) (ap₂ (λ (s t : Bool). s || t) (alike_turned (any_source_of to with_tag) q) (alike_turned (any_of to) q)) ∙ sym (four q source to with_tag))
