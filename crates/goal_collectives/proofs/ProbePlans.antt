@@ -15,7 +15,7 @@ use Rattle.goal_graph.specs.Fault.{value_fits, has_peer, is_rank, dep_in_range, 
 use Rattle.goal_graph.proofs.ForCallers.{dep_in_range-parts, not_over}
 use Rattle.goal_blocks.proofs.ForCallers.{first_fault-of_none, lower_have_depths}
 use Rattle.goal_collectives.specs.declared.draws.Round.{Round}
-use Rattle.goal_collectives.specs.Probe.{next_state, drawn, round_from, state_before, op_in, requires_end, after_last, source_in, with_work, with_receive, at_rank, with_round, idle, idle_ranks, probed}
+use Rattle.goal_collectives.specs.Probe.{probe_ranks, next_state, drawn, round_from, state_before, op_in, requires_end, after_last, source_in, with_work, with_receive, at_rank, with_round, idle, idle_ranks, probed}
 
 -- another item at the front
 all_cons : {X : Type 0} (P : X → Type 0) (x : X) (xs : List X) → P x → All P xs → All P (x ∷ xs)
@@ -27,8 +27,8 @@ all_none P k d l = absurd (omega arith)
 
 -- the numbers of a round
 pub record IsSmall (x : Round) : Type 0 where
-  pub from : x.from < 64
-  pub to : x.to < 64
+  pub from : x.from < probe_ranks
+  pub to : x.to < probe_ranks
   pub nanos : x.nanos < 10000
   pub bytes : x.bytes < 100000
 
@@ -37,7 +37,7 @@ unfolding round_from
 small_round x = record { from = omega arith; to = omega arith; nanos = omega arith; bytes = omega arith }
 
 abbrev OpFits : Op → Type 0
-OpFits o = (value_fits o.kind o.nic ≡ true) × (has_peer 64 o.kind ≡ true)
+OpFits o = (value_fits o.kind o.nic ≡ true) × (has_peer probe_ranks o.kind ≡ true)
 
 abbrev DepFits : ℕ → Dep → Type 0
 DepFits n d = (dep_in_range n d ≡ true) × (d.earlier < d.later)
@@ -74,7 +74,7 @@ work_sound i x p small sound = record {
   ops =
       All-append OpFits p.ops (op_in i (Calc x.nanos) ∷ op_in i (Send x.bytes x.to i) ∷ []) sound.ops
       (all_cons OpFits (op_in i (Calc x.nanos)) (op_in i (Send x.bytes x.to i) ∷ []) (calc_value, refl)
-      (all_cons OpFits (op_in i (Send x.bytes x.to i)) [] (le-leb x.bytes MAX_BYTES (omega (arith, small.bytes)), lt-ltb x.to 64 small.to) (all_none OpFits)));
+      (all_cons OpFits (op_in i (Send x.bytes x.to i)) [] (le-leb x.bytes MAX_BYTES (omega (arith, small.bytes)), lt-ltb x.to probe_ranks small.to) (all_none OpFits)));
   deps =
       All-append (DepFits total) p.deps (after_last (length p.ops) ++ requires_end (length p.ops + 1) (length p.ops) ∷ []) (wider (length p.ops) total p.deps (omega (arith, size)) sound.deps)
       (All-append (DepFits total) (after_last (length p.ops)) (requires_end (length p.ops + 1) (length p.ops) ∷ []) (last_fits (length p.ops) total (omega (arith, size)))
@@ -104,9 +104,9 @@ receive_sound i x p small sound = record {
     size : length (p.ops ++ op_in i (Recv x.bytes (source_in i x) (Some i)) ∷ []) ≡ length p.ops + 1
     size = length-append p.ops (op_in i (Recv x.bytes (source_in i x) (Some i)) ∷ [])
 
-    source : (b : Bool) → is_rank 64 (if b then None else Some x.from) ≡ true
+    source : (b : Bool) → is_rank probe_ranks (if b then None else Some x.from) ≡ true
     source true = refl
-    source false = lt-ltb x.from 64 small.from
+    source false = lt-ltb x.from probe_ranks small.from
 
 -- properties of plans of which one is changed
 all_at_rank : (P Q : Plan → Type 0) (r : ℕ) (f : Plan → Plan) (ps : List Plan) → ((p : Plan) → P p → Q p) → ((p : Plan) → P p → Q (f p)) → All P ps → All Q (at_rank r f ps)
@@ -131,7 +131,7 @@ sum_at_rank m c (suc r) f (p ∷ ps) grows =
     omega (arith, sum_at_rank m c r f ps grows, sum_by-cons m p ps, sum_by-cons m p (at_rank r f ps))
 
 -- the plans of a probe
-pub probed_ranks : (n seed : ℕ) → length (probed n seed) ≡ 64
+pub probed_ranks : (n seed : ℕ) → length (probed n seed) ≡ probe_ranks
 unfolding probed idle_ranks
 probed_ranks zero seed = refl
 probed_ranks (suc n) seed =
@@ -148,7 +148,7 @@ all_idle P (suc n) h = all_cons P idle (idle_ranks n) h (all_idle P n h)
 
 probed_sound : (n seed : ℕ) → All IsSound (probed n seed)
 unfolding probed
-probed_sound zero seed = all_idle IsSound 64 idle_sound
+probed_sound zero seed = all_idle IsSound probe_ranks idle_sound
 probed_sound (suc n) seed =
     let x = round_from (state_before seed n) in
     let small = small_round (state_before seed n) in
@@ -179,7 +179,7 @@ work_deps i x p =
 -- each rank has few operations
 pub probed_few : (n seed : ℕ) → All (λ (p : Plan). length p.ops ≤ 3 * n) (probed n seed)
 unfolding probed
-probed_few zero seed = all_idle (λ (p : Plan). length p.ops ≤ 0) 64 (omega arith)
+probed_few zero seed = all_idle (λ (p : Plan). length p.ops ≤ 0) probe_ranks (omega arith)
 probed_few (suc n) seed =
     let x = round_from (state_before seed n) in
     all_at_rank (λ (p : Plan). length p.ops ≤ 3 * n + 2) (λ (p : Plan). length p.ops ≤ 3 * suc n) x.to (with_receive n x) (at_rank x.from (with_work n x) (probed n seed))
@@ -199,7 +199,7 @@ round_sum m a b i x ps work receive =
 
 probed_ops : (n seed : ℕ) → op_count (probed n seed) ≤ 3 * n
 unfolding probed op_count
-probed_ops zero seed = omega (arith, idle_sum (λ (p : Plan). length p.ops) 64 refl)
+probed_ops zero seed = omega (arith, idle_sum (λ (p : Plan). length p.ops) probe_ranks refl)
 probed_ops (suc n) seed =
     let x = round_from (state_before seed n) in
     omega (arith, probed_ops n seed, round_sum (λ (p : Plan). length p.ops) 2 1 n x (probed n seed) (λ p. omega (arith, work_ops n x p)) (λ p. omega (arith, receive_ops n x p)))
@@ -218,23 +218,23 @@ receive_notes i x p = omega arith
 
 probed_deps : (n seed : ℕ) → dep_count (probed n seed) ≤ 2 * n
 unfolding probed dep_count
-probed_deps zero seed = omega (arith, idle_sum (λ (p : Plan). length p.deps) 64 refl)
+probed_deps zero seed = omega (arith, idle_sum (λ (p : Plan). length p.deps) probe_ranks refl)
 probed_deps (suc n) seed =
     let x = round_from (state_before seed n) in
     omega (arith, probed_deps n seed, round_sum (λ (p : Plan). length p.deps) 2 0 n x (probed n seed) (work_deps n x) (same_deps n x))
 
 probed_notes : (n seed : ℕ) → note_count (probed n seed) ≤ 0
 unfolding probed note_count
-probed_notes zero seed = omega (arith, idle_sum (λ (p : Plan). length p.notes) 64 refl)
+probed_notes zero seed = omega (arith, idle_sum (λ (p : Plan). length p.notes) probe_ranks refl)
 probed_notes (suc n) seed =
     let x = round_from (state_before seed n) in
     omega (arith, probed_notes n seed, round_sum (λ (p : Plan). length p.notes) 0 0 n x (probed n seed) (work_notes n x) (receive_notes n x))
 
-rank_sound : (n : ℕ) (p : Plan) → IsSound p → rank_fault 64 n p ≡ None
+rank_sound : (n : ℕ) (p : Plan) → IsSound p → rank_fault probe_ranks n p ≡ None
 unfolding rank_fault first_fault
 rank_sound n p sound =
     rw (
-      first_fault-of_none OpFits (op_fault 64 n) (λ k o h. rw (h.0, h.1) refl) 0 p.ops sound.ops,
+      first_fault-of_none OpFits (op_fault probe_ranks n) (λ k o h. rw (h.0, h.1) refl) 0 p.ops sound.ops,
       first_fault-of_none (DepFits (length p.ops)) (dep_fault (length p.ops) n) (λ k d h. rw h.0 refl) 0 p.deps sound.deps,
       sound.notes,
     ) refl
@@ -248,7 +248,7 @@ probed_plain n seed few =
       not_over MAX_DEPS (dep_count (probed n seed)) (omega (arith, probed_deps n seed)),
       not_over MAX_NOTES (note_count (probed n seed)) (omega (arith, probed_notes n seed)),
     )
-    (first_fault-of_none IsSound (rank_fault 64) (λ k p h. rank_sound k p h) 0 (probed n seed) (probed_sound n seed))
+    (first_fault-of_none IsSound (rank_fault probe_ranks) (λ k p h. rank_sound k p h) 0 (probed n seed) (probed_sound n seed))
 
 pub probed_accepted : (n seed : ℕ) → n ≤ MAX_ROUNDS → IsAccepted (probed n seed)
 probed_accepted n seed few = record {
@@ -264,7 +264,7 @@ unfolding idle_ranks
 idle_more zero = refl
 idle_more (suc n) = ap (λ ps. idle ∷ ps) (idle_more n)
 
-pub none_probed : (seed : ℕ) → idle_ranks 64 ≡ probed 0 seed
+pub none_probed : (seed : ℕ) → idle_ranks probe_ranks ≡ probed 0 seed
 unfolding probed
 none_probed seed = refl
 

@@ -1,4 +1,4 @@
--- The schedule of a probe: rounds of random calcs and messages among 64 ranks.
+-- The schedule of a probe: rounds of random calcs and messages among its ranks.
 use Rattle.std.specs.Prelude.{ℕ, zero, suc, ◌+◌, ◌*◌, ◌-◌, ◌/◌, ◌%◌, ◌^◌, ◌==◌, List, [], ◌∷◌, ◌++◌, length, Option, Some, None, if◌then◌else◌}
 use Rattle.goal_graph.specs.declared.plan.Kind.{Kind}
 use Rattle.goal_graph.specs.declared.plan.Kind.TheVariants.{Calc, Send, Recv}
@@ -7,6 +7,10 @@ use Rattle.goal_graph.specs.declared.plan.Dep.{Dep}
 use Rattle.goal_graph.specs.declared.plan.When.TheVariants.{AfterEnd}
 use Rattle.goal_graph.specs.Schedule.{Plan}
 use Rattle.goal_collectives.specs.declared.draws.Round.{Round}
+
+-- the number of ranks of a probe
+abbrev pub probe_ranks : ℕ
+probe_ranks = 64
 
 -- the state after a draw, by a linear congruence modulo 2^64
 unfoldable pub next_state : ℕ → ℕ
@@ -19,7 +23,7 @@ drawn x = x / 2 ^ 33
 -- the round of four draws that leave these states: the rank of its calc and send, the rank of its receive, the
 -- nanoseconds and the bytes
 abbrev pub round_by : ℕ → ℕ → ℕ → ℕ → Round
-round_by w x y z = record { from = drawn w % 64; to = drawn x % 64; nanos = drawn y % 10000; bytes = drawn z % 100000 }
+round_by w x y z = record { from = drawn w % probe_ranks; to = drawn x % probe_ranks; nanos = drawn y % 10000; bytes = drawn z % 100000 }
 
 -- the round drawn from a state
 unfoldable pub round_from : ℕ → Round
@@ -83,5 +87,5 @@ idle_ranks (suc n) = idle ∷ idle_ranks n
 
 -- the schedule of this number of rounds, drawn from a seed
 unfoldable pub probed : ℕ → ℕ → List Plan
-probed zero seed = idle_ranks 64
+probed zero seed = idle_ranks probe_ranks
 probed (suc i) seed = with_round i (round_from (state_before seed i)) (probed i seed)

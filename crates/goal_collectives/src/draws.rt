@@ -2,6 +2,9 @@
 ghost use Rattle.std.specs.Prelude.{◌≡◌, ◌<◌, ◌^◌};
 ghost use Rattle.goal_collectives.specs.Probe.{next_state, drawn, round_from};
 
+/// The number of ranks of a probe.
+pub const PROBE_RANKS: u32 = 64;
+
 const MULTIPLIER: u64 = 6_364_136_223_846_793_005;
 
 const INCREMENT: u64 = 1_442_695_040_888_963_407;
@@ -47,8 +50,8 @@ impl Draws {
         ensures round { result ≡ round_from self.old.state }
         ensures state { self.new.state ≡ next_state (next_state (next_state (next_state self.old.state))) }
     {
-        let from = self.draw() % 64;
-        let to = self.draw() % 64;
+        let from = self.draw() % u64::from(PROBE_RANKS);
+        let to = self.draw() % u64::from(PROBE_RANKS);
         let nanos = self.draw() % 10_000;
         let bytes = self.draw() % 100_000;
         Round {

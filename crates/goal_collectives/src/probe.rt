@@ -2,23 +2,21 @@
 ghost use Rattle.std.specs.Prelude.{◌≡◌, ◌<◌, ◌≤◌, ◌+◌, ◌^◌, [], ◌∷◌, ◌++◌, length, All, OnOk, IfOk};
 ghost use Rattle.goal_graph.specs.Schedule.{Plan};
 ghost use Rattle.goal_graph.specs.Fault.{IsAccepted};
-ghost use Rattle.goal_collectives.specs.Probe.{idle_ranks, op_in, requires_end, after_last, source_in, with_work, with_receive, with_round, probed};
+ghost use Rattle.goal_collectives.specs.Probe.{idle_ranks, op_in, requires_end, after_last, source_in, probe_ranks, with_work, with_receive, with_round, probed};
 
-use crate::draws::{Draws, Round};
+use crate::draws::{Draws, PROBE_RANKS, Round};
 use goal_blocks::build_accepted;
 use goal_graph::{Dep, Kind, Op, RankPlan, Sched, When};
 use goal_limits::{MAX_ROUNDS, NoMemory};
 use std::alloc::{AllocError, Global};
 
-const RANKS: u32 = 64;
-
 // Ranks without operations. Each has room for its share of the rounds, three operations and two dependencies per round
-// and 64 ranks, and a third more, since the ranks of a round are random.
+// and the ranks, and a third more, since the ranks of a round are random.
 fn idle_ranks(alloc: Global, rounds: u32) -> Result<Vec<RankPlan>, AllocError>
-    ensures { IfOk result (λ plans. plans.items ≡ idle_ranks RANKS) }
+    ensures { IfOk result (λ plans. plans.items ≡ idle_ranks probe_ranks) }
 {
     let mut plans = Vec::new(alloc);
-    for _rank in 0..RANKS {
+    for _rank in 0..PROBE_RANKS {
         let ops = Vec::with_capacity(alloc, (rounds / 16) as usize)?;
         let deps = Vec::with_capacity(alloc, (rounds / 24) as usize)?;
         let notes = Vec::new(alloc);
@@ -108,9 +106,9 @@ fn add_receive(plan: &mut RankPlan, number: u32, round: Round) -> Result<(), All
 
 // Appends a round.
 fn add_round(plans: &mut [RankPlan], number: u32, round: Round) -> Result<(), AllocError>
-    requires ranks { length plans.old ≡ 64 }
-    requires from { round.from < 64 }
-    requires to { round.to < 64 }
+    requires ranks { length plans.old ≡ probe_ranks }
+    requires from { round.from < probe_ranks }
+    requires to { round.to < probe_ranks }
     requires few { All (λ (p : Plan). length p.ops < 2 ^ 31) plans.old }
     ensures { OnOk result (plans.new ≡ with_round number round plans.old) }
 {
