@@ -13,7 +13,7 @@ use Rattle.goal_graph.specs.Matching.{pairs, partner}
 use Rattle.goal_graph.specs.Allowed.{last_class, has_ended, is_served, allowed}
 use Rattle.goal_graph.specs.Interleaving.{IsInterleaving}
 use Rattle.goal_graph.specs.Fault.{IsOp}
-use Rattle.goal_graph.proofs.ForCallers.{place_same, is_act_class, is_act_op, is_act_from, happened_none, happened_cases, happened_stays, happened_new, allowed_fresh, allowed_serve, allowed_data, allowed_listed, listed_places, ended_started, arrived_begun, partner_of_receive, partner_is_send, partners_mutual, last_of_eager, last_of_large, last_of_receive}
+use Rattle.goal_graph.proofs.ForCallers.{place_injective, is_act_class, is_act_op, is_act_from, happened_none, happened_cases, happened_stays, happened_new, allowed_fresh, allowed_serve, allowed_data, allowed_listed, listed_places, ended_started, arrived_begun, partner_of_receive, partner_is_send, partners_mutual, last_of_eager, last_of_rendezvous, last_of_receive}
 use Rattle.goal_blocks.specs.Channels.{AreOfOneChannel}
 use Rattle.goal_blocks.specs.Race.{EndsBefore}
 use Rattle.goal_blocks.specs.Values.{Store, Held, read, change, held_after, payload_from, write}
@@ -67,7 +67,7 @@ module _ (plans : List Plan) where
       where
         go : (Mem x (ends h) → has_ended plans eager x h ≡ true) → (b : Bool) → is_end a ≡ b → Mem x (if b then a.op ∷ ends h else ends h) → has_ended plans eager x (a ∷ h) ≡ true
         go before true e (inl o) =
-            happened_new _ x a h (is_act_from _ x a (place_same _ _ (eqb-true _ _ e) ∙ ap (λ (y : OpId). last_class (eager y) (kind_at plans y)) o) o)
+            happened_new _ x a h (is_act_from _ x a (place_injective _ _ (eqb-true _ _ e) ∙ ap (λ (y : OpId). last_class (eager y) (kind_at plans y)) o) o)
         go before true e (inr n) = happened_stays _ x a h (before n)
         go before false e n = happened_stays _ x a h (before n)
 
@@ -87,7 +87,7 @@ module _ (plans : List Plan) where
       where
         go : IsOnce (ends h) → (b : Bool) → is_end a ≡ b → IsOnce (if b then a.op ∷ ends h else ends h)
         go before true e =
-            (before, λ m. both_ways _ (allowed_fresh plans eager h a.class a.op i.1) (subst (λ (c : Class). happened c a.op h ≡ true) (sym (place_same _ _ (eqb-true _ _ e))) (listed_ended h a.op m)))
+            (before, λ m. both_ways _ (allowed_fresh plans eager h a.class a.op i.1) (subst (λ (c : Class). happened c a.op h ≡ true) (sym (place_injective _ _ (eqb-true _ _ e))) (listed_ended h a.op m)))
         go before false e = before
 
   module _ (matched : IsMatched plans) where
@@ -134,7 +134,7 @@ module _ (plans : List Plan) where
               ended_at (inl t) =
                   subst (λ (c : Class). happened c m h ≡ true) (sym (last_of_eager plans eager m is_send t)) (arrived_begun plans eager h m i (partner_of_receive plans h x m r p).arrived)
               ended_at (inr f) =
-                  subst (λ (c : Class). happened c m h ≡ true) (sym (last_of_large plans eager m is_send f)) (⊎_elim (λ t. absurd (both_ways _ f t)) (λ d. d) (or_cases (eager m) (happened Data m h) s))
+                  subst (λ (c : Class). happened c m h ≡ true) (sym (last_of_rendezvous plans eager m is_send f)) (⊎_elim (λ t. absurd (both_ways _ f t)) (λ d. d) (or_cases (eager m) (happened Data m h) s))
 
       has_sender : (x m : OpId) → sender x ≡ Some m → IsReceive plans x
       has_sender x m e = go (kind_at plans x) refl e
@@ -150,7 +150,7 @@ module _ (plans : List Plan) where
       before_ended a h i e x b = ⊎_elim by_need by_message b.1
         where
           class : a.class ≡ last_class (eager a.op) (kind_at plans a.op)
-          class = place_same _ _ (eqb-true _ _ e)
+          class = place_injective _ _ (eqb-true _ _ e)
 
           by_need : EndsBefore plans x a.op → Mem x (ends eager h)
           by_need p =

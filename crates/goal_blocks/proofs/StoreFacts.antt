@@ -13,14 +13,14 @@ use Rattle.goal_blocks.specs.Collectives.{initial}
 use Rattle.goal_limits.specs.declared.collective.Collective.{Collective}
 use Rattle.goal_blocks.proofs.SlotSums.{stored_set, stored_most}
 use Rattle.goal_blocks.proofs.Starts.{initial_sorted}
-use Rattle.goal_graph.proofs.ForCallers.{alike_numbers, eqb-swapped}
+use Rattle.goal_graph.proofs.ForCallers.{nat_cmp_is_eq, eqb-swapped}
 use Rattle.std.specs.Cmp.{tied_then}
 use Rattle.goal_limits.specs.Limits.{rank_limit}
 
 -- the test of a place
 pub same_place : (rank slot r k : ℕ) → is_at (place_cmp (rank, slot)) (r, k) ≡ ((r == rank) && (k == slot))
 same_place rank slot r k =
-    sym (tied_then (nat_cmp rank r) (nat_cmp slot k)) ∙ ap₂ (λ (s t : Bool). s && t) (alike_numbers rank r ∙ eqb-swapped rank r) (alike_numbers slot k ∙ eqb-swapped slot k)
+    sym (tied_then (nat_cmp rank r) (nat_cmp slot k)) ∙ ap₂ (λ (s t : Bool). s && t) (nat_cmp_is_eq rank r ∙ eqb-swapped rank r) (nat_cmp_is_eq slot k ∙ eqb-swapped slot k)
 
 sorted_set : (rank slot : ℕ) (v : Value) (s : Store) → IsSorted v → ((r k : ℕ) → IsSorted (s r k)) → (r k : ℕ) → IsSorted (set_slot rank slot v s r k)
 unfolding set_slot

@@ -5,7 +5,7 @@ use Rattle.goal_graph.specs.declared.action.OpId.{OpId}
 use Rattle.goal_graph.specs.Schedule.{Plan}
 use Rattle.goal_graph.specs.Action.{Act}
 use Rattle.goal_graph.specs.Interleaving.{IsInterleaving, IsCompleteInterleaving}
-use Rattle.goal_graph.proofs.ForCallers.{place_same}
+use Rattle.goal_graph.proofs.ForCallers.{place_injective}
 use Rattle.goal_blocks.specs.Walk.{no_send, ComesFirst, TakesFirst, IsWalk}
 
 -- v is u with newer actions, or none, before it
@@ -38,7 +38,7 @@ same_first a b (inr (e, p)) (inl (inl q)) =
 same_first a b (inr (e, p)) (inl (inr (q, r))) =
     let ops = ap (λ (x : OpId). x.op) e in absurd (omega (arith, r, ops))
 same_first a b (inr (e, p)) (inr (f, q)) =
-    let class = place_same a.class b.class (omega (arith, p, q)) in
+    let class = place_injective a.class b.class (omega (arith, p, q)) in
     λ i. record { class = class i; op = e i }
 
 module _ (plans : List Plan) where

@@ -10,7 +10,7 @@ use Rattle.goal_graph.specs.Action.{Act, place, same_op, happened}
 use Rattle.goal_graph.specs.Matching.{Pair, partner, new_pair, add_pair, pairs}
 use Rattle.goal_graph.specs.Fault.{IsOp}
 use Rattle.goal_graph.specs.Interleaving.{IsInterleaving}
-use Rattle.goal_graph.proofs.ForCallers.{cases_op, happened_new, happened_other, is_act_from, same_op_true, not_send_receive, fits_receive, fits_send, new_pair_is, pairs_same, partner_other, IsListed, listed_partners, send_is_op, receive_is_op, same_tables, at_entry, off_entry, entry_written, same_op_swapped}
+use Rattle.goal_graph.proofs.ForCallers.{cases_op, happened_new, happened_unless_newest, is_act_from, same_op_true, not_send_receive, fits_receive, fits_send, new_pair_is, pairs_same, partner_other, IsListed, listed_partners, send_is_op, receive_is_op, same_tables, with_entry_same, with_entry_other, entry_written, same_op_swapped}
 use Rattle.goal_blocks.specs.Walk.{no_send}
 use Rattle.sim_match.specs.PostsAndArrivals.{is_post_or_arrival}
 use Rattle.sim_match.proofs.ForCallers.{send_for_filtered, receive_for_filtered}
@@ -29,11 +29,11 @@ pair_written y m e f g differ here there others = entry_written m _ first g seco
 
     second : g m ≡ record (first m) { paired = Some y }
     second =
-        there ∙ ap (λ (d : OpProgress). record d { paired = Some y }) (sym (off_entry y _ base m (same_op_swapped y m differ) ∙ off_entry y e f m (same_op_swapped y m differ)))
+        there ∙ ap (λ (d : OpProgress). record d { paired = Some y }) (sym (with_entry_other y _ base m (same_op_swapped y m differ) ∙ with_entry_other y e f m (same_op_swapped y m differ)))
 
     rest : (x : OpId) → same_op m x ≡ false → g x ≡ first x
     rest x d =
-        elim (cases_op x y) [ inl s ↦ ap g s ∙ here ∙ ap (λ (d : OpProgress). record d { paired = Some m }) (sym (at_entry y e f y refl)) ∙ sym (at_entry y _ base x s) | inr o ↦ others x (same_op_swapped x y o) d ∙ sym (off_entry y _ base x o ∙ off_entry y e f x o) ]
+        elim (cases_op x y) [ inl s ↦ ap g s ∙ here ∙ ap (λ (d : OpProgress). record d { paired = Some m }) (sym (with_entry_same y e f y refl)) ∙ sym (with_entry_same y _ base x s) | inr o ↦ others x (same_op_swapped x y o) d ∙ sym (with_entry_other y _ base x o ∙ with_entry_other y e f x o) ]
 
 -- what is known of the partner is what was known
 same_paired : (c : Class) (e : OpProgress) → record (with_class c e) { paired = e.paired } ≡ with_class c e
@@ -146,7 +146,7 @@ module _ (plans : List Plan) (h : List Act) (a : Act) where
       λ i. record { arrived = same Arrive i; served = same Serve i; sent = same Data i; posted = same Post i; begun = same Begin i; paired = m i }
     where
       same : (c : Class) → happened c x (a ∷ h) ≡ happened c x h
-      same c = happened_other c x a h (and_right (place a.class == place c) (same_op a.op x) d)
+      same c = happened_unless_newest c x a h (and_right (place a.class == place c) (same_op a.op x) d)
 
   -- the operation of the action
   this_entry : (p : Option OpId) → partner (pairs plans (a ∷ h)) a.op ≡ p → after a.op ≡ record (with_class a.class (before a.op)) { paired = p }
@@ -157,7 +157,7 @@ module _ (plans : List Plan) (h : List Act) (a : Act) where
 
       old : (c d : Class) → a.class ≡ c → (place c == place d) ≡ false → happened d a.op (a ∷ h) ≡ happened d a.op h
       old c d e f =
-          happened_other d a.op a h (and_left (place a.class == place d) (same_op a.op a.op) (ap (λ (k : Class). place k == place d) e ∙ f))
+          happened_unless_newest d a.op a h (and_left (place a.class == place d) (same_op a.op a.op) (ap (λ (k : Class). place k == place d) e ∙ f))
 
       go : (c : Class) → a.class ≡ c → after a.op ≡ record (with_class c (before a.op)) { paired = p }
       go Arrive e =

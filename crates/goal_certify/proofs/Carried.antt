@@ -15,7 +15,7 @@ use Rattle.goal_graph.specs.Allowed.{is_served, allowed}
 use Rattle.std.proofs.lemmas.List.Sums.{sum_by-cons}
 use Rattle.std.proofs.lemmas.List.{length-map}
 use Rattle.goal_graph.specs.Interleaving.{IsInterleaving}
-use Rattle.goal_graph.proofs.ForCallers.{cases_some, happened_now, happened_other, is_act_class, is_act_op, same_op_true, same_op_itself, same_op_from, happened_none, partner_stays, partners_mutual, data_paired, served_message, allowed_data, allowed_serve, allowed_fresh, same_tables, written_table, other_place}
+use Rattle.goal_graph.proofs.ForCallers.{cases_some, happened_newest, happened_unless_newest, is_act_class, is_act_op, same_op_true, same_op_itself, same_op_from, happened_none, partner_stays, partners_mutual, data_paired, served_message, allowed_data, allowed_serve, allowed_fresh, same_tables, written_table, other_place}
 use Rattle.goal_blocks.specs.Walk.{no_send}
 use Rattle.goal_blocks.specs.Slots.{slots}
 use Rattle.goal_blocks.specs.Values.{Value, Store, Held, change, read, held_after}
@@ -74,14 +74,14 @@ module _ (plans : List Plan) (first : Store) (h : List Act) (a : Act) (now : IsI
   payload_before m d = payload_same plans _ a.class a.op m _ before d
 
   received_same : (x : OpId) → is_act Serve x a ≡ false → happened Serve x (a ∷ h) ≡ happened Serve x h
-  received_same x d = happened_other Serve x a h d
+  received_same x d = happened_unless_newest Serve x a h d
 
   -- a send that the action does not hand over, and whose receive it does not serve
   under_same : (m : OpId) → is_act Data m a ≡ false → ((x : OpId) → partner (pairs plans h) m ≡ Some x → is_act Serve x a ≡ false) → is_under_way plans (a ∷ h) m ≡ is_under_way plans h m
   under_same m d s = go (cases_Bool (happened Data m h))
     where
       data_same : happened Data m (a ∷ h) ≡ happened Data m h
-      data_same = happened_other Data m a h d
+      data_same = happened_unless_newest Data m a h d
 
       go : (happened Data m h ≡ true) ⊎ (happened Data m h ≡ false) → is_under_way plans (a ∷ h) m ≡ is_under_way plans h m
       go (inr f) =
@@ -112,7 +112,7 @@ module _ (plans : List Plan) (first : Store) (h : List Act) (a : Act) (now : IsI
         subst (λ (c : Class). happened c a.op h ≡ false) class (allowed_fresh plans no_send h a.class a.op now.1)
 
     data_now : happened Data a.op (a ∷ h) ≡ true
-    data_now = subst (λ (c : Class). happened c a.op (a ∷ h) ≡ true) class (happened_now a h)
+    data_now = subst (λ (c : Class). happened c a.op (a ∷ h) ≡ true) class (happened_newest a h)
 
     data_pair : (x : OpId) × (partner (pairs plans h) a.op ≡ Some x)
     data_pair =
@@ -169,7 +169,7 @@ module _ (plans : List Plan) (first : Store) (h : List Act) (a : Act) (now : IsI
         subst (λ (c : Class). happened c a.op h ≡ false) class (allowed_fresh plans no_send h a.class a.op now.1)
 
     serve_now : happened Serve a.op (a ∷ h) ≡ true
-    serve_now = subst (λ (c : Class). happened c a.op (a ∷ h) ≡ true) class (happened_now a h)
+    serve_now = subst (λ (c : Class). happened c a.op (a ∷ h) ≡ true) class (happened_newest a h)
 
     not_data : (place a.class == 2) ≡ false
     not_data = ap (λ (c : Class). place c == 2) class
@@ -192,7 +192,7 @@ module _ (plans : List Plan) (first : Store) (h : List Act) (a : Act) (now : IsI
       pub taken_now : kept_after m ≡ None
       taken_now =
           let received : has_received (a ∷ h) (partner (pairs plans (a ∷ h)) m) ≡ true = ap (has_received (a ∷ h)) (partner_stays plans a h m a.op back) ∙ serve_now in
-          let still = happened_other Data m a h (not_class Data m not_data) ∙ data_there in
+          let still = happened_unless_newest Data m a h (not_class Data m not_data) ∙ data_there in
           cond-false _ _ _ (ap₂ (λ b c. b && not c) still received)
 
       pub kept_taken : (j : ℕ) → slice_get (operations plans) j ≡ Some m → set (map kept_before (operations plans)) j (kept_after m) ≡ map kept_after (operations plans)
@@ -223,7 +223,7 @@ length_more plans first m h a now e was = go (cases_Bool (is_act Data m a))
 
     go : (is_act Data m a ≡ true) ⊎ (is_act Data m a ≡ false) → length ((held_after plans no_send first (a ∷ h)).payload m) ≡ length (slots plans m)
     go (inl t) = here t
-    go (inr f) = ap length (payload_before plans first h a now m (not_other f)) ∙ was (sym (happened_other Data m a h f) ∙ e)
+    go (inr f) = ap length (payload_before plans first h a now m (not_other f)) ∙ was (sym (happened_unless_newest Data m a h f) ∙ e)
 
 -- what a send has read has as many values as it has slots
 pub payload_length : (plans : List Plan) (first : Store) (m : OpId) (h : List Act) → IsInterleaving plans no_send h → happened Data m h ≡ true → length ((held_after plans no_send first h).payload m) ≡ length (slots plans m)

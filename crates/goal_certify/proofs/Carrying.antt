@@ -24,7 +24,7 @@ use Rattle.goal_values.specs.Kept.{Kept, values}
 use Rattle.goal_certify.specs.Carried.{ParcelValues, size_of, parcel_size, parcel_of, parcel_under_way, IsCarrying, AddsOver, AddsWithin}
 use Rattle.goal_certify.proofs.Carried.{carried_kept, kept_others, handed_before, handed_now, kept_handed, taken_before, taken_now, kept_taken}
 use Rattle.goal_certify.proofs.SlotFacts.{IsLow, stored_write}
-use Rattle.goal_graph.proofs.ForCallers.{entry_of, within_table}
+use Rattle.goal_graph.proofs.ForCallers.{get_or_mapped, index_in_table}
 
 -- what is held, in its parts
 pub weight_opened : (plans : List Plan) (h : List Act) (held : Held) → weight plans h held ≡ stored (length plans) held.store + carried plans h held
@@ -149,10 +149,10 @@ module _ (plans : List Plan) (first : Store) (h : List Act) (a : Act) (now : IsI
     -- what is kept at the place of an operation
     read_parcel : (j : ℕ) (x : OpId) → slice_get (operations plans) j ≡ Some x → get_or parcels j None ≡ parcel_under_way plans h before x
     read_parcel j x at =
-        ap (λ (ps : List (Option ParcelValues)). get_or ps j None) so_far.parcels_are ∙ entry_of (parcel_under_way plans h before) (operations plans) j x None at
+        ap (λ (ps : List (Option ParcelValues)). get_or ps j None) so_far.parcels_are ∙ get_or_mapped (parcel_under_way plans h before) (operations plans) j x None at
 
     pub parcel_within : (j : ℕ) (x : OpId) → slice_get (operations plans) j ≡ Some x → j < length parcels
-    parcel_within j x at = within_table (parcel_under_way plans h before) (operations plans) j x parcels so_far.parcels_are at
+    parcel_within j x at = index_in_table (parcel_under_way plans h before) (operations plans) j x parcels so_far.parcels_are at
 
     -- a send hands over its values
     module _ (c : a.class ≡ Data) (k : IsSend plans a.op) (j : ℕ) (at : slice_get (operations plans) j ≡ Some a.op) where

@@ -16,7 +16,7 @@ use Rattle.goal_graph.specs.Matching.{pairs, partner, is_paired}
 use Rattle.goal_graph.specs.Allowed.{first_class, last_class, is_met, is_ready, is_served}
 use Rattle.goal_graph.specs.Interleaving.{IsInterleaving}
 use Rattle.goal_graph.specs.Laws.{IsCalc}
-use Rattle.goal_graph.proofs.ForCallers.{act_of, happened_cases, happened_none, happened_now, happened_stays, is_act_class, is_some_from, cases_some, contains_first, partner_stays, allowed_arrive, allowed_data, allowed_serve, allowed_post, allowed_begin, allowed_fresh, not_receive_calc, not_send_receive, fits_receive, fits_send, arrived_begun, data_paired, served_message, partner_is_receive, partner_of_receive, partners_met, partners_mutual, ready_need}
+use Rattle.goal_graph.proofs.ForCallers.{act_of, happened_cases, happened_none, happened_newest, happened_stays, is_act_class, is_some_from, cases_some, contains_first, partner_stays, allowed_arrive, allowed_data, allowed_serve, allowed_post, allowed_begin, allowed_fresh, not_receive_calc, not_send_receive, fits_receive, fits_send, arrived_begun, data_paired, served_message, partner_is_receive, partner_of_receive, partners_met, partners_mutual, ready_need}
 use Rattle.goal_blocks.specs.Walk.{no_send}
 use Rattle.goal_certify.specs.WalkQueue.{may_act, moves_partner, IsIdle}
 use Rattle.goal_certify.proofs.Choice.{calc_idle, send_idle, receive_idle, arrive_is, data_is, serve_some, start_of}
@@ -34,13 +34,13 @@ module _ (plans : List Plan) (rest : List Act) (x : OpId) where
   before c d e = happened_may_not_act plans (after c) d x (happened_stays d x (act_of c x) rest e)
 
   newest_may_not_act : (c : Class) → may_act plans (after c) c x ≡ false
-  newest_may_not_act c = happened_may_not_act plans (after c) c x (happened_now (act_of c x) rest)
+  newest_may_not_act c = happened_may_not_act plans (after c) c x (happened_newest (act_of c x) rest)
 
   begun_calc : IsCalc plans x → IsIdle plans (after Begin) x
   begun_calc k = calc_idle plans (after Begin) x k (newest_may_not_act Begin)
 
   begun_send : IsInterleaving plans no_send (after Begin) → IsSend plans x → may_act plans (after Begin) Arrive x ≡ true
-  begun_send now k = arrive_is plans (after Begin) x k ∙ (λ i. not (not_yet i) && happened_now (act_of Begin x) rest i)
+  begun_send now k = arrive_is plans (after Begin) x k ∙ (λ i. not (not_yet i) && happened_newest (act_of Begin x) rest i)
     where
       not_yet : happened Arrive x (after Begin) ≡ false
       not_yet =
@@ -112,7 +112,7 @@ module _ (plans : List Plan) (rest : List Act) (x : OpId) where
   partner_may_serve : IsInterleaving plans no_send (after Data) → (y : OpId) → partner (pairs plans (after Data)) x ≡ Some y → may_act plans (after Data) Serve y ≡ true
   partner_may_serve now y e =
       let k = partner_is_receive plans (after Data) x y (allowed_data plans no_send rest x now.1).0 e in
-      serve_some plans (after Data) y k x back ∙ (λ i. not (fresh i) && happened_now (act_of Data x) rest i)
+      serve_some plans (after Data) y k x back ∙ (λ i. not (fresh i) && happened_newest (act_of Data x) rest i)
     where
       back : partner (pairs plans (after Data)) y ≡ Some x
       back = partners_mutual plans no_send (after Data) x y now e

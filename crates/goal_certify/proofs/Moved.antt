@@ -18,7 +18,7 @@ use Rattle.goal_graph.specs.Matching.{Pair, new_pair, add_pair, pairs, partner, 
 use Rattle.goal_graph.specs.Allowed.{is_met, is_ready, is_served, may, allowed}
 use Rattle.goal_graph.specs.Interleaving.{IsInterleaving}
 use Rattle.goal_graph.specs.Concerned.{later_of, waiting_on}
-use Rattle.goal_graph.proofs.ForCallers.{act_of, contains_first, contains_more, happened_before, happened_cases, is_act_class, is_act_op, cases_some, partner_stays, allowed_fresh, allowed_from, allowed_may, fits_receive, not_send_receive, data_paired, IsListed, listed_partners, new_pair_is, newly_paired, partners_mutual, ready_need, unready_need, still_left, none_left}
+use Rattle.goal_graph.proofs.ForCallers.{act_of, contains_first, contains_more, happened_before, happened_cases, is_act_class, is_act_op, cases_some, partner_stays, allowed_fresh, allowed_from, allowed_may, fits_receive, not_send_receive, data_paired, IsListed, listed_partners, new_pair_is, newly_paired, partners_mutual, ready_need, unready_need, unread_after_next, nothing_after_end}
 use Rattle.goal_blocks.specs.Walk.{no_send}
 use Rattle.goal_certify.specs.WalkQueue.{class_at, moves_partner, IsNamedAt, WaitsAt, IsMoved}
 
@@ -143,10 +143,10 @@ module _ (plans : List Plan) (a : Act) (h : List Act) (now : IsInterleaving plan
 pub rest_at : (plans : List Plan) (items : List Need) (k : ℕ) (d : Need) (class : Class) (x y : OpId) → k < length items → IsNamedAt plans (drop k items) class x y → (class_at (get_or items k d).when (kind_at plans x) ≡ class → ¬ (y ≡ needed x (get_or items k d))) → IsNamedAt plans (drop (k + 1) items) class x y
 rest_at plans items k d class x y l n differ = record {
   need = n.need;
-  listed = still_left items k d n.need l n.listed (λ e. differ (ap (λ (m : Need). class_at m.when (kind_at plans x)) (sym e) ∙ n.at) (n.named ∙ ap (needed x) e));
+  listed = unread_after_next items k d n.need l n.listed (λ e. differ (ap (λ (m : Need). class_at m.when (kind_at plans x)) (sym e) ∙ n.at) (n.named ∙ ap (needed x) e));
   named = n.named;
   at = n.at;
 }
 
 pub none_at : (plans : List Plan) (items : List Need) (k : ℕ) (class : Class) (x y : OpId) → length items ≤ k → IsNamedAt plans (drop k items) class x y → ⊥
-none_at plans items k class x y l n = none_left items k n.need l n.listed
+none_at plans items k class x y l n = nothing_after_end items k n.need l n.listed

@@ -8,7 +8,7 @@ use Rattle.goal_graph.specs.Schedule.{Plan, operations, IsSend, IsReceive}
 use Rattle.goal_graph.specs.Action.{Act, happened}
 use Rattle.goal_graph.specs.Matching.{pairs, partner}
 use Rattle.goal_graph.specs.Fault.{IsOp}
-use Rattle.goal_graph.proofs.ForCallers.{allowed_fresh, allowed_arrive, allowed_post, whole_back}
+use Rattle.goal_graph.proofs.ForCallers.{allowed_fresh, allowed_arrive, allowed_post, borrowed_whole_restored}
 use Rattle.goal_blocks.specs.Walk.{no_send}
 use Rattle.sim_match.specs.PostsAndArrivals.{PostsAndArrivals, is_post_or_arrival_class}
 use Rattle.sim_match.proofs.ForCallers.{happened_filtered}
@@ -72,7 +72,7 @@ module _ (plans : List Plan) (h : List Act) (entries : List OpProgress) (matcher
 pub performed : (plans : List Plan) (items : List Action) (entries : List OpProgress) (matcher : PostsAndArrivals) (m : Represents plans (acts items) entries matcher) (a : Action) (may : may_act plans (acts items) a.class a.op ≡ true)
     (new_items : List Action) (payload written : List OpProgress) (new_matcher : PostsAndArrivals) (n : ℕ) (o : Option OpId) (entry done : OpProgress) → entry ≡ entry_known plans (acts items) a.op → done ≡ with_class a.class entry → new_items ≡ items ++ a ∷ [] → n ≡ length entries → payload ≡ entries → length written ≡ length payload → o ≡ met matcher.plans matcher.actions a.class a.op → new_matcher.plans ≡ matcher.plans → new_matcher.actions ≡ more_met matcher.actions a.class a.op → written ≡ map (with_partner a.op o (with_entry a.op done (entry_known plans (acts items)))) (operations plans) → Represents plans (acts new_items) (take n (written ++ drop (length written) entries)) new_matcher
 performed plans items entries matcher m a may new_items payload written new_matcher n o entry done was is_done pushed count same kept is plans_same more told =
-    let table : take n (written ++ drop (length written) entries) ≡ written = whole_back n written entries (kept ∙ ap length same) count in
+    let table : take n (written ++ drop (length written) entries) ≡ written = borrowed_whole_restored n written entries (kept ∙ ap length same) count in
     let list : act_of a ∷ acts items ≡ acts new_items = sym (ap acts pushed ∙ acts_push items a) in
     let known = table ∙ told ∙ ap (λ (e : OpProgress). map (with_partner a.op o (with_entry a.op e (entry_known plans (acts items)))) (operations plans)) is_done in
     let after : Represents plans (act_of a ∷ acts items) (take n (written ++ drop (length written) entries)) new_matcher = represents_after plans (acts items) entries matcher m (act_of a) may _ new_matcher o entry was is plans_same more known in

@@ -22,7 +22,7 @@ use Rattle.goal_blocks.proofs.ForCallers.{length_merge, stored_most, stored_set}
 use Rattle.goal_certify.specs.Carried.{size_of, AddsOver}
 use Rattle.goal_certify.proofs.Places.{rank_below, notes_there}
 use Rattle.goal_certify.proofs.Counting.{length-slots_from}
-use Rattle.goal_graph.proofs.ForCallers.{all_none, all_one}
+use Rattle.goal_graph.proofs.ForCallers.{all_of_empty, all_of_single}
 
 abbrev pub IsLow : ℕ → Type 0
 IsLow k = k ≤ slot_limit
@@ -31,18 +31,18 @@ abbrev pub AddsLow : Adding → Type 0
 AddsLow a = (a.from ≤ slot_limit) × (a.to ≤ slot_limit)
 
 all_flat : {A B : Type 0} (P : B → Type 0) (f : A → List B) (Q : A → Type 0) → ((a : A) → Q a → All P (f a)) → (xs : List A) → All Q xs → All P (flat_map f xs)
-all_flat P f Q each [] all = all_none P
+all_flat P f Q each [] all = all_of_empty P
 all_flat P f Q each (x ∷ xs) all =
     All-append P (f x) (flat_map f xs) (each x (all 0 x (omega arith))) (all_flat P f Q each xs (λ k d l. all (suc k) d (omega (arith, l))))
 
 low_from : (lo n : ℕ) → lo + n ≤ slot_limit + 1 → All IsLow (slots_from lo n)
 unfolding slots_from
-low_from lo zero l = all_none IsLow
-low_from lo (suc n) l = All-append IsLow (lo ∷ []) (slots_from (lo + 1) n) (all_one IsLow lo (omega (arith, l))) (low_from (lo + 1) n (omega (arith, l)))
+low_from lo zero l = all_of_empty IsLow
+low_from lo (suc n) l = All-append IsLow (lo ∷ []) (slots_from (lo + 1) n) (all_of_single IsLow lo (omega (arith, l))) (low_from (lo + 1) n (omega (arith, l)))
 
 none_from : (lo : ℕ) → All IsLow (slots_from lo 0)
 unfolding slots_from
-none_from lo = all_none IsLow
+none_from lo = all_of_empty IsLow
 
 some_from : (lo n : ℕ) → (n ≡ 0) ⊎ (lo + n ≤ slot_limit + 1) → All IsLow (slots_from lo n)
 some_from lo n (inl e) = subst (λ (m : ℕ). All IsLow (slots_from lo m)) (sym e) (none_from lo)
@@ -56,16 +56,16 @@ moved_low op (Moves of lo hi) low = go (of == op)
   where
     go : (b : Bool) → All IsLow (if b then slots_from lo (hi + 1 - lo) else [])
     go true = some_from lo (hi + 1 - lo) (cases_from lo hi low.1)
-    go false = all_none IsLow
-moved_low op (Adds of from to) low = all_none IsLow
+    go false = all_of_empty IsLow
+moved_low op (Adds of from to) low = all_of_empty IsLow
 
 added_low : (op : ℕ) (n : Note) → NamesLowSlots n → All AddsLow (added_by op n)
-added_low op (Moves of lo hi) low = all_none AddsLow
+added_low op (Moves of lo hi) low = all_of_empty AddsLow
 added_low op (Adds of from to) low = go (of == op)
   where
     go : (b : Bool) → All AddsLow (if b then record { from = from; to = to } ∷ [] else [])
-    go true = all_one AddsLow (record { from = from; to = to }) low
-    go false = all_none AddsLow
+    go true = all_of_single AddsLow (record { from = from; to = to }) low
+    go false = all_of_empty AddsLow
 
 moved_few : (op : ℕ) (n : Note) → length (moved_by op n) ≤ moved_count n
 moved_few op (Moves of lo hi) = go (of == op)

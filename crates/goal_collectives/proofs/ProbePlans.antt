@@ -12,7 +12,7 @@ use Rattle.goal_graph.specs.declared.plan.Op.{Op}
 use Rattle.goal_graph.specs.declared.plan.Dep.{Dep}
 use Rattle.goal_graph.specs.Schedule.{Plan}
 use Rattle.goal_graph.specs.Fault.{value_fits, has_peer, is_rank, dep_in_range, op_fault, dep_fault, first_fault, rank_fault, count_fault, count_over, op_count, dep_count, note_count, plain_fault, IsAccepted}
-use Rattle.goal_graph.proofs.ForCallers.{dep_in_range-parts, not_over}
+use Rattle.goal_graph.proofs.ForCallers.{dep_in_range-parts, count_within_limit}
 use Rattle.goal_blocks.proofs.ForCallers.{first_fault-of_none, lower_have_depths}
 use Rattle.goal_collectives.specs.declared.draws.Round.{Round}
 use Rattle.goal_collectives.specs.Probe.{probe_ranks, next_state, drawn, round_from, state_before, op_in, requires_end, after_last, source_in, with_work, with_receive, at_rank, with_round, idle, idle_ranks, probed}
@@ -244,9 +244,9 @@ unfolding plain_fault count_fault
 probed_plain n seed few =
     rw (
       probed_ranks n seed,
-      not_over MAX_OPS (op_count (probed n seed)) (omega (arith, probed_ops n seed)),
-      not_over MAX_DEPS (dep_count (probed n seed)) (omega (arith, probed_deps n seed)),
-      not_over MAX_NOTES (note_count (probed n seed)) (omega (arith, probed_notes n seed)),
+      count_within_limit MAX_OPS (op_count (probed n seed)) (omega (arith, probed_ops n seed)),
+      count_within_limit MAX_DEPS (dep_count (probed n seed)) (omega (arith, probed_deps n seed)),
+      count_within_limit MAX_NOTES (note_count (probed n seed)) (omega (arith, probed_notes n seed)),
     )
     (first_fault-of_none IsSound (rank_fault probe_ranks) (λ k p h. rank_sound k p h) 0 (probed n seed) (probed_sound n seed))
 

@@ -49,23 +49,23 @@ class_at-place Data = refl
 class_at-place Post = refl
 class_at-place Begin = refl
 
-pub place_same : (c d : Class) → place c ≡ place d → c ≡ d
-place_same c d e = sym (class_at-place c) ∙ ap class_at e ∙ class_at-place d
+pub place_injective : (c d : Class) → place c ≡ place d → c ≡ d
+place_injective c d e = sym (class_at-place c) ∙ ap class_at e ∙ class_at-place d
 
 -- a class that passes a test, or none
-all_classes : (test : Class → Bool) → test Arrive ≡ false → test Serve ≡ false → test Data ≡ false → test Post ≡ false → test Begin ≡ false → (c : Class) → test c ≡ false
-all_classes test a s d p b Arrive = a
-all_classes test a s d p b Serve = s
-all_classes test a s d p b Data = d
-all_classes test a s d p b Post = p
-all_classes test a s d p b Begin = b
+no_class_passes : (test : Class → Bool) → test Arrive ≡ false → test Serve ≡ false → test Data ≡ false → test Post ≡ false → test Begin ≡ false → (c : Class) → test c ≡ false
+no_class_passes test a s d p b Arrive = a
+no_class_passes test a s d p b Serve = s
+no_class_passes test a s d p b Data = d
+no_class_passes test a s d p b Post = p
+no_class_passes test a s d p b Begin = b
 
 pub find_class : (test : Class → Bool) → ((c : Class) × (test c ≡ true)) ⊎ ((c : Class) → test c ≡ false)
 find_class test =
-    elim (cases_Bool (test Arrive)) [ inl t ↦ inl (Arrive, t) | inr a ↦ elim (cases_Bool (test Serve)) [ inl t ↦ inl (Serve, t) | inr s ↦ elim (cases_Bool (test Data)) [ inl t ↦ inl (Data, t) | inr d ↦ elim (cases_Bool (test Post)) [ inl t ↦ inl (Post, t) | inr p ↦ elim (cases_Bool (test Begin)) [ inl t ↦ inl (Begin, t) | inr b ↦ inr (all_classes test a s d p b) ] ] ] ] ]
+    elim (cases_Bool (test Arrive)) [ inl t ↦ inl (Arrive, t) | inr a ↦ elim (cases_Bool (test Serve)) [ inl t ↦ inl (Serve, t) | inr s ↦ elim (cases_Bool (test Data)) [ inl t ↦ inl (Data, t) | inr d ↦ elim (cases_Bool (test Post)) [ inl t ↦ inl (Post, t) | inr p ↦ elim (cases_Bool (test Begin)) [ inl t ↦ inl (Begin, t) | inr b ↦ inr (no_class_passes test a s d p b) ] ] ] ] ]
 
 pub is_act_class : (c : Class) (x : OpId) (a : Act) → is_act c x a ≡ true → a.class ≡ c
-is_act_class c x a h = place_same a.class c (eqb-true (place a.class) (place c) (and_parts _ _ h).0)
+is_act_class c x a h = place_injective a.class c (eqb-true (place a.class) (place c) (and_parts _ _ h).0)
 
 pub is_act_op : (c : Class) (x : OpId) (a : Act) → is_act c x a ≡ true → a.op ≡ x
 is_act_op c x a h = same_op_true a.op x (and_parts _ _ h).1
@@ -91,8 +91,8 @@ pub happened_new : (c : Class) (x : OpId) (a : Act) (h : List Act) → is_act c 
 unfolding happened
 happened_new c x a h p = or_right _ _ p
 
-pub happened_now : (a : Act) (h : List Act) → happened a.class a.op (a ∷ h) ≡ true
-happened_now a h = happened_new a.class a.op a h (is_act_itself a)
+pub happened_newest : (a : Act) (h : List Act) → happened a.class a.op (a ∷ h) ≡ true
+happened_newest a h = happened_new a.class a.op a h (is_act_itself a)
 
 pub happened_cases : (c : Class) (x : OpId) (a : Act) (h : List Act) → happened c x (a ∷ h) ≡ true → (happened c x h ≡ true) ⊎ (is_act c x a ≡ true)
 unfolding happened
@@ -115,6 +115,6 @@ pub is_act_not : (c : Class) (x : OpId) (a : Act) (h : List Act) → happened c 
 is_act_not c x a h p = false_from_ne_true _ (λ t. both_ways _ p (happened_new c x a h t))
 
 -- other actions do not change whether it has happened
-pub happened_other : (c : Class) (x : OpId) (a : Act) (h : List Act) → is_act c x a ≡ false → happened c x (a ∷ h) ≡ happened c x h
-happened_other c x a h q =
+pub happened_unless_newest : (c : Class) (x : OpId) (a : Act) (h : List Act) → is_act c x a ≡ false → happened c x (a ∷ h) ≡ happened c x h
+happened_unless_newest c x a h q =
     elim (cases_Bool (happened c x h)) [ inl t ↦ happened_stays c x a h t ∙ sym t | inr f ↦ happened_not c x a h f q ∙ sym f ]

@@ -23,25 +23,25 @@ needs_pass test (d ∷ deps) op each = go (eqb d.later op) refl (needs_pass test
 
 module _ (plans : List Plan) (rank : ℕ) where
   module _ (back : All (λ (d : Dep). d.earlier < d.later) (deps_at plans rank)) where
-    number_is_depth : (n op : ℕ) → op < n → is_below plans n (op_id rank op) ≡ true
+    depth_within_number : (n op : ℕ) → op < n → is_below plans n (op_id rank op) ≡ true
     unfolding is_below needs
-    number_is_depth zero op below = absurd (omega arith)
-    number_is_depth (suc n) op below =
-        needs_pass (λ k. is_below plans n (op_id rank k)) (deps_at plans rank) op (λ k d inside same. number_is_depth n _ (omega (arith, same, back k d inside)))
+    depth_within_number zero op below = absurd (omega arith)
+    depth_within_number (suc n) op below =
+        needs_pass (λ k. is_below plans n (op_id rank k)) (deps_at plans rank) op (λ k d inside same. depth_within_number n _ (omega (arith, same, back k d inside)))
 
-    pub none_in_rank : IsFirstInRank plans rank None
-    none_in_rank = λ op is_op. record { bound = suc op; below = number_is_depth (suc op) op (omega arith) }
+    pub no_cycle_of_lesser_needs : IsFirstInRank plans rank None
+    no_cycle_of_lesser_needs = λ op is_op. record { bound = suc op; below = depth_within_number (suc op) op (omega arith) }
 
   module _ (ops : ℕ) (ahead : All (λ (d : Dep). d.later < d.earlier) (deps_at plans rank)) (in_rank : All (λ (d : Dep). d.earlier < ops) (deps_at plans rank)) where
-    rest_is_depth : (n op : ℕ) → op < ops → ops ≤ op + n → is_below plans n (op_id rank op) ≡ true
+    depth_within_rest : (n op : ℕ) → op < ops → ops ≤ op + n → is_below plans n (op_id rank op) ≡ true
     unfolding is_below needs
-    rest_is_depth zero op inside few = absurd (omega arith)
-    rest_is_depth (suc n) op inside few =
-        needs_pass (λ k. is_below plans n (op_id rank k)) (deps_at plans rank) op (λ k d within same. rest_is_depth n _ (in_rank k d within) (omega (arith, same, ahead k d within)))
+    depth_within_rest zero op inside few = absurd (omega arith)
+    depth_within_rest (suc n) op inside few =
+        needs_pass (λ k. is_below plans n (op_id rank k)) (deps_at plans rank) op (λ k d within same. depth_within_rest n _ (in_rank k d within) (omega (arith, same, ahead k d within)))
 
-  pub none_in_rank_ahead : plain_fault plans ≡ None → rank < length plans → All (λ (d : Dep). d.later < d.earlier) (deps_at plans rank) → IsFirstInRank plans rank None
-  none_in_rank_ahead plain rank_in ahead = λ op is_op.
+  pub no_cycle_of_greater_needs : plain_fault plans ≡ None → rank < length plans → All (λ (d : Dep). d.later < d.earlier) (deps_at plans rank) → IsFirstInRank plans rank None
+  no_cycle_of_greater_needs plain rank_in ahead = λ op is_op.
       let ops = length (get_or plans rank no_plan).ops in
       let in_rank : All (λ (d : Dep). d.earlier < ops) (deps_at plans rank) =
       rw (deps_at-rank plans rank no_plan rank_in) (λ k d within. plain-owner plans plain WaitingOn rank no_plan rank_in k d within) in
-      record { bound = ops; below = rest_is_depth ops ahead in_rank ops op ((IsOp-located plans (op_id rank op) is_op).op_in no_plan) (omega arith) }
+      record { bound = ops; below = depth_within_rest ops ahead in_rank ops op ((IsOp-located plans (op_id rank op) is_op).op_in no_plan) (omega arith) }

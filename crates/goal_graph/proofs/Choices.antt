@@ -14,8 +14,8 @@ eqb-swapped m n = go (n == m) refl
     go false e = false_from_ne_true (m == n) (λ t. both_ways (n == m) e (eq-eqb n m (sym (eqb-true m n t))))
 
 -- numbers and choices compare as equal exactly if they are the same
-pub alike_numbers : (m n : ℕ) → is_eq (nat_cmp m n) ≡ (m == n)
-alike_numbers m n = go (nat_lt m n) (m == n) refl refl
+pub nat_cmp_is_eq : (m n : ℕ) → is_eq (nat_cmp m n) ≡ (m == n)
+nat_cmp_is_eq m n = go (nat_lt m n) (m == n) refl refl
   where
     go : (s t : Bool) → nat_lt m n ≡ s → (m == n) ≡ t → is_eq (cond s Less (cond t Equal Greater)) ≡ t
     go true true e f = absurd (both_ways (nat_lt m n) (le-ltb m n (let same = eqb-true m n f in omega (arith, same))) e)
@@ -23,11 +23,11 @@ alike_numbers m n = go (nat_lt m n) (m == n) refl refl
     go false true e f = refl
     go false false e f = refl
 
-pub alike_choices : (a b : Option ℕ) → is_eq (option_cmp nat_cmp a b) ≡ same_choice a b
-alike_choices None None = refl
-alike_choices None (Some n) = refl
-alike_choices (Some k) None = refl
-alike_choices (Some k) (Some n) = alike_numbers k n
+pub option_cmp_is_eq : (a b : Option ℕ) → is_eq (option_cmp nat_cmp a b) ≡ same_choice a b
+option_cmp_is_eq None None = refl
+option_cmp_is_eq None (Some n) = refl
+option_cmp_is_eq (Some k) None = refl
+option_cmp_is_eq (Some k) (Some n) = nat_cmp_is_eq k n
 
 pub same_choice_true : (a b : Option ℕ) → same_choice a b ≡ true → a ≡ b
 same_choice_true None None e = refl

@@ -61,11 +61,11 @@ count_of-row listing d deps op x = go (eqb (owner listing d) op) (filter (λ (d 
     go true ds = refl
     go false ds = sym (zero-add _)
 
-both : (a b : Bool) → ◌≡◌ {A = ℕ} (if a then (if b then 1 else 0) else 0) (if b then (if a then 1 else 0) else 0)
-both true true = refl
-both true false = refl
-both false true = refl
-both false false = refl
+nested_if_swapped : (a b : Bool) → ◌≡◌ {A = ℕ} (if a then (if b then 1 else 0) else 0) (if b then (if a then 1 else 0) else 0)
+nested_if_swapped true true = refl
+nested_if_swapped true false = refl
+nested_if_swapped false true = refl
+nested_if_swapped false false = refl
 
 count_of-none : (later earlier : ℕ) → count_of (row WaitingOn [] earlier) later ≡ count_of (row Needs [] later) earlier
 unfolding row count_of
@@ -76,7 +76,7 @@ pub count_of-rows : (deps : List Dep) (later earlier : ℕ) → count_of (row Wa
 count_of-rows [] later earlier = count_of-none later earlier
 count_of-rows (d ∷ deps) later earlier =
     rw (count_of-row WaitingOn d deps earlier later, count_of-row Needs d deps later earlier, count_of-rows deps later earlier)
-    (ap (λ n. n + count_of (row Needs deps later) earlier) (both (eqb d.earlier earlier) (eqb d.later later)))
+    (ap (λ n. n + count_of (row Needs deps later) earlier) (nested_if_swapped (eqb d.earlier earlier) (eqb d.later later)))
 
 -- a part of a list of needs names an operation at most as often as the whole list
 pub count_of-take-le : (ds : List Need) (k op : ℕ) → count_of (take k ds) op ≤ count_of ds op
@@ -111,33 +111,33 @@ is_among-above (x ∷ xs) op below =
 pub listed_before : Listing → List Dep → ℕ → ℕ
 listed_before listing deps n = count_by (λ (d : Dep). ltb (owner listing d) n) deps
 
-none_below : (k : ℕ) → ◌≡◌ {A = ℕ} (if ltb k 0 then 1 else 0) 0
-none_below k = grind (arith, nat_tests)
+none_below_zero : (k : ℕ) → ◌≡◌ {A = ℕ} (if ltb k 0 then 1 else 0) 0
+none_below_zero k = grind (arith, nat_tests)
 
 pub listed_before-zero : (listing : Listing) (deps : List Dep) → listed_before listing deps 0 ≡ 0
 unfolding listed_before
 listed_before-zero listing [] = refl
 listed_before-zero listing (d ∷ deps) =
-    omega (arith, none_below (owner listing d), sum_by-cons (λ (e : Dep). if ltb (owner listing e) 0 then 1 else 0) d deps, listed_before-zero listing deps)
+    omega (arith, none_below_zero (owner listing d), sum_by-cons (λ (e : Dep). if ltb (owner listing e) 0 then 1 else 0) d deps, listed_before-zero listing deps)
 
 pub listed_before-le : (listing : Listing) (deps : List Dep) (n : ℕ) → listed_before listing deps n ≤ length deps
 unfolding listed_before
 listed_before-le listing deps n = count_by-le-length (λ (d : Dep). ltb (owner listing d) n) deps
 
-below_more : (k n : ℕ) → (if ltb k (n + 1) then 1 else 0) ≡ (if ltb k n then 1 else 0) + (if eqb k n then 1 else 0)
-below_more k n = grind (arith, nat_tests)
+ltb_next_splits : (k n : ℕ) → (if ltb k (n + 1) then 1 else 0) ≡ (if ltb k n then 1 else 0) + (if eqb k n then 1 else 0)
+ltb_next_splits k n = grind (arith, nat_tests)
 
-counts_more : (listing : Listing) (deps : List Dep) (n : ℕ) → listed_before listing deps (n + 1) ≡ listed_before listing deps n + count_by (λ (d : Dep). eqb (owner listing d) n) deps
+listed_before-count : (listing : Listing) (deps : List Dep) (n : ℕ) → listed_before listing deps (n + 1) ≡ listed_before listing deps n + count_by (λ (d : Dep). eqb (owner listing d) n) deps
 unfolding listed_before
-counts_more listing [] n = omega arith
-counts_more listing (d ∷ deps) n =
+listed_before-count listing [] n = omega arith
+listed_before-count listing (d ∷ deps) n =
     let at = sum_by-cons (λ (e : Dep). if eqb (owner listing e) n then 1 else 0) d deps in
     let before = sum_by-cons (λ (e : Dep). if ltb (owner listing e) n then 1 else 0) d deps in
     let up_to = sum_by-cons (λ (e : Dep). if ltb (owner listing e) (n + 1) then 1 else 0) d deps in
-    omega (arith, at, before, up_to, below_more (owner listing d) n, counts_more listing deps n)
+    omega (arith, at, before, up_to, ltb_next_splits (owner listing d) n, listed_before-count listing deps n)
 
 -- another row
 pub listed_before-more : (listing : Listing) (deps : List Dep) (n : ℕ) → listed_before listing deps (n + 1) ≡ listed_before listing deps n + length (row listing deps n)
 unfolding row
 listed_before-more listing deps n =
-    rw (length-map, length-filter (λ (d : Dep). eqb (owner listing d) n) deps) (counts_more listing deps n)
+    rw (length-map, length-filter (λ (d : Dep). eqb (owner listing d) n) deps) (listed_before-count listing deps n)

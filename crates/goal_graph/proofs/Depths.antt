@@ -39,10 +39,10 @@ module _ (plans : List Plan) where
 
   module _ (rank : ℕ) (done : List ℕ) where
     -- needs that name finished operations, which have depths, have a common bound
-    each_below : (ds : List Need) → ((op : ℕ) → is_among done op ≡ true → HasDepth plans (op_id rank op)) → unfinished done ds ≡ 0 → (n : ℕ) × (list_all (λ (d : Need). is_below plans n (op_id rank d.op)) ds ≡ true)
+    needs_share_a_bound : (ds : List Need) → ((op : ℕ) → is_among done op ≡ true → HasDepth plans (op_id rank op)) → unfinished done ds ≡ 0 → (n : ℕ) × (list_all (λ (d : Need). is_below plans n (op_id rank d.op)) ds ≡ true)
     unfolding unfinished
-    each_below [] deep none = (0, refl)
-    each_below (d ∷ ds) deep none = go (is_among done d.op) refl (each_below ds deep)
+    needs_share_a_bound [] deep none = (0, refl)
+    needs_share_a_bound (d ∷ ds) deep none = go (is_among done d.op) refl (needs_share_a_bound ds deep)
       where
         go : (b : Bool) → is_among done d.op ≡ b → (unfinished done ds ≡ 0 → (n : ℕ) × (list_all (λ (d : Need). is_below plans n (op_id rank d.op)) ds ≡ true)) → (n : ℕ) × ((is_below plans n (op_id rank d.op) && list_all (λ (d : Need). is_below plans n (op_id rank d.op)) ds) ≡ true)
         go true here rest =
@@ -59,23 +59,23 @@ module _ (plans : List Plan) where
     pub HasDepth-from_needs : (op : ℕ) → ((k : ℕ) → is_among done k ≡ true → HasDepth plans (op_id rank k)) → unfinished done (needs plans (op_id rank op)) ≡ 0 → HasDepth plans (op_id rank op)
     unfolding is_below
     HasDepth-from_needs op deep none =
-        let r = each_below (needs plans (op_id rank op)) deep none in
+        let r = needs_share_a_bound (needs plans (op_id rank op)) deep none in
         record { bound = suc r.0; below = r.1 }
 
     module _ (ops : ℕ) where
       -- an unbounded need is enough for an operation to be unbounded
-      blocked_list : (b : ℕ) → ((op : ℕ) → op < ops → is_among done op ≡ false → is_below plans b (op_id rank op) ≡ false) → (ds : List Need) → list_all (λ (d : Need). ltb d.op ops) ds ≡ true → 0 < unfinished done ds → list_all (λ (d : Need). is_below plans b (op_id rank d.op)) ds ≡ false
+      unfinished_need_has_no_bound : (b : ℕ) → ((op : ℕ) → op < ops → is_among done op ≡ false → is_below plans b (op_id rank op) ≡ false) → (ds : List Need) → list_all (λ (d : Need). ltb d.op ops) ds ≡ true → 0 < unfinished done ds → list_all (λ (d : Need). is_below plans b (op_id rank d.op)) ds ≡ false
       unfolding unfinished
-      blocked_list b stuck [] in_range some = absurd (omega arith)
-      blocked_list b stuck (d ∷ ds) in_range some = go (is_among done d.op) refl (blocked_list b stuck ds (and_right _ _ in_range))
+      unfinished_need_has_no_bound b stuck [] in_range some = absurd (omega arith)
+      unfinished_need_has_no_bound b stuck (d ∷ ds) in_range some = go (is_among done d.op) refl (unfinished_need_has_no_bound b stuck ds (and_right _ _ in_range))
         where
           go : (c : Bool) → is_among done d.op ≡ c → (0 < unfinished done ds → list_all (λ (d : Need). is_below plans b (op_id rank d.op)) ds ≡ false) → (is_below plans b (op_id rank d.op) && list_all (λ (d : Need). is_below plans b (op_id rank d.op)) ds) ≡ false
           go true here rest = rw (rest (omega (arith, rw here at some))) (and-false (is_below plans b (op_id rank d.op)))
           go false absent rest = rw (stuck d.op (ltb-true _ _ (and_left _ _ in_range)) absent) refl
 
       -- operations each of which needs another of them have no depth
-      pub blocked : ((op : ℕ) → op < ops → is_among done op ≡ false → 0 < unfinished done (needs plans (op_id rank op))) → ((op : ℕ) → list_all (λ (d : Need). ltb d.op ops) (needs plans (op_id rank op)) ≡ true) → (b op : ℕ) → op < ops → is_among done op ≡ false → is_below plans b (op_id rank op) ≡ false
+      pub needing_each_other_no_depth : ((op : ℕ) → op < ops → is_among done op ≡ false → 0 < unfinished done (needs plans (op_id rank op))) → ((op : ℕ) → list_all (λ (d : Need). ltb d.op ops) (needs plans (op_id rank op)) ≡ true) → (b op : ℕ) → op < ops → is_among done op ≡ false → is_below plans b (op_id rank op) ≡ false
       unfolding is_below
-      blocked some in_range zero op inside absent = refl
-      blocked some in_range (suc b) op inside absent =
-          blocked_list b (blocked some in_range b) (needs plans (op_id rank op)) (in_range op) (some op inside absent)
+      needing_each_other_no_depth some in_range zero op inside absent = refl
+      needing_each_other_no_depth some in_range (suc b) op inside absent =
+          unfinished_need_has_no_bound b (needing_each_other_no_depth some in_range b) (needs plans (op_id rank op)) (in_range op) (some op inside absent)

@@ -11,11 +11,11 @@ use Rattle.goal_graph.proofs.Actions.{cases_op, same_op_true, same_op_from, same
 use Rattle.goal_graph.proofs.Exists.{operations_differ}
 
 -- the entry of an item
-pub entry_at : {X Y : Type 0} (f : X → Y) (xs : List X) (i : ℕ) (x : X) → slice_get xs i ≡ Some x → slice_get (map f xs) i ≡ Some (f x)
-entry_at f xs i x e = slice_get-map f xs i ∙ ap (option_map f) e
+pub slice_get_mapped : {X Y : Type 0} (f : X → Y) (xs : List X) (i : ℕ) (x : X) → slice_get xs i ≡ Some x → slice_get (map f xs) i ≡ Some (f x)
+slice_get_mapped f xs i x e = slice_get-map f xs i ∙ ap (option_map f) e
 
-pub entry_of : {X Y : Type 0} (f : X → Y) (xs : List X) (i : ℕ) (x : X) (d : Y) → slice_get xs i ≡ Some x → get_or (map f xs) i d ≡ f x
-entry_of f xs i x d e = get_or_from_slice_get (map f xs) i (f x) d (entry_at f xs i x e)
+pub get_or_mapped : {X Y : Type 0} (f : X → Y) (xs : List X) (i : ℕ) (x : X) (d : Y) → slice_get xs i ≡ Some x → get_or (map f xs) i d ≡ f x
+get_or_mapped f xs i x d e = get_or_from_slice_get (map f xs) i (f x) d (slice_get_mapped f xs i x e)
 
 -- two tables with equal entries are equal
 pub same_tables : {X Y : Type 0} (f g : X → Y) (xs : List X) → ((i : ℕ) (x : X) → slice_get xs i ≡ Some x → f x ≡ g x) → map f xs ≡ map g xs
@@ -42,8 +42,8 @@ one_place plans i j x e f = elim (cases_order i j) [ inl same ↦ same | inr (in
 pub other_place : (plans : List Plan) (i j : ℕ) (x y : OpId) → slice_get (operations plans) i ≡ Some x → slice_get (operations plans) j ≡ Some y → i ≢ j → x ≢ y
 other_place plans i j x y e f d s = d (one_place plans i j y (e ∙ ap Some s) f)
 
-pub within_table : {X Y : Type 0} (f : X → Y) (xs : List X) (i : ℕ) (x : X) (ys : List Y) → ys ≡ map f xs → slice_get xs i ≡ Some x → i < length ys
-within_table f xs i x ys table e = slice_get_within ys i (f x) (ap (λ zs. slice_get zs i) table ∙ entry_at f xs i x e)
+pub index_in_table : {X Y : Type 0} (f : X → Y) (xs : List X) (i : ℕ) (x : X) (ys : List Y) → ys ≡ map f xs → slice_get xs i ≡ Some x → i < length ys
+index_in_table f xs i x ys table e = slice_get_within ys i (f x) (ap (λ zs. slice_get zs i) table ∙ slice_get_mapped f xs i x e)
 
 -- a table whose entries are all one value
 pub replicated_table : {X Y : Type 0} (f : X → Y) (v : Y) (xs : List X) → ((x : X) → f x ≡ v) → replicate (length xs) v ≡ map f xs
@@ -63,12 +63,12 @@ written_entry plans j y v f e =
     not_same x d = false_from_ne_true (same_op x y) (λ t. d (same_op_true x y t))
 
 -- the replaced entry, and the others
-pub at_entry : {E : Type 0} (y : OpId) (e : E) (f : OpId → E) (x : OpId) → x ≡ y → with_entry y e f x ≡ e
-at_entry y e f x s = cond-true _ _ _ (same_op_from x y s)
+pub with_entry_same : {E : Type 0} (y : OpId) (e : E) (f : OpId → E) (x : OpId) → x ≡ y → with_entry y e f x ≡ e
+with_entry_same y e f x s = cond-true _ _ _ (same_op_from x y s)
 
-pub off_entry : {E : Type 0} (y : OpId) (e : E) (f : OpId → E) (x : OpId) → same_op x y ≡ false → with_entry y e f x ≡ f x
-off_entry y e f x d = cond-false _ _ _ d
+pub with_entry_other : {E : Type 0} (y : OpId) (e : E) (f : OpId → E) (x : OpId) → same_op x y ≡ false → with_entry y e f x ≡ f x
+with_entry_other y e f x d = cond-false _ _ _ d
 
 pub entry_written : {E : Type 0} (y : OpId) (e : E) (f g : OpId → E) → g y ≡ e → ((x : OpId) → same_op y x ≡ false → g x ≡ f x) → (x : OpId) → with_entry y e f x ≡ g x
 entry_written y e f g now others x =
-    elim (cases_op x y) [ inl s ↦ at_entry y e f x s ∙ sym now ∙ ap g (sym s) | inr d ↦ off_entry y e f x d ∙ sym (others x (same_op_swapped x y d)) ]
+    elim (cases_op x y) [ inl s ↦ with_entry_same y e f x s ∙ sym now ∙ ap g (sym s) | inr d ↦ with_entry_other y e f x d ∙ sym (others x (same_op_swapped x y d)) ]

@@ -18,34 +18,34 @@ use Rattle.goal_graph.proofs.Persist.{is_some_from, cases_some}
 use Rattle.goal_graph.proofs.Lists.{contains_first, contains_more}
 use Rattle.goal_graph.proofs.Rules.{allowed_may}
 
-abbrev pub at : ℕ → ℕ → OpId
-at rank op = record { rank = rank; op = op }
+abbrev pub op_id_at : ℕ → ℕ → OpId
+op_id_at rank op = record { rank = rank; op = op }
 
 -- an operation that exists
 pub record IsAt (plans : List Plan) (x : OpId) : Type 0 where
   pub op : Op
   pub is : op_at plans x ≡ Some op
 
-rank_listed : (rank first : ℕ) (os : List Op) (k : ℕ) (o : Op) → slice_get os k ≡ Some o → Contains (places_of_rank rank first os) (at rank (first + k))
+rank_listed : (rank first : ℕ) (os : List Op) (k : ℕ) (o : Op) → slice_get os k ≡ Some o → Contains (places_of_rank rank first os) (op_id_at rank (first + k))
 unfolding places_of_rank
 rank_listed rank first [] k o e = absurd (cc e)
 rank_listed rank first (p ∷ os) zero o e =
     let same : first ≡ first + 0 = omega arith in
-    subst (λ (n : ℕ). Contains (at rank first ∷ places_of_rank rank (first + 1) os) (at rank n)) same (contains_first (at rank first) (places_of_rank rank (first + 1) os) (at rank first) refl)
+    subst (λ (n : ℕ). Contains (op_id_at rank first ∷ places_of_rank rank (first + 1) os) (op_id_at rank n)) same (contains_first (op_id_at rank first) (places_of_rank rank (first + 1) os) (op_id_at rank first) refl)
 rank_listed rank first (p ∷ os) (suc k) o e =
     let same : (first + 1) + k ≡ first + suc k = omega arith in
-    subst (λ (n : ℕ). Contains (at rank first ∷ places_of_rank rank (first + 1) os) (at rank n)) same (contains_more (at rank first) _ (at rank ((first + 1) + k)) (rank_listed rank (first + 1) os k o e))
+    subst (λ (n : ℕ). Contains (op_id_at rank first ∷ places_of_rank rank (first + 1) os) (op_id_at rank n)) same (contains_more (op_id_at rank first) _ (op_id_at rank ((first + 1) + k)) (rank_listed rank (first + 1) os k o e))
 
-listed_from : (base : ℕ) (plans : List Plan) (r k : ℕ) (p : Plan) (o : Op) → slice_get plans r ≡ Some p → slice_get p.ops k ≡ Some o → Contains (places_from base plans) (at (base + r) k)
+listed_from : (base : ℕ) (plans : List Plan) (r k : ℕ) (p : Plan) (o : Op) → slice_get plans r ≡ Some p → slice_get p.ops k ≡ Some o → Contains (places_from base plans) (op_id_at (base + r) k)
 unfolding places_from
 listed_from base [] r k p o e f = absurd (cc e)
 listed_from base (q ∷ plans) zero k p o e f =
     let same : base ≡ base + 0 = omega arith in
     let first : 0 + k ≡ k = omega arith in
-    subst (λ (n : ℕ). Contains (places_of_rank base 0 q.ops ++ places_from (base + 1) plans) (at n k)) same (Contains-append_left (places_of_rank base 0 q.ops) (places_from (base + 1) plans) (at base k) (subst (λ (n : ℕ). Contains (places_of_rank base 0 q.ops) (at base n)) first (rank_listed base 0 q.ops k o (subst (λ (p : Plan). slice_get p.ops k ≡ Some o) (sym (same_Some q p e)) f))))
+    subst (λ (n : ℕ). Contains (places_of_rank base 0 q.ops ++ places_from (base + 1) plans) (op_id_at n k)) same (Contains-append_left (places_of_rank base 0 q.ops) (places_from (base + 1) plans) (op_id_at base k) (subst (λ (n : ℕ). Contains (places_of_rank base 0 q.ops) (op_id_at base n)) first (rank_listed base 0 q.ops k o (subst (λ (p : Plan). slice_get p.ops k ≡ Some o) (sym (same_Some q p e)) f))))
 listed_from base (q ∷ plans) (suc r) k p o e f =
     let same : (base + 1) + r ≡ base + suc r = omega arith in
-    subst (λ (n : ℕ). Contains (places_of_rank base 0 q.ops ++ places_from (base + 1) plans) (at n k)) same (Contains-append_right (places_of_rank base 0 q.ops) (places_from (base + 1) plans) (at ((base + 1) + r) k) (listed_from (base + 1) plans r k p o e f))
+    subst (λ (n : ℕ). Contains (places_of_rank base 0 q.ops ++ places_from (base + 1) plans) (op_id_at n k)) same (Contains-append_right (places_of_rank base 0 q.ops) (places_from (base + 1) plans) (op_id_at ((base + 1) + r) k) (listed_from (base + 1) plans r k p o e f))
 
 -- the operation at a place, by its rank's plan
 op_parts : (plans : List Plan) (x : OpId) (o : Op) → op_at plans x ≡ Some o → (p : Plan) × (slice_get plans x.rank ≡ Some p) × (slice_get p.ops x.op ≡ Some o)
@@ -66,18 +66,18 @@ pub op_listed : (plans : List Plan) (x : OpId) → IsAt plans x → Contains (op
 op_listed plans x a =
     let parts = op_parts plans x a.op a.is in
     let same : 0 + x.rank ≡ x.rank = omega arith in
-    subst (λ (n : ℕ). Contains (places_from 0 plans) (at n x.op)) same (listed_from 0 plans x.rank x.op parts.0 a.op parts.1 parts.2)
+    subst (λ (n : ℕ). Contains (places_from 0 plans) (op_id_at n x.op)) same (listed_from 0 plans x.rank x.op parts.0 a.op parts.1 parts.2)
 
-kind_present : (plans : List Plan) (x : OpId) (k : Kind) → kind_at plans x ≡ Some k → IsAt plans x
+op_of_some_kind : (plans : List Plan) (x : OpId) (k : Kind) → kind_at plans x ≡ Some k → IsAt plans x
 unfolding kind_at
-kind_present plans x k e = go (op_at plans x) refl e
+op_of_some_kind plans x k e = go (op_at plans x) refl e
   where
     go : (o : Option Op) → op_at plans x ≡ o → option_map (λ (o : Op). o.kind) o ≡ Some k → IsAt plans x
     go None q e = absurd (cc e)
     go (Some o) q e = record { op = o; is = q }
 
 pub kind_listed : (plans : List Plan) (x : OpId) (k : Kind) → kind_at plans x ≡ Some k → Contains (operations plans) x
-kind_listed plans x k e = op_listed plans x (kind_present plans x k e)
+kind_listed plans x k e = op_listed plans x (op_of_some_kind plans x k e)
 
 pub allowed_listed : (plans : List Plan) (eager : OpId → Bool) (h : List Act) (c : Class) (x : OpId) → allowed plans eager h c x ≡ true → Contains (operations plans) x
 allowed_listed plans eager h c x e = go (kind_at plans x) refl (allowed_may plans eager h c x e)
@@ -100,11 +100,11 @@ record IsPlaceOfRank (rank first : ℕ) (os : List Op) (y : OpId) : Type 0 where
   place : y.op ≡ first + number
   is : slice_get os number ≡ Some op
 
-rank_places : (rank first : ℕ) (os : List Op) → All (IsPlaceOfRank rank first os) (places_of_rank rank first os)
+places_of_rank_are_of_rank : (rank first : ℕ) (os : List Op) → All (IsPlaceOfRank rank first os) (places_of_rank rank first os)
 unfolding places_of_rank
-rank_places rank first [] = All-nil (IsPlaceOfRank rank first [])
-rank_places rank first (o ∷ os) =
-    All-cons (IsPlaceOfRank rank first (o ∷ os)) (at rank first) (places_of_rank rank (first + 1) os) (record { number = 0; op = o; of_rank = refl; place = omega arith; is = refl }) (All-weaker (IsPlaceOfRank rank (first + 1) os) (IsPlaceOfRank rank first (o ∷ os)) (λ y p. record { number = suc p.number; op = p.op; of_rank = p.of_rank; place = omega (arith, p.place); is = p.is }) (places_of_rank rank (first + 1) os) (rank_places rank (first + 1) os))
+places_of_rank_are_of_rank rank first [] = All-nil (IsPlaceOfRank rank first [])
+places_of_rank_are_of_rank rank first (o ∷ os) =
+    All-cons (IsPlaceOfRank rank first (o ∷ os)) (op_id_at rank first) (places_of_rank rank (first + 1) os) (record { number = 0; op = o; of_rank = refl; place = omega arith; is = refl }) (All-weaker (IsPlaceOfRank rank (first + 1) os) (IsPlaceOfRank rank first (o ∷ os)) (λ y p. record { number = suc p.number; op = p.op; of_rank = p.of_rank; place = omega (arith, p.place); is = p.is }) (places_of_rank rank (first + 1) os) (places_of_rank_are_of_rank rank (first + 1) os))
 
 record IsPlaceFrom (base : ℕ) (plans : List Plan) (y : OpId) : Type 0 where
   number : ℕ
@@ -114,11 +114,11 @@ record IsPlaceFrom (base : ℕ) (plans : List Plan) (y : OpId) : Type 0 where
   is_plan : slice_get plans number ≡ Some plan
   is_op : slice_get plan.ops y.op ≡ Some op
 
-places : (base : ℕ) (plans : List Plan) → All (IsPlaceFrom base plans) (places_from base plans)
+places_from_are_of_plans : (base : ℕ) (plans : List Plan) → All (IsPlaceFrom base plans) (places_from base plans)
 unfolding places_from
-places base [] = All-nil (IsPlaceFrom base [])
-places base (p ∷ ps) =
-    All-append (IsPlaceFrom base (p ∷ ps)) (places_of_rank base 0 p.ops) (places_from (base + 1) ps) (All-weaker (IsPlaceOfRank base 0 p.ops) (IsPlaceFrom base (p ∷ ps)) (λ y a. record { number = 0; plan = p; op = a.op; rank = omega (arith, a.of_rank); is_plan = refl; is_op = ap (slice_get p.ops) (the_number y a) ∙ a.is }) (places_of_rank base 0 p.ops) (rank_places base 0 p.ops)) (All-weaker (IsPlaceFrom (base + 1) ps) (IsPlaceFrom base (p ∷ ps)) (λ y a. record { number = suc a.number; plan = a.plan; op = a.op; rank = omega (arith, a.rank); is_plan = a.is_plan; is_op = a.is_op }) (places_from (base + 1) ps) (places (base + 1) ps))
+places_from_are_of_plans base [] = All-nil (IsPlaceFrom base [])
+places_from_are_of_plans base (p ∷ ps) =
+    All-append (IsPlaceFrom base (p ∷ ps)) (places_of_rank base 0 p.ops) (places_from (base + 1) ps) (All-weaker (IsPlaceOfRank base 0 p.ops) (IsPlaceFrom base (p ∷ ps)) (λ y a. record { number = 0; plan = p; op = a.op; rank = omega (arith, a.of_rank); is_plan = refl; is_op = ap (slice_get p.ops) (the_number y a) ∙ a.is }) (places_of_rank base 0 p.ops) (places_of_rank_are_of_rank base 0 p.ops)) (All-weaker (IsPlaceFrom (base + 1) ps) (IsPlaceFrom base (p ∷ ps)) (λ y a. record { number = suc a.number; plan = a.plan; op = a.op; rank = omega (arith, a.rank); is_plan = a.is_plan; is_op = a.is_op }) (places_from (base + 1) ps) (places_from_are_of_plans (base + 1) ps))
   where
     the_number : (y : OpId) (a : IsPlaceOfRank base 0 p.ops y) → y.op ≡ a.number
     the_number y a = omega (arith, a.place)
@@ -126,22 +126,22 @@ places base (p ∷ ps) =
 -- what is listed exists
 pub listed_op : (plans : List Plan) (x : OpId) → Contains (operations plans) x → IsAt plans x
 listed_op plans x c =
-    let place = All-contains (IsPlaceFrom 0 plans) (places_from 0 plans) x (places 0 plans) c in
+    let place = All-contains (IsPlaceFrom 0 plans) (places_from 0 plans) x (places_from_are_of_plans 0 plans) c in
     let rank : x.rank ≡ place.number = omega (arith, place.rank) in
     record {
       op = place.op;
       is = op_from_parts plans x place.plan place.op (ap (slice_get plans) rank ∙ place.is_plan) place.is_op;
     }
 
-pub at_kind : (plans : List Plan) (x : OpId) (o : Op) → op_at plans x ≡ Some o → kind_at plans x ≡ Some o.kind
+pub kind_of_found_op : (plans : List Plan) (x : OpId) (o : Op) → op_at plans x ≡ Some o → kind_at plans x ≡ Some o.kind
 unfolding kind_at
-at_kind plans x o e = ap (option_map (λ (o : Op). o.kind)) e
+kind_of_found_op plans x o e = ap (option_map (λ (o : Op). o.kind)) e
 
 -- what is listed has a kind
 pub listed_kind : (plans : List Plan) (x : OpId) → Contains (operations plans) x → kind_at plans x ≢ None
 listed_kind plans x c none =
     let a = listed_op plans x c in
-    none-some a.op.kind (sym none ∙ at_kind plans x a.op a.is)
+    none-some a.op.kind (sym none ∙ kind_of_found_op plans x a.op a.is)
 
 -- the operations are the places that have an operation
 pub listed_places : (plans : List Plan) (x : OpId) → Contains (operations plans) x ↔ (is_some (op_at plans x) ≡ true)
@@ -152,13 +152,13 @@ rank_in_order : (rank first : ℕ) (os : List Op) (rest : List OpId) → All (λ
 unfolding places_of_rank
 rank_in_order rank first [] rest later ordered = ordered
 rank_in_order rank first (o ∷ os) rest later ordered =
-    AllPairs-cons IsBefore (at rank first) (places_of_rank rank (first + 1) os ++ rest) (All-append (IsBefore (at rank first)) (places_of_rank rank (first + 1) os) rest (All-weaker (IsPlaceOfRank rank (first + 1) os) (IsBefore (at rank first)) (λ y a. inr (sym a.of_rank, omega (arith, a.place))) (places_of_rank rank (first + 1) os) (rank_places rank (first + 1) os)) (All-weaker (λ (y : OpId). rank < y.rank) (IsBefore (at rank first)) (λ y l. inl l) rest later)) (rank_in_order rank (first + 1) os rest later ordered)
+    AllPairs-cons IsBefore (op_id_at rank first) (places_of_rank rank (first + 1) os ++ rest) (All-append (IsBefore (op_id_at rank first)) (places_of_rank rank (first + 1) os) rest (All-weaker (IsPlaceOfRank rank (first + 1) os) (IsBefore (op_id_at rank first)) (λ y a. inr (sym a.of_rank, omega (arith, a.place))) (places_of_rank rank (first + 1) os) (places_of_rank_are_of_rank rank (first + 1) os)) (All-weaker (λ (y : OpId). rank < y.rank) (IsBefore (op_id_at rank first)) (λ y l. inl l) rest later)) (rank_in_order rank (first + 1) os rest later ordered)
 
 places_in_order : (base : ℕ) (plans : List Plan) → AllPairs IsBefore (places_from base plans)
 unfolding places_from
 places_in_order base [] = λ i j d l b. absurd (omega arith)
 places_in_order base (p ∷ ps) =
-    rank_in_order base 0 p.ops (places_from (base + 1) ps) (All-weaker (IsPlaceFrom (base + 1) ps) (λ (y : OpId). base < y.rank) (λ y a. omega (arith, a.rank)) (places_from (base + 1) ps) (places (base + 1) ps)) (places_in_order (base + 1) ps)
+    rank_in_order base 0 p.ops (places_from (base + 1) ps) (All-weaker (IsPlaceFrom (base + 1) ps) (λ (y : OpId). base < y.rank) (λ y a. omega (arith, a.rank)) (places_from (base + 1) ps) (places_from_are_of_plans (base + 1) ps)) (places_in_order (base + 1) ps)
 
 -- the operations are in order of rank, then of number
 pub operations_in_order : (plans : List Plan) → AllPairs IsBefore (operations plans)

@@ -50,15 +50,15 @@ find_all P p (y ∷ ys) z each e =
     elim (cases_Bool (p y)) [ inl t ↦ subst P (same_Some y z (sym (cond-true (p y) (Some y) (find p ys) t) ∙ e)) (All-head P y ys each) | inr f ↦ find_all P p ys z (All-tail P y ys each) (sym (cond-false (p y) (Some y) (find p ys) f) ∙ e) ]
 
 -- lists of no item and of one
-pub all_none : {X : Type 0} (P : X → Type 0) → All P []
-all_none P k d l = absurd (omega (arith, l))
+pub all_of_empty : {X : Type 0} (P : X → Type 0) → All P []
+all_of_empty P k d l = absurd (omega (arith, l))
 
-pub all_one : {X : Type 0} (P : X → Type 0) (x : X) → P x → All P (x ∷ [])
-all_one P x p zero d l = p
-all_one P x p (suc k) d l = absurd (omega (arith, l))
+pub all_of_single : {X : Type 0} (P : X → Type 0) (x : X) → P x → All P (x ∷ [])
+all_of_single P x p zero d l = p
+all_of_single P x p (suc k) d l = absurd (omega (arith, l))
 
 -- a list that was borrowed whole
-pub whole_back : {X : Type 0} (n : ℕ) (xs ys : List X) → length xs ≡ length ys → n ≡ length ys → take n (xs ++ drop (length xs) ys) ≡ xs
-whole_back {X} n xs ys long all =
+pub borrowed_whole_restored : {X : Type 0} (n : ℕ) (xs ys : List X) → length xs ≡ length ys → n ≡ length ys → take n (xs ++ drop (length xs) ys) ≡ xs
+borrowed_whole_restored {X} n xs ys long all =
     let rest : drop (length xs) ys ≡ [] = drop_all (length xs) ys (omega (arith, long)) in
     ap (λ (zs : List X). take n (xs ++ zs)) rest ∙ ap (take n) (append-nil xs) ∙ take_all n xs (omega (arith, long, all))

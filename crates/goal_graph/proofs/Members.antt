@@ -13,7 +13,7 @@ use Rattle.goal_graph.specs.Allowed.{is_met, is_ready}
 use Rattle.goal_graph.specs.Interleaving.{IsInterleaving}
 use Rattle.goal_graph.proofs.Lists.{contains_first, contains_more, some_fails}
 use Rattle.goal_graph.proofs.Actions.{act_of, is_act_true, is_act_from, happened_none, happened_cases, happened_stays, happened_new}
-use Rattle.goal_graph.proofs.Partners.{IsListed, partner_listed, one_send, one_receive}
+use Rattle.goal_graph.proofs.Partners.{IsListed, partner_listed, pair_of_send_unique, pair_of_receive_unique}
 
 pub happened_member : (c : Class) (x : OpId) (h : List Act) → happened c x h ≡ true → Contains h (act_of c x)
 happened_member c x [] e = absurd (both_ways _ (happened_none c x) e)
@@ -60,8 +60,8 @@ module _ (plans : List Plan) (eager : OpId → Bool) where
   unready_need h x r = some_fails (λ (d : Need). is_met plans eager h d.when (needed x d)) (needs plans x) r
 
   -- two pairs that share the send or the receive are the same
-  pub one_pair : (h : List Act) (p q : Pair) → IsInterleaving plans eager h → Contains (pairs plans h) p → Contains (pairs plans h) q → ((p.send ≡ q.send) ⊎ (p.recv ≡ q.recv)) → p ≡ q
-  one_pair h p q i l k (inl e) =
-      one_send plans eager h p q i (member_listed p (pairs plans h) l) (member_listed q (pairs plans h) k) e
-  one_pair h p q i l k (inr e) =
-      one_receive plans eager h p q i (member_listed p (pairs plans h) l) (member_listed q (pairs plans h) k) e
+  pub pair_of_member_unique : (h : List Act) (p q : Pair) → IsInterleaving plans eager h → Contains (pairs plans h) p → Contains (pairs plans h) q → ((p.send ≡ q.send) ⊎ (p.recv ≡ q.recv)) → p ≡ q
+  pair_of_member_unique h p q i l k (inl e) =
+      pair_of_send_unique plans eager h p q i (member_listed p (pairs plans h) l) (member_listed q (pairs plans h) k) e
+  pair_of_member_unique h p q i l k (inr e) =
+      pair_of_receive_unique plans eager h p q i (member_listed p (pairs plans h) l) (member_listed q (pairs plans h) k) e

@@ -16,14 +16,14 @@ partner_exists plans h x y e =
     elim (partners_met plans h x y e) [ inl met ↦ receive_is_op plans y (fits_receive plans y x met.fit) | inr met ↦ send_is_op plans y (fits_send plans x y met.fit) ]
 
 -- the part of a list that is not yet read
-pub still_left : {X : Type 0} (xs : List X) (k : ℕ) (d y : X) → k < length xs → Contains (drop k xs) y → ¬ (y ≡ get_or xs k d) → Contains (drop (k + 1) xs) y
-still_left xs k d y l left differ = go (subst (λ ds. Contains ds y) (drop_more xs k d l) left)
+pub unread_after_next : {X : Type 0} (xs : List X) (k : ℕ) (d y : X) → k < length xs → Contains (drop k xs) y → ¬ (y ≡ get_or xs k d) → Contains (drop (k + 1) xs) y
+unread_after_next xs k d y l left differ = go (subst (λ ds. Contains ds y) (drop_more xs k d l) left)
   where
     go : Contains (get_or xs k d ∷ drop (k + 1) xs) y → Contains (drop (k + 1) xs) y
     go (zero, b, e) = absurd (differ (sym e))
     go (suc i, b, e) = (i, omega (arith, b), e)
 
-pub none_left : {X : Type 0} (xs : List X) (k : ℕ) (y : X) → length xs ≤ k → Contains (drop k xs) y → ⊥
-none_left xs k y l left =
+pub nothing_after_end : {X : Type 0} (xs : List X) (k : ℕ) (y : X) → length xs ≤ k → Contains (drop k xs) y → ⊥
+nothing_after_end xs k y l left =
     let none : Contains [] y = subst (λ ds. Contains ds y) (drop_all k xs l) left in
     omega (arith, none.1)

@@ -12,25 +12,25 @@ use Rattle.goal_graph.specs.Action.{Act, same_op, is_act, happened}
 use Rattle.goal_graph.specs.Allowed.{may, allowed}
 use Rattle.goal_graph.specs.Interleaving.{IsInterleaving}
 use Rattle.goal_graph.specs.Laws.{has_class, classes, is_left, left_of, left}
-use Rattle.goal_graph.proofs.Actions.{same_op_true, happened_now, happened_before, is_act_not}
+use Rattle.goal_graph.proofs.Actions.{same_op_true, happened_newest, happened_before, is_act_not}
 use Rattle.goal_graph.proofs.Rules.{allowed_fresh, allowed_may}
 use Rattle.goal_graph.proofs.Ever.{newest_allowed}
 use Rattle.goal_graph.proofs.Exists.{allowed_listed}
-use Rattle.goal_graph.proofs.Sums.{sum_falls, count_yes, count_no, count_falls, count_le}
+use Rattle.goal_graph.proofs.Sums.{sum_falls, count_passing, count_failing, count_falls, count_le}
 
 count_none : (c : Class) (x : OpId) (h : List Act) → happened c x h ≡ false → count_by (is_act c x) h ≡ 0
 count_none c x [] e = refl
 count_none c x (a ∷ h) e =
-    count_no (is_act c x) a h (is_act_not c x a h e) ∙ count_none c x h (happened_before c x a h e)
+    count_failing (is_act c x) a h (is_act_not c x a h e) ∙ count_none c x h (happened_before c x a h e)
 
-has_class_may : (plans : List Plan) (eager : OpId → Bool) (h : List Act) (c : Class) (x : OpId) (k : Option Kind) → may plans eager h c x k ≡ true → has_class k c ≡ true
-has_class_may plans eager h Begin x (Some (Calc nanos)) e = refl
-has_class_may plans eager h Begin x (Some (Send bytes to tag)) e = refl
-has_class_may plans eager h Arrive x (Some (Send bytes to tag)) e = refl
-has_class_may plans eager h Data x (Some (Send bytes to tag)) e = refl
-has_class_may plans eager h Post x (Some (Recv room from tag)) e = refl
-has_class_may plans eager h Serve x (Some (Recv room from tag)) e = refl
-has_class_may plans eager h _ x _ e = absurd (both_ways false refl e)
+may_has_class : (plans : List Plan) (eager : OpId → Bool) (h : List Act) (c : Class) (x : OpId) (k : Option Kind) → may plans eager h c x k ≡ true → has_class k c ≡ true
+may_has_class plans eager h Begin x (Some (Calc nanos)) e = refl
+may_has_class plans eager h Begin x (Some (Send bytes to tag)) e = refl
+may_has_class plans eager h Arrive x (Some (Send bytes to tag)) e = refl
+may_has_class plans eager h Data x (Some (Send bytes to tag)) e = refl
+may_has_class plans eager h Post x (Some (Recv room from tag)) e = refl
+may_has_class plans eager h Serve x (Some (Recv room from tag)) e = refl
+may_has_class plans eager h _ x _ e = absurd (both_ways false refl e)
 
 class_listed : (c : Class) → Contains classes c
 class_listed Arrive = (0, omega arith, refl)
@@ -39,57 +39,57 @@ class_listed Data = (2, omega arith, refl)
 class_listed Post = (3, omega arith, refl)
 class_listed Begin = (4, omega arith, refl)
 
-three_classes : (k : Option Kind) → count_by (has_class k) classes ≤ 3
-three_classes None = omega arith
-three_classes (Some (Calc nanos)) = omega arith
-three_classes (Some (Send bytes to tag)) = omega arith
-three_classes (Some (Recv room from tag)) = omega arith
+at_most_three_classes : (k : Option Kind) → count_by (has_class k) classes ≤ 3
+at_most_three_classes None = omega arith
+at_most_three_classes (Some (Calc nanos)) = omega arith
+at_most_three_classes (Some (Send bytes to tag)) = omega arith
+at_most_three_classes (Some (Recv room from tag)) = omega arith
 
 module _ (plans : List Plan) where
-  left_before : (a : Act) (h : List Act) (x : OpId) (c : Class) → is_left plans (a ∷ h) x c ≡ true → is_left plans h x c ≡ true
-  left_before a h x c e =
+  left_before_action : (a : Act) (h : List Act) (x : OpId) (c : Class) → is_left plans (a ∷ h) x c ≡ true → is_left plans h x c ≡ true
+  left_before_action a h x c e =
       let parts = and_parts (has_class (kind_at plans x) c) (not (happened c x (a ∷ h))) e in
       and_from _ _ parts.0 (not_from_false _ (happened_before c x a h (not-true _ parts.1)))
 
   -- no count of what is left rises
   pub left_of_stays : (a : Act) (h : List Act) (x : OpId) → left_of plans (a ∷ h) x ≤ left_of plans h x
   unfolding left_of
-  left_of_stays a h x = count_le (is_left plans h x) (is_left plans (a ∷ h) x) classes (left_before a h x)
+  left_of_stays a h x = count_le (is_left plans h x) (is_left plans (a ∷ h) x) classes (left_before_action a h x)
 
   -- an operation has at most three actions
-  pub left_of_three : (h : List Act) (x : OpId) → left_of plans h x ≤ 3
+  pub left_of_at_most_three : (h : List Act) (x : OpId) → left_of plans h x ≤ 3
   unfolding left_of
-  left_of_three h x =
+  left_of_at_most_three h x =
       let more = count_le (has_class (kind_at plans x)) (is_left plans h x) classes (λ c e. (and_parts (has_class (kind_at plans x) c) (not (happened c x h)) e).0) in
-      omega (arith, more, three_classes (kind_at plans x))
+      omega (arith, more, at_most_three_classes (kind_at plans x))
 
   left_three_each : (h : List Act) → left plans h ≤ length (operations plans) * 3
   unfolding left
   left_three_each h =
-      sum_by-le (left_of plans h) 3 (operations plans) (λ k d b. left_of_three h _)
+      sum_by-le (left_of plans h) 3 (operations plans) (λ k d b. left_of_at_most_three h _)
 
   -- at most three actions per operation are left
   pub left_bound : (h : List Act) → left plans h ≤ 3 * length (operations plans)
   left_bound h = omega (arith, left_three_each h)
 
   module _ (eager : OpId → Bool) where
-    once_more : (a : Act) (h : List Act) (c : Class) (x : OpId) → ((is_act c x a ≡ true) ⊎ (is_act c x a ≡ false)) → (is_act c x a ≡ true → happened c x h ≡ false) → count_by (is_act c x) h ≤ 1 → count_by (is_act c x) (a ∷ h) ≤ 1
-    once_more a h c x (inl now) fresh before =
-        subst (λ (n : ℕ). n ≤ 1) (sym (count_yes (is_act c x) a h now)) (subst (λ (n : ℕ). 1 + n ≤ 1) (sym (count_none c x h (fresh now))) (omega arith))
-    once_more a h c x (inr other) fresh before =
-        subst (λ (n : ℕ). n ≤ 1) (sym (count_no (is_act c x) a h other)) before
+    happens_once_after_action : (a : Act) (h : List Act) (c : Class) (x : OpId) → ((is_act c x a ≡ true) ⊎ (is_act c x a ≡ false)) → (is_act c x a ≡ true → happened c x h ≡ false) → count_by (is_act c x) h ≤ 1 → count_by (is_act c x) (a ∷ h) ≤ 1
+    happens_once_after_action a h c x (inl now) fresh before =
+        subst (λ (n : ℕ). n ≤ 1) (sym (count_passing (is_act c x) a h now)) (subst (λ (n : ℕ). 1 + n ≤ 1) (sym (count_none c x h (fresh now))) (omega arith))
+    happens_once_after_action a h c x (inr other) fresh before =
+        subst (λ (n : ℕ). n ≤ 1) (sym (count_failing (is_act c x) a h other)) before
 
     -- each class of action happens at most once per operation
     pub happens_once : (h : List Act) (c : Class) (x : OpId) → IsInterleaving plans eager h → count_by (is_act c x) h ≤ 1
     happens_once [] c x i = omega arith
     happens_once (a ∷ h) c x i =
-        once_more a h c x (cases_Bool (is_act c x a)) (λ e. allowed_fresh plans eager h c x (newest_allowed plans eager c x a h i e)) (happens_once h c x i.0)
+        happens_once_after_action a h c x (cases_Bool (is_act c x a)) (λ e. allowed_fresh plans eager h c x (newest_allowed plans eager c x a h i e)) (happens_once h c x i.0)
 
     -- an allowed action leaves its operation one action fewer
     pub left_of_falls : (a : Act) (h : List Act) → allowed plans eager h a.class a.op ≡ true → left_of plans (a ∷ h) a.op + 1 ≤ left_of plans h a.op
     unfolding left_of
     left_of_falls a h e =
-        count_falls (is_left plans h a.op) (is_left plans (a ∷ h) a.op) classes a.class (class_listed a.class) (left_before a h a.op) (and_right _ _ (not_from_true _ (happened_now a h))) (and_from _ _ (has_class_may plans eager h a.class a.op (kind_at plans a.op) (allowed_may plans eager h a.class a.op e)) (not_from_false _ (allowed_fresh plans eager h a.class a.op e)))
+        count_falls (is_left plans h a.op) (is_left plans (a ∷ h) a.op) classes a.class (class_listed a.class) (left_before_action a h a.op) (and_right _ _ (not_from_true _ (happened_newest a h))) (and_from _ _ (may_has_class plans eager h a.class a.op (kind_at plans a.op) (allowed_may plans eager h a.class a.op e)) (not_from_false _ (allowed_fresh plans eager h a.class a.op e)))
 
     -- an allowed action leaves one action fewer in all
     pub left_falls : (a : Act) (h : List Act) → allowed plans eager h a.class a.op ≡ true → left plans (a ∷ h) + 1 ≤ left plans h
@@ -105,20 +105,20 @@ module _ (plans : List Plan) where
         let falls = left_falls a h i.1 in
         omega (arith, before, falls)
 
-    three_more : (a : Act) (h : List Act) (x : OpId) → ((same_op a.op x ≡ true) ⊎ (same_op a.op x ≡ false)) → allowed plans eager h a.class a.op ≡ true → count_by (λ (a : Act). same_op a.op x) h + left_of plans h x ≤ 3 → count_by (λ (a : Act). same_op a.op x) (a ∷ h) + left_of plans (a ∷ h) x ≤ 3
-    three_more a h x (inl same) e before =
+    three_and_left_after_action : (a : Act) (h : List Act) (x : OpId) → ((same_op a.op x ≡ true) ⊎ (same_op a.op x ≡ false)) → allowed plans eager h a.class a.op ≡ true → count_by (λ (a : Act). same_op a.op x) h + left_of plans h x ≤ 3 → count_by (λ (a : Act). same_op a.op x) (a ∷ h) + left_of plans (a ∷ h) x ≤ 3
+    three_and_left_after_action a h x (inl same) e before =
         let falls : left_of plans (a ∷ h) x + 1 ≤ left_of plans h x =
         subst (λ (y : OpId). left_of plans (a ∷ h) y + 1 ≤ left_of plans h y) (same_op_true a.op x same) (left_of_falls a h e) in
-        subst (λ (n : ℕ). n + left_of plans (a ∷ h) x ≤ 3) (sym (count_yes (λ (a : Act). same_op a.op x) a h same)) (omega arith)
-    three_more a h x (inr other) e before =
+        subst (λ (n : ℕ). n + left_of plans (a ∷ h) x ≤ 3) (sym (count_passing (λ (a : Act). same_op a.op x) a h same)) (omega arith)
+    three_and_left_after_action a h x (inr other) e before =
         let stays = left_of_stays a h x in
-        subst (λ (n : ℕ). n + left_of plans (a ∷ h) x ≤ 3) (sym (count_no (λ (a : Act). same_op a.op x) a h other)) (omega (arith, stays))
+        subst (λ (n : ℕ). n + left_of plans (a ∷ h) x ≤ 3) (sym (count_failing (λ (a : Act). same_op a.op x) a h other)) (omega (arith, stays))
 
-    three_and_left : (h : List Act) (x : OpId) → IsInterleaving plans eager h → count_by (λ (a : Act). same_op a.op x) h + left_of plans h x ≤ 3
-    three_and_left [] x i = omega (arith, left_of_three [] x)
-    three_and_left (a ∷ h) x i =
-        three_more a h x (cases_Bool (same_op a.op x)) i.1 (three_and_left h x i.0)
+    op_happened_and_left : (h : List Act) (x : OpId) → IsInterleaving plans eager h → count_by (λ (a : Act). same_op a.op x) h + left_of plans h x ≤ 3
+    op_happened_and_left [] x i = omega (arith, left_of_at_most_three [] x)
+    op_happened_and_left (a ∷ h) x i =
+        three_and_left_after_action a h x (cases_Bool (same_op a.op x)) i.1 (op_happened_and_left h x i.0)
 
     -- at most three actions of one operation
     pub at_most_three : (h : List Act) (x : OpId) → IsInterleaving plans eager h → count_by (λ (a : Act). same_op a.op x) h ≤ 3
-    at_most_three h x i = omega (arith, three_and_left h x i)
+    at_most_three h x i = omega (arith, op_happened_and_left h x i)

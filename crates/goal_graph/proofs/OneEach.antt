@@ -17,16 +17,16 @@ use Rattle.goal_graph.proofs.Stages.{served_paired}
 
 module _ (plans : List Plan) (eager : OpId → Bool) where
   -- the stage of an operation: the class of action that may come next, and what must not have happened yet
-  begin_post : (h : List Act) (x : OpId) → allowed plans eager h Begin x ≡ true → allowed plans eager h Post x ≡ true → ⊥
-  begin_post h x b p =
+  begin_excludes_post : (h : List Act) (x : OpId) → allowed plans eager h Begin x ≡ true → allowed plans eager h Post x ≡ true → ⊥
+  begin_excludes_post h x b p =
       elim (allowed_begin plans eager h x b).0 [ inl calc ↦ not_receive_calc plans x (allowed_post plans eager h x p).0 calc | inr send ↦ not_send_receive plans x send (allowed_post plans eager h x p).0 ]
 
-  begin_serve : (h : List Act) (x : OpId) → allowed plans eager h Begin x ≡ true → allowed plans eager h Serve x ≡ true → ⊥
-  begin_serve h x b p =
+  begin_excludes_serve : (h : List Act) (x : OpId) → allowed plans eager h Begin x ≡ true → allowed plans eager h Serve x ≡ true → ⊥
+  begin_excludes_serve h x b p =
       elim (allowed_begin plans eager h x b).0 [ inl calc ↦ not_receive_calc plans x (allowed_serve plans eager h x p).0 calc | inr send ↦ not_send_receive plans x send (allowed_serve plans eager h x p).0 ]
 
-  begin_arrive : (h : List Act) (x : OpId) → allowed plans eager h Begin x ≡ true → allowed plans eager h Arrive x ≡ true → ⊥
-  begin_arrive h x b p =
+  begin_excludes_arrive : (h : List Act) (x : OpId) → allowed plans eager h Begin x ≡ true → allowed plans eager h Arrive x ≡ true → ⊥
+  begin_excludes_arrive h x b p =
       both_ways _ (allowed_fresh plans eager h Begin x b) (allowed_arrive plans eager h x p).1
 
   -- a rendezvous send that may transfer its data has arrived
@@ -36,31 +36,31 @@ module _ (plans : List Plan) (eager : OpId → Bool) where
       let with = cases_some (partner (pairs plans h) x) may_data.2 in
       (partner_of_send plans h x with.0 may_data.0 with.1).arrived
 
-  begin_data : (h : List Act) (x : OpId) → IsInterleaving plans eager h → allowed plans eager h Begin x ≡ true → allowed plans eager h Data x ≡ true → ⊥
-  begin_data h x i b d =
+  begin_excludes_data : (h : List Act) (x : OpId) → IsInterleaving plans eager h → allowed plans eager h Begin x ≡ true → allowed plans eager h Data x ≡ true → ⊥
+  begin_excludes_data h x i b d =
       both_ways _ (allowed_fresh plans eager h Begin x b) (arrived_begun plans eager h x i (data_after_arrive h x d))
 
-  arrive_data : (h : List Act) (x : OpId) → allowed plans eager h Arrive x ≡ true → allowed plans eager h Data x ≡ true → ⊥
-  arrive_data h x a d = both_ways _ (allowed_fresh plans eager h Arrive x a) (data_after_arrive h x d)
+  arrive_excludes_data : (h : List Act) (x : OpId) → allowed plans eager h Arrive x ≡ true → allowed plans eager h Data x ≡ true → ⊥
+  arrive_excludes_data h x a d = both_ways _ (allowed_fresh plans eager h Arrive x a) (data_after_arrive h x d)
 
-  arrive_post : (h : List Act) (x : OpId) → allowed plans eager h Arrive x ≡ true → allowed plans eager h Post x ≡ true → ⊥
-  arrive_post h x a p =
+  arrive_excludes_post : (h : List Act) (x : OpId) → allowed plans eager h Arrive x ≡ true → allowed plans eager h Post x ≡ true → ⊥
+  arrive_excludes_post h x a p =
       not_send_receive plans x (allowed_arrive plans eager h x a).0 (allowed_post plans eager h x p).0
 
-  arrive_serve : (h : List Act) (x : OpId) → allowed plans eager h Arrive x ≡ true → allowed plans eager h Serve x ≡ true → ⊥
-  arrive_serve h x a p =
+  arrive_excludes_serve : (h : List Act) (x : OpId) → allowed plans eager h Arrive x ≡ true → allowed plans eager h Serve x ≡ true → ⊥
+  arrive_excludes_serve h x a p =
       not_send_receive plans x (allowed_arrive plans eager h x a).0 (allowed_serve plans eager h x p).0
 
-  data_post : (h : List Act) (x : OpId) → allowed plans eager h Data x ≡ true → allowed plans eager h Post x ≡ true → ⊥
-  data_post h x d p =
+  data_excludes_post : (h : List Act) (x : OpId) → allowed plans eager h Data x ≡ true → allowed plans eager h Post x ≡ true → ⊥
+  data_excludes_post h x d p =
       not_send_receive plans x (allowed_data plans eager h x d).0 (allowed_post plans eager h x p).0
 
-  data_serve : (h : List Act) (x : OpId) → allowed plans eager h Data x ≡ true → allowed plans eager h Serve x ≡ true → ⊥
-  data_serve h x d p =
+  data_excludes_serve : (h : List Act) (x : OpId) → allowed plans eager h Data x ≡ true → allowed plans eager h Serve x ≡ true → ⊥
+  data_excludes_serve h x d p =
       not_send_receive plans x (allowed_data plans eager h x d).0 (allowed_serve plans eager h x p).0
 
-  post_serve : (h : List Act) (x : OpId) → allowed plans eager h Post x ≡ true → allowed plans eager h Serve x ≡ true → ⊥
-  post_serve h x p s =
+  post_excludes_serve : (h : List Act) (x : OpId) → allowed plans eager h Post x ≡ true → allowed plans eager h Serve x ≡ true → ⊥
+  post_excludes_serve h x p s =
       let may_serve = allowed_serve plans eager h x s in
       let with = cases_some (partner (pairs plans h) x) (served_paired plans eager h x may_serve.1) in
       both_ways _ (allowed_fresh plans eager h Post x p) (partner_of_receive plans h x with.0 may_serve.0 with.1).posted
@@ -71,23 +71,23 @@ module _ (plans : List Plan) (eager : OpId → Bool) where
   one_allowed h Serve Serve x i p q = refl
   one_allowed h Data Data x i p q = refl
   one_allowed h Post Post x i p q = refl
-  one_allowed h Begin Arrive x i p q = absurd (begin_arrive h x p q)
-  one_allowed h Begin Data x i p q = absurd (begin_data h x i p q)
-  one_allowed h Begin Post x i p q = absurd (begin_post h x p q)
-  one_allowed h Begin Serve x i p q = absurd (begin_serve h x p q)
-  one_allowed h Arrive Begin x i p q = absurd (begin_arrive h x q p)
-  one_allowed h Arrive Data x i p q = absurd (arrive_data h x p q)
-  one_allowed h Arrive Post x i p q = absurd (arrive_post h x p q)
-  one_allowed h Arrive Serve x i p q = absurd (arrive_serve h x p q)
-  one_allowed h Data Begin x i p q = absurd (begin_data h x i q p)
-  one_allowed h Data Arrive x i p q = absurd (arrive_data h x q p)
-  one_allowed h Data Post x i p q = absurd (data_post h x p q)
-  one_allowed h Data Serve x i p q = absurd (data_serve h x p q)
-  one_allowed h Post Begin x i p q = absurd (begin_post h x q p)
-  one_allowed h Post Arrive x i p q = absurd (arrive_post h x q p)
-  one_allowed h Post Data x i p q = absurd (data_post h x q p)
-  one_allowed h Post Serve x i p q = absurd (post_serve h x p q)
-  one_allowed h Serve Begin x i p q = absurd (begin_serve h x q p)
-  one_allowed h Serve Arrive x i p q = absurd (arrive_serve h x q p)
-  one_allowed h Serve Data x i p q = absurd (data_serve h x q p)
-  one_allowed h Serve Post x i p q = absurd (post_serve h x q p)
+  one_allowed h Begin Arrive x i p q = absurd (begin_excludes_arrive h x p q)
+  one_allowed h Begin Data x i p q = absurd (begin_excludes_data h x i p q)
+  one_allowed h Begin Post x i p q = absurd (begin_excludes_post h x p q)
+  one_allowed h Begin Serve x i p q = absurd (begin_excludes_serve h x p q)
+  one_allowed h Arrive Begin x i p q = absurd (begin_excludes_arrive h x q p)
+  one_allowed h Arrive Data x i p q = absurd (arrive_excludes_data h x p q)
+  one_allowed h Arrive Post x i p q = absurd (arrive_excludes_post h x p q)
+  one_allowed h Arrive Serve x i p q = absurd (arrive_excludes_serve h x p q)
+  one_allowed h Data Begin x i p q = absurd (begin_excludes_data h x i q p)
+  one_allowed h Data Arrive x i p q = absurd (arrive_excludes_data h x q p)
+  one_allowed h Data Post x i p q = absurd (data_excludes_post h x p q)
+  one_allowed h Data Serve x i p q = absurd (data_excludes_serve h x p q)
+  one_allowed h Post Begin x i p q = absurd (begin_excludes_post h x q p)
+  one_allowed h Post Arrive x i p q = absurd (arrive_excludes_post h x q p)
+  one_allowed h Post Data x i p q = absurd (data_excludes_post h x q p)
+  one_allowed h Post Serve x i p q = absurd (post_excludes_serve h x p q)
+  one_allowed h Serve Begin x i p q = absurd (begin_excludes_serve h x q p)
+  one_allowed h Serve Arrive x i p q = absurd (arrive_excludes_serve h x q p)
+  one_allowed h Serve Data x i p q = absurd (data_excludes_serve h x q p)
+  one_allowed h Serve Post x i p q = absurd (post_excludes_serve h x q p)

@@ -3,7 +3,7 @@ use Rattle.std.proofs.Common.{ℕ, ◌<◌, ◌≡◌, ◌⊎◌, ◌==◌, ◌&
 use Rattle.std.proofs.lemmas.Bool.{cases_order, or_cases, and_parts, or_left, or_right, and_from}
 use Rattle.goal_graph.specs.declared.action.OpId.{OpId}
 use Rattle.goal_graph.specs.declared.action.Timed.{Timed}
-use Rattle.goal_graph.proofs.Actions.{place_same}
+use Rattle.goal_graph.proofs.Actions.{place_injective}
 use Rattle.goal_graph.specs.Order.{IsBefore, IsLess, key}
 use Rattle.goal_graph.specs.Keys.{less}
 
@@ -76,16 +76,16 @@ less_tested (m ∷ ms) (n ∷ ns) (inr p) =
 pub less_decides : (j k : List ℕ) → (less j k ≡ true) ↔ IsLess j k
 less_decides j k = (tested_less j k, less_tested j k)
 
-pub same_timed : (a b : Timed) → a.time ≡ b.time → a.class ≡ b.class → a.op.rank ≡ b.op.rank → a.op.op ≡ b.op.op → a ≡ b
-same_timed a b p q r s = λ i. record { time = p i; class = q i; op = record { rank = r i; op = s i } }
+pub timed_from_parts : (a b : Timed) → a.time ≡ b.time → a.class ≡ b.class → a.op.rank ≡ b.op.rank → a.op.op ≡ b.op.op → a ≡ b
+timed_from_parts a b p q r s = λ i. record { time = p i; class = q i; op = record { rank = r i; op = s i } }
 
 -- a key determines its action
 pub key-injective : (a b : Timed) → key a ≡ key b → a ≡ b
-key-injective a b e = same_timed a b (cc) (place_same a.class b.class (cc)) (cc) (cc)
+key-injective a b e = timed_from_parts a b (cc) (place_injective a.class b.class (cc)) (cc) (cc)
 
 -- two actions are the same, or one of their keys is less than the other
 pub key_cases : (a b : Timed) → (a ≡ b) ⊎ (IsLess (key a) (key b) ⊎ IsLess (key b) (key a))
 key_cases a b = elim (less_cases (key a) (key b) refl) [ inl e ↦ inl (key-injective a b e) | inr s ↦ inr s ]
 
-pub one_least : (a b : Timed) → ¬ (IsLess (key a) (key b)) → ¬ (IsLess (key b) (key a)) → a ≡ b
-one_least a b p q = elim (key_cases a b) [ inl e ↦ e | inr (inl s) ↦ absurd (p s) | inr (inr s) ↦ absurd (q s) ]
+pub least_unique : (a b : Timed) → ¬ (IsLess (key a) (key b)) → ¬ (IsLess (key b) (key a)) → a ≡ b
+least_unique a b p q = elim (key_cases a b) [ inl e ↦ e | inr (inl s) ↦ absurd (p s) | inr (inr s) ↦ absurd (q s) ]

@@ -12,7 +12,7 @@ use Rattle.goal_graph.specs.Matching.{Pair, pair_of, partner, is_paired, add_pai
 use Rattle.goal_graph.specs.Allowed.{allowed}
 use Rattle.goal_graph.specs.Interleaving.{IsInterleaving}
 use Rattle.goal_graph.specs.Laws.{HaveMet}
-use Rattle.goal_graph.proofs.Actions.{act_of, is_act_true, happened_none, same_op_true, same_op_itself, place_same, happened_stays, happened_now, happened_new, happened_cases, is_act_from}
+use Rattle.goal_graph.proofs.Actions.{act_of, is_act_true, happened_none, same_op_true, same_op_itself, place_injective, happened_stays, happened_newest, happened_new, happened_cases, is_act_from}
 use Rattle.goal_graph.proofs.Rules.{allowed_fresh, not_send_receive, fits_receive, fits_send}
 use Rattle.goal_graph.proofs.Persist.{is_some_from, partner_stays}
 
@@ -23,8 +23,8 @@ pub record IsFound (test : Act → Bool) (h : List Act) (y : OpId) : Type 0 wher
   pub passes : test act ≡ true
   pub happened : happened act.class act.op h ≡ true
 
-found_more : (test : Act → Bool) (a : Act) (h : List Act) (y : OpId) → IsFound test h y → IsFound test (a ∷ h) y
-found_more test a h y f = record {
+found_after_action : (test : Act → Bool) (a : Act) (h : List Act) (y : OpId) → IsFound test h y → IsFound test (a ∷ h) y
+found_after_action test a h y f = record {
   act = f.act;
   op = f.op;
   passes = f.passes;
@@ -37,8 +37,8 @@ oldest_some test [] y e = absurd (cc e)
 oldest_some test (a ∷ h) y e = go (oldest_some test h y) (oldest test h) refl (test a) refl e
   where
     go : (oldest test h ≡ Some y → IsFound test h y) → (o : Option OpId) → oldest test h ≡ o → (t : Bool) → test a ≡ t → option_or o (if t then Some a.op else None) ≡ Some y → IsFound test (a ∷ h) y
-    go before (Some z) p t q e = found_more test a h y (before (p ∙ e))
-    go before None p true q e = record { act = a; op = cc; passes = q; happened = happened_now a h }
+    go before (Some z) p t q e = found_after_action test a h y (before (p ∙ e))
+    go before None p true q e = record { act = a; op = cc; passes = q; happened = happened_newest a h }
     go before None p false q e = absurd (cc e)
 
 pub oldest_none : (test : Act → Bool) (h : List Act) → oldest test h ≡ None → (c : Class) (x : OpId) → happened c x h ≡ true → test (act_of c x) ≡ false
@@ -76,28 +76,28 @@ module _ (plans : List Plan) where
           let same = same_Some (pair_of m x) p e in
           (ap (λ (p : Pair). p.recv) same, oldest_some _ h p.send (q ∙ ap (λ (p : Pair). Some p.send) same))
 
-  receive_passes : (ps : List Pair) (m : OpId) (a : Act) → is_open_receive plans ps m a ≡ true → (a.class ≡ Post) × (is_paired ps a.op ≡ false) × (fits plans a.op m ≡ true)
-  receive_passes ps m a e =
+  open_receive_passes : (ps : List Pair) (m : OpId) (a : Act) → is_open_receive plans ps m a ≡ true → (a.class ≡ Post) × (is_paired ps a.op ≡ false) × (fits plans a.op m ≡ true)
+  open_receive_passes ps m a e =
       let outer = and_parts ((place a.class == 3) && not (is_paired ps a.op)) (fits plans a.op m) e in
       let inner = and_parts (place a.class == 3) (not (is_paired ps a.op)) outer.0 in
-      (place_same a.class Post (eqb-true (place a.class) 3 inner.0), not-true (is_paired ps a.op) inner.1, outer.1)
+      (place_injective a.class Post (eqb-true (place a.class) 3 inner.0), not-true (is_paired ps a.op) inner.1, outer.1)
 
-  send_passes : (ps : List Pair) (x : OpId) (a : Act) → is_open_send plans ps x a ≡ true → (a.class ≡ Arrive) × (is_paired ps a.op ≡ false) × (fits plans x a.op ≡ true)
-  send_passes ps x a e =
+  open_send_passes : (ps : List Pair) (x : OpId) (a : Act) → is_open_send plans ps x a ≡ true → (a.class ≡ Arrive) × (is_paired ps a.op ≡ false) × (fits plans x a.op ≡ true)
+  open_send_passes ps x a e =
       let outer = and_parts ((place a.class == 0) && not (is_paired ps a.op)) (fits plans x a.op) e in
       let inner = and_parts (place a.class == 0) (not (is_paired ps a.op)) outer.0 in
-      (place_same a.class Arrive (eqb-true (place a.class) 0 inner.0), not-true (is_paired ps a.op) inner.1, outer.1)
+      (place_injective a.class Arrive (eqb-true (place a.class) 0 inner.0), not-true (is_paired ps a.op) inner.1, outer.1)
 
   -- a posted receive that is open for m
   open_receive : (ps : List Pair) (h : List Act) (m x : OpId) → IsFound (is_open_receive plans ps m) h x → (happened Post x h ≡ true) × (is_paired ps x ≡ false) × (fits plans x m ≡ true)
   open_receive ps h m x f =
-      let p = receive_passes ps m f.act f.passes in
+      let p = open_receive_passes ps m f.act f.passes in
       subst (λ (y : OpId). (happened Post y h ≡ true) × (is_paired ps y ≡ false) × (fits plans y m ≡ true)) f.op (subst (λ (c : Class). happened c f.act.op h ≡ true) p.0 f.happened, p.1, p.2)
 
   -- an arrived send that is open for x
   open_send : (ps : List Pair) (h : List Act) (x m : OpId) → IsFound (is_open_send plans ps x) h m → (happened Arrive m h ≡ true) × (is_paired ps m ≡ false) × (fits plans x m ≡ true)
   open_send ps h x m f =
-      let p = send_passes ps x f.act f.passes in
+      let p = open_send_passes ps x f.act f.passes in
       subst (λ (y : OpId). (happened Arrive y h ≡ true) × (is_paired ps y ≡ false) × (fits plans x y ≡ true)) f.op (subst (λ (c : Class). happened c f.act.op h ≡ true) p.0 f.happened, p.1, p.2)
 
   -- the two operations of a new pair
@@ -135,10 +135,10 @@ abbrev pub IsListed : Pair → List Pair → Type 0
 IsListed p [] = ⊥
 IsListed p (q ∷ ps) = (q ≡ p) ⊎ IsListed p ps
 
-listed_added : (p : Pair) (o : Option Pair) (ps : List Pair) → IsListed p (add_pair ps o) → IsListed p ps ⊎ (o ≡ Some p)
-listed_added p None ps l = inl l
-listed_added p (Some q) ps (inl e) = inr (ap (λ (q : Pair). Some q) e)
-listed_added p (Some q) ps (inr l) = inl l
+listed_or_added : (p : Pair) (o : Option Pair) (ps : List Pair) → IsListed p (add_pair ps o) → IsListed p ps ⊎ (o ≡ Some p)
+listed_or_added p None ps l = inl l
+listed_or_added p (Some q) ps (inl e) = inr (ap (λ (q : Pair). Some q) e)
+listed_or_added p (Some q) ps (inr l) = inl l
 
 -- an operation and its partner are in a pair of the list
 pub partner_listed : (ps : List Pair) (x y : OpId) → partner ps x ≡ Some y → IsListed (pair_of x y) ps ⊎ IsListed (pair_of y x) ps
@@ -159,9 +159,9 @@ partner_listed (p ∷ ps) x y e = go (partner_listed ps x y) (partner ps x) refl
     go before None q false u false v e = absurd (cc e)
 
 -- a pair leaves the partners of others unchanged
-other_kept : (p : Pair) (ps : List Pair) (y : OpId) → same_op p.send y ≡ false → same_op p.recv y ≡ false → partner (p ∷ ps) y ≡ partner ps y
+partner_outside_pair : (p : Pair) (ps : List Pair) (y : OpId) → same_op p.send y ≡ false → same_op p.recv y ≡ false → partner (p ∷ ps) y ≡ partner ps y
 unfolding partner
-other_kept p ps y s r = go (partner ps y) (same_op p.send y) s (same_op p.recv y) r
+partner_outside_pair p ps y s r = go (partner ps y) (same_op p.send y) s (same_op p.recv y) r
   where
     go : (o : Option OpId) (b : Bool) → b ≡ false → (c : Bool) → c ≡ false → option_or o (if b then Some p.recv else (if c then Some p.send else None)) ≡ o
     go (Some z) b e c f = refl
@@ -172,11 +172,11 @@ other_kept p ps y s r = go (partner ps y) (same_op p.send y) s (same_op p.recv y
 module _ (plans : List Plan) where
   listed_cases : (p : Pair) (a : Act) (h : List Act) → IsListed p (pairs plans (a ∷ h)) → IsListed p (pairs plans h) ⊎ (new_pair plans (pairs plans h) h a.class a.op ≡ Some p)
   unfolding pairs
-  listed_cases p a h l = listed_added p (new_pair plans (pairs plans h) h a.class a.op) (pairs plans h) l
+  listed_cases p a h l = listed_or_added p (new_pair plans (pairs plans h) h a.class a.op) (pairs plans h) l
 
-  pairs_more : (p : Pair) (a : Act) (h : List Act) → new_pair plans (pairs plans h) h a.class a.op ≡ Some p → pairs plans (a ∷ h) ≡ p ∷ pairs plans h
+  pairs_with_new : (p : Pair) (a : Act) (h : List Act) → new_pair plans (pairs plans h) h a.class a.op ≡ Some p → pairs plans (a ∷ h) ≡ p ∷ pairs plans h
   unfolding pairs
-  pairs_more p a h e = ap (λ (o : Option Pair). add_pair (pairs plans h) o) e
+  pairs_with_new p a h e = ap (λ (o : Option Pair). add_pair (pairs plans h) o) e
 
   -- operations that have met have met ever after
   pub have_met_stays : (a : Act) (h : List Act) (m x : OpId) → HaveMet plans h m x → HaveMet plans (a ∷ h) m x
@@ -225,7 +225,7 @@ module _ (plans : List Plan) where
   -- a new pair leaves the partners of all others unchanged
   pub partner_other : (p : Pair) (a : Act) (h : List Act) (y : OpId) → new_pair plans (pairs plans h) h a.class a.op ≡ Some p → same_op p.send y ≡ false → same_op p.recv y ≡ false → partner (pairs plans (a ∷ h)) y ≡ partner (pairs plans h) y
   partner_other p a h y e s r =
-      ap (λ (ps : List Pair). partner ps y) (pairs_more p a h e) ∙ other_kept p (pairs plans h) y s r
+      ap (λ (ps : List Pair). partner ps y) (pairs_with_new p a h e) ∙ partner_outside_pair p (pairs plans h) y s r
 
   -- an operation that an action pairs is in its new pair
   pub newly_paired : (a : Act) (h : List Act) (x : OpId) → is_paired (pairs plans h) x ≡ false → is_paired (pairs plans (a ∷ h)) x ≡ true → (p : Pair) × (new_pair plans (pairs plans h) h a.class a.op ≡ Some p) × ((p.send ≡ x) ⊎ (p.recv ≡ x))
@@ -264,9 +264,9 @@ module _ (plans : List Plan) where
   fit_differ x m e =
       false_from_ne_true (same_op m x) (λ t. not_send_receive plans x (subst (λ (y : OpId). IsSend plans y) (same_op_true m x t) (fits_send plans x m e)) (fits_receive plans x m e))
 
-  partners_now : (ps : List Pair) (p : Pair) → partner ps p.send ≡ None → partner ps p.recv ≡ None → same_op p.send p.recv ≡ false → (partner (p ∷ ps) p.send ≡ Some p.recv) × (partner (p ∷ ps) p.recv ≡ Some p.send)
+  partners_in_new_pair : (ps : List Pair) (p : Pair) → partner ps p.send ≡ None → partner ps p.recv ≡ None → same_op p.send p.recv ≡ false → (partner (p ∷ ps) p.send ≡ Some p.recv) × (partner (p ∷ ps) p.recv ≡ Some p.send)
   unfolding partner
-  partners_now ps p e f differ =
+  partners_in_new_pair ps p e f differ =
       (at_send (partner ps p.send) e (same_op p.send p.send) (same_op_itself p.send), at_recv (partner ps p.recv) f (same_op p.send p.recv) differ (same_op p.recv p.recv) (same_op_itself p.recv))
     where
       at_send : (o : Option OpId) → o ≡ None → (s : Bool) → s ≡ true → option_or o (if s then Some p.recv else (if same_op p.recv p.send then Some p.send else None)) ≡ Some p.recv
@@ -300,7 +300,7 @@ module _ (plans : List Plan) where
     pub listed_partners : (h : List Act) (p : Pair) → IsInterleaving plans eager h → IsListed p (pairs plans h) → (partner (pairs plans h) p.send ≡ Some p.recv) × (partner (pairs plans h) p.recv ≡ Some p.send)
     listed_partners [] p i l = absurd (listed_none p l)
     listed_partners (a ∷ h) p i l =
-        ⊎_elim (λ was. let before = listed_partners h p i.0 was in (partner_stays plans a h p.send p.recv before.0, partner_stays plans a h p.recv p.send before.1)) (λ made. let new = new_pair_is plans a h p made in let free = new_unpaired a h p i new in subst (λ (ps : List Pair). (partner ps p.send ≡ Some p.recv) × (partner ps p.recv ≡ Some p.send)) (sym (pairs_more p a h made)) (partners_now (pairs plans h) p free.0 free.1 (fit_differ p.recv p.send new.met.fit))) (listed_cases p a h l)
+        ⊎_elim (λ was. let before = listed_partners h p i.0 was in (partner_stays plans a h p.send p.recv before.0, partner_stays plans a h p.recv p.send before.1)) (λ made. let new = new_pair_is plans a h p made in let free = new_unpaired a h p i new in subst (λ (ps : List Pair). (partner ps p.send ≡ Some p.recv) × (partner ps p.recv ≡ Some p.send)) (sym (pairs_with_new p a h made)) (partners_in_new_pair (pairs plans h) p free.0 free.1 (fit_differ p.recv p.send new.met.fit))) (listed_cases p a h l)
 
     -- the partner of the partner of x is x
     pub partners_mutual : (h : List Act) (x y : OpId) → IsInterleaving plans eager h → partner (pairs plans h) x ≡ Some y → partner (pairs plans h) y ≡ Some x
@@ -308,13 +308,13 @@ module _ (plans : List Plan) where
         ⊎_elim (λ l. (listed_partners h (pair_of x y) i l).1) (λ l. (listed_partners h (pair_of y x) i l).0) (partner_listed (pairs plans h) x y e)
 
     -- two pairs with one send are one pair
-    pub one_send : (h : List Act) (p q : Pair) → IsInterleaving plans eager h → IsListed p (pairs plans h) → IsListed q (pairs plans h) → p.send ≡ q.send → p ≡ q
-    one_send h p q i l k send =
+    pub pair_of_send_unique : (h : List Act) (p q : Pair) → IsInterleaving plans eager h → IsListed p (pairs plans h) → IsListed q (pairs plans h) → p.send ≡ q.send → p ≡ q
+    pair_of_send_unique h p q i l k send =
         let recv = same_Some p.recv q.recv (sym (listed_partners h p i l).0 ∙ ap (λ (x : OpId). partner (pairs plans h) x) send ∙ (listed_partners h q i k).0) in
         λ t. record { send = send t; recv = recv t }
 
     -- two pairs with one receive are one pair
-    pub one_receive : (h : List Act) (p q : Pair) → IsInterleaving plans eager h → IsListed p (pairs plans h) → IsListed q (pairs plans h) → p.recv ≡ q.recv → p ≡ q
-    one_receive h p q i l k recv =
+    pub pair_of_receive_unique : (h : List Act) (p q : Pair) → IsInterleaving plans eager h → IsListed p (pairs plans h) → IsListed q (pairs plans h) → p.recv ≡ q.recv → p ≡ q
+    pair_of_receive_unique h p q i l k recv =
         let send = same_Some p.send q.send (sym (listed_partners h p i l).1 ∙ ap (λ (x : OpId). partner (pairs plans h) x) recv ∙ (listed_partners h q i k).1) in
         λ t. record { send = send t; recv = recv t }

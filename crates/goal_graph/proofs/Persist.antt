@@ -15,7 +15,7 @@ use Rattle.goal_graph.specs.Schedule.{Plan, kind_at, needs, needed}
 use Rattle.goal_graph.specs.Action.{Act, is_act, happened}
 use Rattle.goal_graph.specs.Matching.{Pair, other_in, partner, is_paired, add_pair, new_pair, pairs}
 use Rattle.goal_graph.specs.Allowed.{first_class, last_class, has_started, has_ended, is_met, is_ready, is_served, may, allowed}
-use Rattle.goal_graph.proofs.Actions.{happened_stays, happened_other}
+use Rattle.goal_graph.proofs.Actions.{happened_stays, happened_unless_newest}
 
 pub is_some_from : {A : Type 0} (o : Option A) (y : A) → o ≡ Some y → is_some o ≡ true
 is_some_from o y e = subst (λ o. is_some o ≡ true) (sym e) refl
@@ -91,4 +91,4 @@ module _ (plans : List Plan) where
     unfolding allowed
     allowed_stays a h c x other e =
         let parts = and_parts _ _ e in
-        and_from _ _ (not_from_false _ (happened_other c x a h other ∙ not-true _ parts.0)) (may_stays a h c x (kind_at plans x) parts.1)
+        and_from _ _ (not_from_false _ (happened_unless_newest c x a h other ∙ not-true _ parts.0)) (may_stays a h c x (kind_at plans x) parts.1)

@@ -58,13 +58,13 @@ count_fault-none plans h =
     ranks_over n h = grind (arith, nat_tests)
 
 -- a test that would have given a fault has passed
-pub passed : (b : Bool) (fault : PlanFault) → (if b then None else Some fault) ≡ None → b ≡ true
-passed true fault h = refl
-passed false fault h = absurd (cc)
+pub no_fault_test_passed : (b : Bool) (fault : PlanFault) → (if b then None else Some fault) ≡ None → b ≡ true
+no_fault_test_passed true fault h = refl
+no_fault_test_passed false fault h = absurd (cc)
 
-passed_both : (a b : Bool) (first second : PlanFault) → (if a then (if b then None else Some second) else Some first) ≡ None → (a ≡ true) × (b ≡ true)
-passed_both true b first second h = (refl, passed b second h)
-passed_both false b first second h = absurd (cc)
+no_fault_tests_passed : (a b : Bool) (first second : PlanFault) → (if a then (if b then None else Some second) else Some first) ≡ None → (a ≡ true) × (b ≡ true)
+no_fault_tests_passed true b first second h = (refl, no_fault_test_passed b second h)
+no_fault_tests_passed false b first second h = absurd (cc)
 
 -- both operations of a dependency are operations of the rank
 pub dep_in_range-parts : (ops : ℕ) (d : Dep) → dep_in_range ops d ≡ true → (d.later < ops) × (d.earlier < ops)
@@ -86,12 +86,12 @@ module _ (plans : List Plan) (plain : plain_fault plans ≡ None) where
     -- its operations have values and peers within range
     pub plain-op : (k : ℕ) (d : Op) → k < length (get_or plans rank p).ops → let o = get_or (get_or plans rank p).ops k d in (value_fits o.kind o.nic ≡ true) × (has_peer (length plans) o.kind ≡ true)
     unfolding rank_fault
-    plain-op k d below = passed_both _ _ _ _ (first_fault-none (op_fault (length plans) rank) 0 (get_or plans rank p).ops (option_or-none _ _ plain-rank).0 k d below)
+    plain-op k d below = no_fault_tests_passed _ _ _ _ (first_fault-none (op_fault (length plans) rank) 0 (get_or plans rank p).ops (option_or-none _ _ plain-rank).0 k d below)
 
     -- its dependencies name operations of the rank
     pub plain-dep : (k : ℕ) (d : Dep) → k < length (get_or plans rank p).deps → dep_in_range (length (get_or plans rank p).ops) (get_or (get_or plans rank p).deps k d) ≡ true
     unfolding rank_fault
-    plain-dep k d below = passed _ _ (first_fault-none (dep_fault (length (get_or plans rank p).ops) rank) 0 (get_or plans rank p).deps (option_or-none _ _ (option_or-none _ _ plain-rank).1).0 k d below)
+    plain-dep k d below = no_fault_test_passed _ _ (first_fault-none (dep_fault (length (get_or plans rank p).ops) rank) 0 (get_or plans rank p).deps (option_or-none _ _ (option_or-none _ _ plain-rank).1).0 k d below)
 
   -- each dependency is in the row of an operation of its rank
   pub plain-owner : (listing : Listing) → All (λ (p : Plan). All (λ (d : Dep). owner listing d < length p.ops) p.deps) plans

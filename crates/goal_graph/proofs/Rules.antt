@@ -31,9 +31,9 @@ module _ (plans : List Plan) where
       clash : ◌≡◌ {A = Option Kind} (Some (Recv s.room s.from s.tag)) (Some (Calc r.nanos)) → ⊥
       clash e = cc e
 
-  pub fits_both : (x m : OpId) → fits plans x m ≡ true → IsReceive plans x × IsSend plans m
+  pub fits_receive_and_send : (x m : OpId) → fits plans x m ≡ true → IsReceive plans x × IsSend plans m
   unfolding fits
-  fits_both x m e = go (kind_at plans x) refl (kind_at plans m) refl e
+  fits_receive_and_send x m e = go (kind_at plans x) refl (kind_at plans m) refl e
     where
       go : (k : Option Kind) → kind_at plans x ≡ k → (l : Option Kind) → kind_at plans m ≡ l → fits_kinds x k m l ≡ true → IsReceive plans x × IsSend plans m
       go (Some (Recv room from tag)) p (Some (Send bytes to with_tag)) q f =
@@ -41,10 +41,10 @@ module _ (plans : List Plan) where
       go _ p _ q f = absurd (both_ways false refl f)
 
   pub fits_receive : (x m : OpId) → fits plans x m ≡ true → IsReceive plans x
-  fits_receive x m e = (fits_both x m e).0
+  fits_receive x m e = (fits_receive_and_send x m e).0
 
   pub fits_send : (x m : OpId) → fits plans x m ≡ true → IsSend plans m
-  fits_send x m e = (fits_both x m e).1
+  fits_send x m e = (fits_receive_and_send x m e).1
 
   module _ (eager : OpId → Bool) where
     pub allowed_fresh : (h : List Act) (c : Class) (x : OpId) → allowed plans eager h c x ≡ true → happened c x h ≡ false

@@ -13,7 +13,7 @@ use Rattle.goal_graph.specs.Fault.{HasDepth, IsOp, plain_fault}
 use Rattle.goal_graph.specs.Search.{op_id, is_among, unfinished, count_of, IsSearch, CoversRank, IsFirstMissing, IsFirstInRank}
 use Rattle.goal_graph.proofs.Numbers.{ne-eqb}
 use Rattle.goal_graph.proofs.Counts.{is_among-push, is_among-found, is_among-above, count_of-push, count_of-nil, count_of-rows, count_of-take-le, unfinished-push, unfinished-nil}
-use Rattle.goal_graph.proofs.Depths.{HasDepth-from_needs, blocked}
+use Rattle.goal_graph.proofs.Depths.{HasDepth-from_needs, needing_each_other_no_depth}
 use Rattle.goal_graph.proofs.Places.{no_plan, row-needs, row-waiting_on, IsOp-located, IsOp-below}
 use Rattle.goal_graph.proofs.Ranges.{waiting_on-in_range, needs-in_range}
 use Rattle.std.proofs.Math.Bool.{or-false, or-true}
@@ -110,8 +110,8 @@ module _ (plans : List Plan) (rank : ℕ) where
     step-count op = rw step-seen (count_of-push (take j waiting) w op)
 
     -- what is unfinished once the operation is finished
-    step-rest : (op : ℕ) → unfinished (take (done + 1) order) (needs plans (op_id rank op)) + count_of waiting op ≡ unfinished (take done order) (needs plans (op_id rank op))
-    step-rest op =
+    step-unfinished : (op : ℕ) → unfinished (take (done + 1) order) (needs plans (op_id rank op)) + count_of waiting op ≡ unfinished (take done order) (needs plans (op_id rank op))
+    step-unfinished op =
         rw (waiting_is, count_of-waiting_on op (get_or order done 0), take_more order done 0 next)
         (unfinished-push (take done order) (get_or order done 0) (needs plans (op_id rank op)) (s.once done next))
 
@@ -119,7 +119,7 @@ module _ (plans : List Plan) (rank : ℕ) where
     pub step-positive : 0 < get_or missing w.op 0
     step-positive =
         let this = rw (eq-eqb w.op w.op refl) at (step-count w.op) in
-        omega (arith, this, s.counted w.op in_rank, step-rest w.op, count_of-take-le waiting (j + 1) w.op)
+        omega (arith, this, s.counted w.op in_rank, step-unfinished w.op, count_of-take-le waiting (j + 1) w.op)
 
     step-counted : (op : ℕ) → op < length (set missing w.op (get_or missing w.op 0 - 1)) → get_or (set missing w.op (get_or missing w.op 0 - 1)) op 0 + count_of (take (j + 1) waiting) op ≡ unfinished (take done order) (needs plans (op_id rank op))
     step-counted op within = elim (cases_eq op w.op) [
@@ -161,7 +161,7 @@ module _ (plans : List Plan) (rank : ℕ) where
         let size = length-set missing w.op (get_or missing w.op 0 - 1) in
         let counted = step-counted w.op (omega (arith, in_rank)) in
         let this = rw (get_or-set_same missing w.op (get_or missing w.op 0 - 1) 0 in_rank) at counted in
-        let rest : unfinished (take (done + 1) order) (needs plans (op_id rank w.op)) ≡ 0 = omega (arith, this, none, step-rest w.op, count_of-take-le waiting (j + 1) w.op) in
+        let rest : unfinished (take (done + 1) order) (needs plans (op_id rank w.op)) ≡ 0 = omega (arith, this, none, step-unfinished w.op, count_of-take-le waiting (j + 1) w.op) in
         let depth = HasDepth-from_needs plans rank (take (done + 1) order) w.op (deep_among missing order done (done + 1) (take j waiting) s (omega (arith, next))) rest in
         record {
           counted = rw (take-append-le done order (w.op ∷ []) (omega (arith, next))) step-counted;
@@ -200,7 +200,7 @@ module _ (plans : List Plan) (rank : ℕ) where
     pub IsSearch-stuck : ((op : ℕ) → list_all (λ (d : Need). ltb d.op (length missing)) (needs plans (op_id rank op)) ≡ true) → (op : ℕ) → op < length missing → 0 < get_or missing op 0 → HasDepth plans (op_id rank op) → ⊥
     IsSearch-stuck in_range op inside some depth =
         let absent : is_among order op ≡ false = s.listed op inside ∙ ne-eqb (get_or missing op 0) 0 (λ e. omega arith) in
-        let no_bound = blocked plans rank order (length missing) waits in_range depth.bound op inside absent in
+        let no_bound = needing_each_other_no_depth plans rank order (length missing) waits in_range depth.bound op inside absent in
         false≢true (sym no_bound ∙ depth.below)
       where
         waits : (k : ℕ) → k < length missing → is_among order k ≡ false → 0 < unfinished order (needs plans (op_id rank k))

@@ -23,8 +23,8 @@ pub data KindOf (plans : List Plan) (x : OpId) : Type 0 where
   send : IsSend plans x → KindOf plans x
   receive : IsReceive plans x → KindOf plans x
 
-pub cases_kind : (plans : List Plan) (x : OpId) → KindOf plans x
-cases_kind plans x = go (kind_at plans x) refl
+pub kind_cases : (plans : List Plan) (x : OpId) → KindOf plans x
+kind_cases plans x = go (kind_at plans x) refl
   where
     go : (k : Option Kind) → kind_at plans x ≡ k → KindOf plans x
     go None e = absent e
@@ -66,8 +66,8 @@ module _ (plans : List Plan) where
     last_of_eager m k e =
         ap (last_class (eager m)) k.kind ∙ ap (λ (b : Bool). last_class b (Some (Send k.bytes k.to k.tag))) e
 
-    pub last_of_large : (m : OpId) → IsSend plans m → eager m ≡ false → last_class (eager m) (kind_at plans m) ≡ Data
-    last_of_large m k e =
+    pub last_of_rendezvous : (m : OpId) → IsSend plans m → eager m ≡ false → last_class (eager m) (kind_at plans m) ≡ Data
+    last_of_rendezvous m k e =
         ap (last_class (eager m)) k.kind ∙ ap (λ (b : Bool). last_class b (Some (Send k.bytes k.to k.tag))) e
 
     pub last_of_receive : (x : OpId) → IsReceive plans x → last_class (eager x) (kind_at plans x) ≡ Serve
@@ -79,8 +79,8 @@ module _ (plans : List Plan) where
     pub ended_eager : (h : List Act) (m : OpId) → IsSend plans m → eager m ≡ true → has_ended plans eager m h ≡ happened Begin m h
     ended_eager h m k e = ap (λ (c : Class). happened c m h) (last_of_eager m k e)
 
-    pub ended_large : (h : List Act) (m : OpId) → IsSend plans m → eager m ≡ false → has_ended plans eager m h ≡ happened Data m h
-    ended_large h m k e = ap (λ (c : Class). happened c m h) (last_of_large m k e)
+    pub ended_rendezvous : (h : List Act) (m : OpId) → IsSend plans m → eager m ≡ false → has_ended plans eager m h ≡ happened Data m h
+    ended_rendezvous h m k e = ap (λ (c : Class). happened c m h) (last_of_rendezvous m k e)
 
     pub ended_receive : (h : List Act) (x : OpId) → IsReceive plans x → has_ended plans eager x h ≡ happened Serve x h
     ended_receive h x k = ap (λ (c : Class). happened c x h) (last_of_receive x k)
@@ -113,7 +113,7 @@ module _ (plans : List Plan) where
 
     -- what has ended has started
     pub ended_started : (h : List Act) (x : OpId) → IsInterleaving plans eager h → has_ended plans eager x h ≡ true → has_started plans x h ≡ true
-    ended_started h x i e = go (cases_kind plans x)
+    ended_started h x i e = go (kind_cases plans x)
       where
         go : KindOf plans x → has_started plans x h ≡ true
         go (absent k) =
@@ -122,11 +122,11 @@ module _ (plans : List Plan) where
         go (receive k) =
             started_receive h x k ∙ serve_posted h x i (sym (ended_receive h x k) ∙ e)
         go (send k) =
-            elim (cases_Bool (eager x)) [ inl t ↦ started_send h x k ∙ sym (ended_eager h x k t) ∙ e | inr f ↦ started_send h x k ∙ data_begun h x i (sym (ended_large h x k f) ∙ e) ]
+            elim (cases_Bool (eager x)) [ inl t ↦ started_send h x k ∙ sym (ended_eager h x k t) ∙ e | inr f ↦ started_send h x k ∙ data_begun h x i (sym (ended_rendezvous h x k f) ∙ e) ]
 
     -- what has started was ready
     pub started_ready : (h : List Act) (x : OpId) → IsInterleaving plans eager h → has_started plans x h ≡ true → is_ready plans eager h x ≡ true
-    started_ready h x i e = go (cases_kind plans x)
+    started_ready h x i e = go (kind_cases plans x)
       where
         go : KindOf plans x → is_ready plans eager h x ≡ true
         go (absent k) =

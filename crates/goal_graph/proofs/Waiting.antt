@@ -14,23 +14,23 @@ use Rattle.goal_graph.proofs.Persist.{paired_stays}
 use Rattle.goal_graph.proofs.Partners.{oldest_none}
 
 -- an operation in the newest pair is paired
-paired_now : (ps : List Pair) (p : Pair) (x : OpId) → is_some (other_in p x) ≡ true → is_paired (p ∷ ps) x ≡ true
+paired_in_newest : (ps : List Pair) (p : Pair) (x : OpId) → is_some (other_in p x) ≡ true → is_paired (p ∷ ps) x ≡ true
 unfolding partner
-paired_now ps p x e = go (partner ps x) (other_in p x) e
+paired_in_newest ps p x e = go (partner ps x) (other_in p x) e
   where
     go : (o n : Option OpId) → is_some n ≡ true → is_some (option_or o n) ≡ true
     go (Some y) n e = refl
     go None n e = e
 
-sends_in : (m x : OpId) → is_some (other_in (pair_of m x) m) ≡ true
-sends_in m x = go (same_op m m) (same_op_itself m)
+send_in_pair : (m x : OpId) → is_some (other_in (pair_of m x) m) ≡ true
+send_in_pair m x = go (same_op m m) (same_op_itself m)
   where
     go : (s : Bool) → s ≡ true → is_some (if s then Some x else (if same_op x m then Some m else None)) ≡ true
     go true e = refl
     go false e = absurd (both_ways false refl e)
 
-receives_in : (m x : OpId) → is_some (other_in (pair_of m x) x) ≡ true
-receives_in m x = go (same_op m x) (same_op x x) (same_op_itself x)
+receive_in_pair : (m x : OpId) → is_some (other_in (pair_of m x) x) ≡ true
+receive_in_pair m x = go (same_op m x) (same_op x x) (same_op_itself x)
   where
     go : (r s : Bool) → s ≡ true → is_some (if r then Some x else (if s then Some m else None)) ≡ true
     go true s e = refl
@@ -49,7 +49,7 @@ module _ (plans : List Plan) where
       go : (o : Option OpId) → oldest (is_open_receive plans (pairs plans h) m) h ≡ o → is_paired (add_pair (pairs plans h) (option_map (λ y. pair_of m y) o)) m ≡ true
       go None e =
           absurd (both_ways _ (oldest_none (is_open_receive plans (pairs plans h) m) h e Post x p) passes)
-      go (Some y) e = paired_now (pairs plans h) (pair_of m y) m (sends_in m y)
+      go (Some y) e = paired_in_newest (pairs plans h) (pair_of m y) m (send_in_pair m y)
 
   -- a Post pairs its receive, if an arrived send that it fits was unpaired
   post_pairs : (h : List Act) (m x : OpId) → happened Arrive m h ≡ true → fits plans x m ≡ true → is_paired (pairs plans h) m ≡ false → is_paired (pairs plans (act_of Post x ∷ h)) x ≡ true
@@ -62,16 +62,16 @@ module _ (plans : List Plan) where
       go : (o : Option OpId) → oldest (is_open_send plans (pairs plans h) x) h ≡ o → is_paired (add_pair (pairs plans h) (option_map (λ y. pair_of y x) o)) x ≡ true
       go None e =
           absurd (both_ways _ (oldest_none (is_open_send plans (pairs plans h) x) h e Arrive m p) passes)
-      go (Some y) e = paired_now (pairs plans h) (pair_of y x) x (receives_in y x)
+      go (Some y) e = paired_in_newest (pairs plans h) (pair_of y x) x (receive_in_pair y x)
 
-  wait_more : (a : Act) (h : List Act) (m x : OpId) → fits plans x m ≡ true → ((happened Arrive m h ≡ true) ⊎ (is_act Arrive m a ≡ true)) → ((happened Post x h ≡ true) ⊎ (is_act Post x a ≡ true)) → (HaveMet plans h m x → (is_paired (pairs plans h) m ≡ true) ⊎ (is_paired (pairs plans h) x ≡ true)) → (is_paired (pairs plans (a ∷ h)) m ≡ true) ⊎ (is_paired (pairs plans (a ∷ h)) x ≡ true)
-  wait_more a h m x f (inl arrived) (inl posted) before =
+  never_both_wait_after_action : (a : Act) (h : List Act) (m x : OpId) → fits plans x m ≡ true → ((happened Arrive m h ≡ true) ⊎ (is_act Arrive m a ≡ true)) → ((happened Post x h ≡ true) ⊎ (is_act Post x a ≡ true)) → (HaveMet plans h m x → (is_paired (pairs plans h) m ≡ true) ⊎ (is_paired (pairs plans h) x ≡ true)) → (is_paired (pairs plans (a ∷ h)) m ≡ true) ⊎ (is_paired (pairs plans (a ∷ h)) x ≡ true)
+  never_both_wait_after_action a h m x f (inl arrived) (inl posted) before =
       ⊎_elim (λ e. inl (paired_stays plans a h m e)) (λ e. inr (paired_stays plans a h x e)) (before (record { arrived = arrived; posted = posted; fit = f }))
-  wait_more a h m x f (inr now) (inl posted) before =
+  never_both_wait_after_action a h m x f (inr now) (inl posted) before =
       elim (cases_Bool (is_paired (pairs plans h) x)) [ inl e ↦ inr (paired_stays plans a h x e) | inr free ↦ inl (subst (λ (b : Act). is_paired (pairs plans (b ∷ h)) m ≡ true) (sym (is_act_true Arrive m a now)) (arrive_pairs h m x posted f free)) ]
-  wait_more a h m x f (inl arrived) (inr now) before =
+  never_both_wait_after_action a h m x f (inl arrived) (inr now) before =
       elim (cases_Bool (is_paired (pairs plans h) m)) [ inl e ↦ inl (paired_stays plans a h m e) | inr free ↦ inr (subst (λ (b : Act). is_paired (pairs plans (b ∷ h)) x ≡ true) (sym (is_act_true Post x a now)) (post_pairs h m x arrived f free)) ]
-  wait_more a h m x f (inr now) (inr then') before =
+  never_both_wait_after_action a h m x f (inr now) (inr then') before =
       absurd (clash (sym (is_act_class Arrive m a now) ∙ is_act_class Post x a then'))
     where
       clash : ◌≡◌ {A = Class} Arrive Post → ⊥
@@ -80,4 +80,4 @@ module _ (plans : List Plan) where
   pub never_both_wait : (h : List Act) (m x : OpId) → HaveMet plans h m x → (is_paired (pairs plans h) m ≡ true) ⊎ (is_paired (pairs plans h) x ≡ true)
   never_both_wait [] m x met = absurd (both_ways _ (happened_none Arrive m) met.arrived)
   never_both_wait (a ∷ h) m x met =
-      wait_more a h m x met.fit (happened_cases Arrive m a h met.arrived) (happened_cases Post x a h met.posted) (never_both_wait h m x)
+      never_both_wait_after_action a h m x met.fit (happened_cases Arrive m a h met.arrived) (happened_cases Post x a h met.posted) (never_both_wait h m x)

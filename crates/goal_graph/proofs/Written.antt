@@ -6,7 +6,7 @@ use Rattle.goal_graph.specs.declared.action.OpId.{OpId}
 use Rattle.goal_graph.specs.Schedule.{Plan, operations}
 use Rattle.goal_graph.specs.Action.{same_op}
 use Rattle.goal_graph.proofs.Actions.{cases_op, same_op_from, same_op_true}
-use Rattle.goal_graph.proofs.Entries.{entry_at, other_place}
+use Rattle.goal_graph.proofs.Entries.{slice_get_mapped, other_place}
 use Rattle.goal_graph.specs.Entries.{with_entry, IsEntryOf, put_entry}
 
 put_table : {E : Type 0} (xs : List OpId) (y : OpId) (e : E) (f : OpId → E) → put_entry xs y e (map f xs) ≡ map (with_entry y e f) xs
@@ -31,30 +31,30 @@ put_at (z ∷ zs) y e (k ∷ ks) zero x d at here =
 put_at (z ∷ zs) y e (k ∷ ks) (suc slot) x d at here = put_at zs y e ks slot x d at here
 
 -- if y is not an operation, nothing changes
-put_nowhere : {E : Type 0} (xs : List OpId) (y : OpId) (e : E) (entries : List E) → ((j : ℕ) (x : OpId) → slice_get xs j ≡ Some x → same_op x y ≡ false) → put_entry xs y e entries ≡ entries
-put_nowhere [] y e entries none = refl
-put_nowhere (x ∷ xs) y e [] none = refl
-put_nowhere (x ∷ xs) y e (d ∷ ds) none =
-    ap₂ (λ k ks. k ∷ ks) (cond-false _ _ _ (none 0 x refl)) (put_nowhere xs y e ds (λ j z at. none (suc j) z at))
+put_outside_unchanged : {E : Type 0} (xs : List OpId) (y : OpId) (e : E) (entries : List E) → ((j : ℕ) (x : OpId) → slice_get xs j ≡ Some x → same_op x y ≡ false) → put_entry xs y e entries ≡ entries
+put_outside_unchanged [] y e entries none = refl
+put_outside_unchanged (x ∷ xs) y e [] none = refl
+put_outside_unchanged (x ∷ xs) y e (d ∷ ds) none =
+    ap₂ (λ k ks. k ∷ ks) (cond-false _ _ _ (none 0 x refl)) (put_outside_unchanged xs y e ds (λ j z at. none (suc j) z at))
 
-put_once : {E : Type 0} (xs : List OpId) (i : ℕ) (y : OpId) (e : E) (entries : List E) → slice_get xs i ≡ Some y → ((j : ℕ) (x : OpId) → slice_get xs j ≡ Some x → j ≢ i → same_op x y ≡ false) → put_entry xs y e entries ≡ set entries i e
-put_once [] i y e entries at others = absurd (cc)
-put_once (x ∷ xs) zero y e [] at others = refl
-put_once (x ∷ xs) (suc i) y e [] at others = refl
-put_once (x ∷ xs) zero y e (d ∷ ds) at others =
-    ap₂ (λ k ks. k ∷ ks) (cond-true _ _ _ (same_op_from x y (same_Some x y at))) (put_nowhere xs y e ds (λ j z there. others (suc j) z there (omega arith)))
-put_once (x ∷ xs) (suc i) y e (d ∷ ds) at others =
-    ap₂ (λ k ks. k ∷ ks) (cond-false _ _ _ (others 0 x refl (omega arith))) (put_once xs i y e ds at (λ j z there differ. others (suc j) z there (omega arith)))
+put_at_single_place : {E : Type 0} (xs : List OpId) (i : ℕ) (y : OpId) (e : E) (entries : List E) → slice_get xs i ≡ Some y → ((j : ℕ) (x : OpId) → slice_get xs j ≡ Some x → j ≢ i → same_op x y ≡ false) → put_entry xs y e entries ≡ set entries i e
+put_at_single_place [] i y e entries at others = absurd (cc)
+put_at_single_place (x ∷ xs) zero y e [] at others = refl
+put_at_single_place (x ∷ xs) (suc i) y e [] at others = refl
+put_at_single_place (x ∷ xs) zero y e (d ∷ ds) at others =
+    ap₂ (λ k ks. k ∷ ks) (cond-true _ _ _ (same_op_from x y (same_Some x y at))) (put_outside_unchanged xs y e ds (λ j z there. others (suc j) z there (omega arith)))
+put_at_single_place (x ∷ xs) (suc i) y e (d ∷ ds) at others =
+    ap₂ (λ k ks. k ∷ ks) (cond-false _ _ _ (others 0 x refl (omega arith))) (put_at_single_place xs i y e ds at (λ j z there differ. others (suc j) z there (omega arith)))
 
 -- an operation has one index, and its entry is written there
 pub put_as_set : {E : Type 0} (plans : List Plan) (i : ℕ) (y : OpId) (e : E) (entries : List E) → slice_get (operations plans) i ≡ Some y → put_entry (operations plans) y e entries ≡ set entries i e
 put_as_set plans i y e entries at =
-    put_once (operations plans) i y e entries at (λ j x there differ. false_from_ne_true (same_op x y) (λ t. other_place plans j i x y there at differ (same_op_true x y t)))
+    put_at_single_place (operations plans) i y e entries at (λ j x there differ. false_from_ne_true (same_op x y) (λ t. other_place plans j i x y there at differ (same_op_true x y t)))
 
 -- an entry of the table of f
 pub entry_in_table : {E : Type 0} (plans : List Plan) (entries : List E) (x : OpId) (e : E) (f : OpId → E) → IsEntryOf plans entries x e → entries ≡ map f (operations plans) → e ≡ f x
 entry_in_table plans entries x e f here table =
-    same_Some e (f x) (sym here.is_entry ∙ ap (λ es. slice_get es here.slot) table ∙ entry_at f (operations plans) here.slot x here.is_slot)
+    same_Some e (f x) (sym here.is_entry ∙ ap (λ es. slice_get es here.slot) table ∙ slice_get_mapped f (operations plans) here.slot x here.is_slot)
 
 -- an entry that is read at an index is there
 pub slice_get_at : {E : Type 0} (entries : List E) (i : ℕ) (e : E) → i < length entries → e ≡ get_or entries i e → slice_get entries i ≡ Some e

@@ -20,7 +20,7 @@ use Rattle.goal_graph.specs.Schedule.{Plan}
 use Rattle.goal_graph.specs.Fault.{IsAccepted, op_count, value_fits, has_peer, dep_in_range, note_fits, can_move, can_add, op_fault, dep_fault, note_fault, first_fault, rank_fault, count_fault, plain_fault}
 use Rattle.goal_graph.specs.Limits.{AreCountsWithin}
 use Rattle.goal_graph.specs.Widths.{IsKindInWidth, IsOpInWidth, IsNoteInWidth, IsPlanInWidth, AreInWidth}
-use Rattle.goal_graph.proofs.ForCallers.{option_or-none, passed}
+use Rattle.goal_graph.proofs.ForCallers.{option_or-none, no_fault_test_passed}
 use Rattle.goal_parser.specs.Plans.{empty_plan}
 use Rattle.goal_print.proofs.Lexes.{within}
 use Rattle.goal_print.proofs.Fits.{WildFits, KindFits, OpFits, DepFits, NoteFits, PlanFits}
@@ -108,10 +108,10 @@ unfolding rank_fault
 plan_fits ranks rank p none width few =
     let first = option_or-none (first_fault (op_fault ranks rank) 0 p.ops) _ none in
     let second = option_or-none (first_fault (dep_fault (length p.ops) rank) 0 p.deps) _ first.1 in
-    let deps = all_pass (dep_fault (length p.ops) rank) (DepFits (length p.ops)) (λ k d h. dep_fits (length p.ops) d (passed (dep_in_range (length p.ops) d) (DepRange rank k) h)) 0 p.deps second.0 in
+    let deps = all_pass (dep_fault (length p.ops) rank) (DepFits (length p.ops)) (λ k d h. dep_fits (length p.ops) d (no_fault_test_passed (dep_in_range (length p.ops) d) (DepRange rank k) h)) 0 p.deps second.0 in
     let notes =
     all_both (λ n. note_fits p.ops n ≡ true) IsNoteInWidth (NoteFits (length p.ops)) (note_fits_text p.ops) p.notes
-    (all_pass (note_fault p.ops rank) (λ n. note_fits p.ops n ≡ true) (λ k n h. passed (note_fits p.ops n) (NoteMisfit rank k) h) 0 p.notes second.1)
+    (all_pass (note_fault p.ops rank) (λ n. note_fits p.ops n ≡ true) (λ k n h. no_fault_test_passed (note_fits p.ops n) (NoteMisfit rank k) h) 0 p.notes second.1)
     (recursion_from_All IsNoteInWidth p.notes width.notes) in
     record {
       few = few;

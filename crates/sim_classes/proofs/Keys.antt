@@ -3,12 +3,12 @@ use Rattle.std.proofs.Common.{ℕ, ◌≡◌, ◌==◌, ◌&&◌, ◌<◌, ◌�
 use Rattle.std.specs.Ordering.{nat_cmp}
 use Rattle.std.specs.BTreeMap.{BTreeMap, get, is_at}
 use Rattle.std.proofs.lemmas.Bool.{and_parts, both_ways, eqb-true, false_from_ne_true, le-ltb, lt-ltb, ltb-true, ltb-false}
-use Rattle.goal_graph.proofs.ForCallers.{alike_numbers, eqb-swapped}
+use Rattle.goal_graph.proofs.ForCallers.{nat_cmp_is_eq, eqb-swapped}
 use Rattle.sim_classes.specs.Parts.{pair_key, pair_class_by}
 use Rattle.sim_classes.specs.Form.{with_pair_class}
 
 same_key : (a b x y : ℕ) → b < 4294967296 → y < 4294967296 → is_at (nat_cmp (pair_key a b)) (pair_key x y) ≡ ((x == a) && (y == b))
-same_key a b x y small low = alike_numbers (pair_key a b) (pair_key x y) ∙ eqb-swapped (pair_key a b) (pair_key x y) ∙ go (x == a) (y == b) refl refl
+same_key a b x y small low = nat_cmp_is_eq (pair_key a b) (pair_key x y) ∙ eqb-swapped (pair_key a b) (pair_key x y) ∙ go (x == a) (y == b) refl refl
   where
     go : (s t : Bool) → (x == a) ≡ s → (y == b) ≡ t → (pair_key x y == pair_key a b) ≡ (s && t)
     go true true e f = eq-eqb (pair_key x y) (pair_key a b) (omega (arith, eqb-true x a e, eqb-true y b f))

@@ -12,7 +12,7 @@ use Rattle.std.proofs.lemmas.Cmp.{nat_cmp_total, eq_by_cmp_equiv}
 use Rattle.std.proofs.lemmas.List.Sorted.{searchable_from_sorted}
 use Rattle.std.proofs.lemmas.Map.Entries.{lookup_from_place, place_from_lookup}
 use Rattle.std.proofs.lemmas.Map.Keys.{Less-from_sorted, IsDistinct-from_sorted, non_decreasing_from_sorted}
-use Rattle.goal_graph.proofs.ForCallers.{alike_numbers}
+use Rattle.goal_graph.proofs.ForCallers.{nat_cmp_is_eq}
 use Rattle.sim_classes.specs.Parts.{pair_key, pair_class_by}
 use Rattle.sim_classes.specs.Rows.{node_of, IsStart, AreStarts, IsRow}
 
@@ -25,7 +25,7 @@ node_of_key : (a b : ℕ) → b < 4294967296 → node_of (pair_key a b) ≡ a
 node_of_key a b low = omega (arith, low)
 
 same_number : (m n : ℕ) → is_eq (nat_cmp m n) ≡ true → m ≡ n
-same_number m n e = eqb-true m n (sym (alike_numbers m n) ∙ e)
+same_number m n e = eqb-true m n (sym (nat_cmp_is_eq m n) ∙ e)
 
 module _ (es : List (ℕ × ℕ)) (sorted : IsStrictlySortedBy nat_cmp (keys_of es)) where
   key_at : (k : ℕ) (e : ℕ × ℕ) → k < length es → get_or (keys_of es) k 0 ≡ (get_or es k e).0
@@ -81,7 +81,7 @@ module _ (es : List (ℕ × ℕ)) (sorted : IsStrictlySortedBy nat_cmp (keys_of 
             let place : start + (k - start) ≡ k = omega (arith, there.0) in
             let within : k - start < length part = omega (arith, there.0, there.1, part_length) in
             let is : get_or part (k - start) e ≡ e = part_at (k - start) e within ∙ ap (λ (n : ℕ). get_or es n e) place ∙ get_or_from_slice_get es k e e at in
-            let equal : is_eq (nat_cmp (get_or part (k - start) e).0 key) ≡ true = alike_numbers (get_or part (k - start) e).0 key ∙ eq-eqb (get_or part (k - start) e).0 key (ap (λ (x : ℕ × ℕ). x.0) is ∙ same) in
+            let equal : is_eq (nat_cmp (get_or part (k - start) e).0 key) ≡ true = nat_cmp_is_eq (get_or part (k - start) e).0 key ∙ eq-eqb (get_or part (k - start) e).0 key (ap (λ (x : ℕ × ℕ). x.0) is ∙ same) in
             elim (cases_lt (k - start) i) [
               | inl less ↦ both_ways _ (ap is_eq (parts.0 (k - start) e (omega arith) less)) equal
               | inr no_less ↦ both_ways _ (ap is_eq (parts.1 (k - start) e no_less within)) equal

@@ -17,7 +17,7 @@ use Rattle.goal_graph.specs.Action.{Act, happened}
 use Rattle.goal_graph.specs.Matching.{Pair, new_pair, add_pair, pairs, partner, is_paired}
 use Rattle.goal_graph.specs.Allowed.{first_class, last_class, is_met, is_ready, is_served, may, allowed}
 use Rattle.goal_graph.specs.Interleaving.{IsInterleaving}
-use Rattle.goal_graph.proofs.ForCallers.{contains_first, contains_more, act_of, happened_before, happened_cases, is_act_class, is_act_op, is_some_from, partner_stays, allowed_fresh, allowed_from, allowed_may, IsListed, listed_partners, new_pair_is, newly_paired, partners_mutual, ready_need, unready_need, still_left, none_left}
+use Rattle.goal_graph.proofs.ForCallers.{contains_first, contains_more, act_of, happened_before, happened_cases, is_act_class, is_act_op, is_some_from, partner_stays, allowed_fresh, allowed_from, allowed_may, IsListed, listed_partners, new_pair_is, newly_paired, partners_mutual, ready_need, unready_need, unread_after_next, nothing_after_end}
 use Rattle.sim_events.specs.Queue.{IsAwaiting, Awaits}
 use Rattle.sim_state.specs.Awaited.{gives}
 
@@ -148,7 +148,7 @@ module _ (items : List Need) (k : ℕ) (d : Need) (class : Class) (x y : OpId) w
   pub await_rest : k < length items → IsAwaiting (drop k items) class x y → ¬ (y ≡ needed x (get_or items k d)) → IsAwaiting (drop (k + 1) items) class x y
   await_rest l n differ = record {
     need = n.need;
-    listed = still_left items k d n.need l n.listed (λ e. differ (n.named ∙ ap (needed x) e));
+    listed = unread_after_next items k d n.need l n.listed (λ e. differ (n.named ∙ ap (needed x) e));
     named = n.named;
     given = n.given;
   }
@@ -157,10 +157,10 @@ module _ (items : List Need) (k : ℕ) (d : Need) (class : Class) (x y : OpId) w
   pub await_skipped : k < length items → gives class (get_or items k d).when ≡ false → IsAwaiting (drop k items) class x y → IsAwaiting (drop (k + 1) items) class x y
   await_skipped l other n = record {
     need = n.need;
-    listed = still_left items k d n.need l n.listed (λ e. both_ways _ other (ap (λ (m : Need). gives class m.when) (sym e) ∙ n.given));
+    listed = unread_after_next items k d n.need l n.listed (λ e. both_ways _ other (ap (λ (m : Need). gives class m.when) (sym e) ∙ n.given));
     named = n.named;
     given = n.given;
   }
 
   pub await_none : length items ≤ k → IsAwaiting (drop k items) class x y → ⊥
-  await_none l n = none_left items k n.need l n.listed
+  await_none l n = nothing_after_end items k n.need l n.listed

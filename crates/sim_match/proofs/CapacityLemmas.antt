@@ -16,7 +16,7 @@ use Rattle.sim_match.specs.declared.capacities.Capacity.{Capacity}
 use Rattle.sim_match.specs.Patterns.{same_number, pattern_of, list_number, numbers_for, list_of, lists_for, in_list, for_list}
 use Rattle.sim_match.specs.Capacities.{AreOnce, AreWithin, IsCounted, AreCounted, IsCapacity, AreCapacities}
 use Rattle.sim_match.proofs.Written.{slice_get_written, slice_get_elsewhere}
-use Rattle.goal_graph.proofs.ForCallers.{at_kind}
+use Rattle.goal_graph.proofs.ForCallers.{kind_of_found_op}
 
 abbrev one_if : Bool → ℕ
 one_if b = cond b 1 0
@@ -105,7 +105,7 @@ module _ (plans : List Plan) (keys : List Pattern) (ops : List OpId) (i : ℕ) (
   it = get_or ops i d
 
   kind : (k : Kind) → o.kind ≡ k → kind_at plans it ≡ Some k
-  kind k e = at_kind plans it o is ∙ ap (λ (k : Kind). Some k) e
+  kind k e = kind_of_found_op plans it o is ∙ ap (λ (k : Kind). Some k) e
 
   capacity_more : (list : ℕ) (old new : Capacity) → IsCapacity plans keys (take i ops) list old → (r s : Bool) → in_list plans keys list it ≡ r → for_list plans keys list it ≡ s → new.receives ≡ old.receives + cond r 1 0 → new.sends ≡ old.sends + cond s 1 0 → IsCapacity plans keys (take (i + 1) ops) list new
   capacity_more list old new was r s er es receives sends = record {

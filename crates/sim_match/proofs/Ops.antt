@@ -14,7 +14,7 @@ use Rattle.goal_graph.specs.declared.plan.Kind.TheVariants.{Calc, Send, Recv}
 use Rattle.goal_graph.specs.Schedule.{Plan, kind_at, operations, IsSend, IsReceive}
 use Rattle.goal_graph.specs.Action.{Act, place, happened, oldest}
 use Rattle.goal_graph.specs.Laws.{has_class}
-use Rattle.goal_graph.proofs.ForCallers.{place_same, is_act_class, is_act_op, is_act_from, happened_stays, happened_new, happened_now, happened_none, happened_cases, happened_before, kind_listed, count_falls, count_le}
+use Rattle.goal_graph.proofs.ForCallers.{place_injective, is_act_class, is_act_op, is_act_from, happened_stays, happened_new, happened_newest, happened_none, happened_cases, happened_before, kind_listed, count_falls, count_le}
 use Rattle.sim_match.specs.PostsAndArrivals.{is_post_or_arrival_class}
 use Rattle.sim_match.specs.Waiting.{ops_of, is_message, is_message_kind}
 use Rattle.sim_match.specs.Matcher.{IsNew, ArePostsAndArrivals}
@@ -47,7 +47,7 @@ ops_happened class (a ∷ h) =
     more (All-weaker (λ (x : OpId). happened class x h ≡ true) (λ (x : OpId). happened class x (a ∷ h) ≡ true) (λ x e. happened_stays class x a h e) (ops_of class h) (ops_happened class h)) (cases_Bool (place a.class == place class))
   where
     now : (place a.class == place class) ≡ true → happened class a.op (a ∷ h) ≡ true
-    now t = happened_new class a.op a h (is_act_from class a.op a (place_same a.class class (eqb-true _ _ t)) refl)
+    now t = happened_new class a.op a h (is_act_from class a.op a (place_injective a.class class (eqb-true _ _ t)) refl)
 
     more : All (λ (x : OpId). happened class x (a ∷ h) ≡ true) (ops_of class h) → (((place a.class == place class) ≡ true) ⊎ ((place a.class == place class) ≡ false)) → All (λ (x : OpId). happened class x (a ∷ h) ≡ true) (ops_of class (a ∷ h))
     more before (inl t) =
@@ -127,7 +127,7 @@ module _ (plans : List Plan) where
       more : count_by test (ops_of class h) + count_by (still_to_come test class h) (operations plans) ≤ count_by test (operations plans) → (((place a.class == place class) ≡ true) ⊎ ((place a.class == place class) ≡ false)) → ((test a.op ≡ true) ⊎ (test a.op ≡ false)) → count_by test (ops_of class (a ∷ h)) + count_by (still_to_come test class (a ∷ h)) (operations plans) ≤ count_by test (operations plans)
       more before (inl t) (inl pass) =
           let count = ap (λ (l : List OpId). count_by test l) (ops_same class a h t) ∙ one true pass in
-          let less = falls (place_same a.class class (eqb-true _ _ t)) pass in
+          let less = falls (place_injective a.class class (eqb-true _ _ t)) pass in
           omega (arith, before, count, less)
       more before (inl t) (inr fail) =
           let count = ap (λ (l : List OpId). count_by test l) (ops_same class a h t) ∙ one false fail in
@@ -183,7 +183,7 @@ module _ (plans : List Plan) where
       omega (arith, all)
   actions_within (a ∷ h) i =
       let before = actions_within h i.0 in
-      let turn = came a h a.class (kind_at plans a.op) i.1.class i.1.suited i.1.fresh (happened_now a h) in
+      let turn = came a h a.class (kind_at plans a.op) i.1.class i.1.suited i.1.fresh (happened_newest a h) in
       let falls = count_falls (λ (x : OpId). to_come h x (kind_at plans x)) (λ (x : OpId). to_come (a ∷ h) x (kind_at plans x)) (operations plans) a.op (suited_listed a.op a.class i.1.suited) (λ x e. to_come_before a h x (kind_at plans x) e) turn.1 turn.0 in
       omega (arith, before, falls)
 

@@ -8,7 +8,7 @@ use Rattle.goal_graph.specs.declared.action.Class.TheVariants.{Arrive, Post}
 use Rattle.goal_graph.specs.Schedule.{Plan, IsSend, IsReceive}
 use Rattle.goal_graph.specs.Action.{Act, place, same_op, happened, oldest}
 use Rattle.goal_graph.specs.Matching.{Pair, pair_of, other_in, fits, is_paired, is_open_receive, is_open_send, pairs, partner}
-use Rattle.goal_graph.proofs.ForCallers.{act_of, place_same, same_op_true, same_op_itself, not_send_receive, fits_send, IsFound, oldest_some, oldest_none, pairs_same, not_arrived, not_posted}
+use Rattle.goal_graph.proofs.ForCallers.{act_of, place_injective, same_op_true, same_op_itself, not_send_receive, fits_send, IsFound, oldest_some, oldest_none, pairs_same, not_arrived, not_posted}
 use Rattle.sim_match.specs.PostsAndArrivals.{send_for, receive_for, NoSendFits, NoReceiveFits}
 use Rattle.sim_match.proofs.Pairs.{pairs_with}
 
@@ -23,7 +23,7 @@ module _ (plans : List Plan) (h : List Act) where
   open_from class fit y f =
       let outer = and_parts ((place f.act.class == place class) && not (is_paired (pairs plans h) f.act.op)) (fit f.act.op) f.passes in
       let inner = and_parts (place f.act.class == place class) (not (is_paired (pairs plans h) f.act.op)) outer.0 in
-      let same = place_same f.act.class class (eqb-true (place f.act.class) (place class) inner.0) in
+      let same = place_injective f.act.class class (eqb-true (place f.act.class) (place class) inner.0) in
       subst (λ (z : OpId). IsOpen plans h class z fit) f.op (record {
         happened = subst (λ (c : Class). happened c f.act.op h ≡ true) same f.happened;
         free = not-true (is_paired (pairs plans h) f.act.op) inner.1;

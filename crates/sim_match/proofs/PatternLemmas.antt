@@ -15,7 +15,7 @@ use Rattle.goal_graph.specs.declared.plan.Kind.{Kind}
 use Rattle.goal_graph.specs.declared.plan.Kind.TheVariants.{Calc, Send, Recv}
 use Rattle.goal_graph.specs.Schedule.{Plan, kind_at, operations, IsSend, IsReceive}
 use Rattle.goal_graph.specs.Matching.{accepts, fits, fits_kinds}
-use Rattle.goal_graph.proofs.ForCallers.{alike_choices, alike_numbers, kind_listed, same_choice_true, same_choice_itself}
+use Rattle.goal_graph.proofs.ForCallers.{option_cmp_is_eq, nat_cmp_is_eq, kind_listed, same_choice_true, same_choice_itself}
 use Rattle.sim_match.specs.declared.pattern.Pattern.{Pattern}
 use Rattle.sim_match.specs.declared.pattern.Wild.{Wild}
 use Rattle.sim_match.specs.declared.pattern.Wild.TheVariants.{AnyTag, AnySource, Any}
@@ -34,7 +34,7 @@ same_pattern_true p q e =
 -- patterns are equal by their order exactly where they are the same
 pub alike_patterns : (p q : Pattern) → is_eq (pattern_cmp p q) ≡ same_pattern p q
 alike_patterns p q =
-    sym (tied_then (nat_cmp p.rank q.rank) _) ∙ ap₂ (λ (s t : Bool). s && t) (alike_numbers p.rank q.rank) (sym (tied_then (option_cmp nat_cmp p.from q.from) _) ∙ ap₂ (λ (s t : Bool). s && t) (alike_choices p.from q.from) (alike_choices p.tag q.tag))
+    sym (tied_then (nat_cmp p.rank q.rank) _) ∙ ap₂ (λ (s t : Bool). s && t) (nat_cmp_is_eq p.rank q.rank) (sym (tied_then (option_cmp nat_cmp p.from q.from) _) ∙ ap₂ (λ (s t : Bool). s && t) (option_cmp_is_eq p.from q.from) (option_cmp_is_eq p.tag q.tag))
 
 pub same_pattern_itself : (p : Pattern) → same_pattern p p ≡ true
 same_pattern_itself p =

@@ -8,7 +8,7 @@ use Rattle.goal_graph.specs.declared.action.Class.TheVariants.{Arrive, Serve, Da
 use Rattle.goal_graph.specs.Schedule.{Plan}
 use Rattle.goal_graph.specs.Action.{Act, place, is_act, happened, oldest}
 use Rattle.goal_graph.specs.Matching.{Pair, pair_of, fits, is_paired, is_open_receive, is_open_send, add_pair, new_pair, pairs}
-use Rattle.goal_graph.proofs.ForCallers.{place_same, is_act_class, happened_other}
+use Rattle.goal_graph.proofs.ForCallers.{place_injective, is_act_class, happened_unless_newest}
 use Rattle.sim_match.specs.PostsAndArrivals.{is_post_or_arrival, is_post_or_arrival_class, send_for, receive_for}
 
 -- one more post or arrival, and one more of another action
@@ -40,13 +40,13 @@ module _ (plans : List Plan) where
   open_receive_filtered ps m a e =
       let outer = and_parts ((place a.class == 3) && not (is_paired ps a.op)) (fits plans a.op m) e in
       let inner = and_parts (place a.class == 3) (not (is_paired ps a.op)) outer.0 in
-      ap is_post_or_arrival_class (place_same a.class Post (eqb-true (place a.class) 3 inner.0))
+      ap is_post_or_arrival_class (place_injective a.class Post (eqb-true (place a.class) 3 inner.0))
 
   pub open_send_filtered : (ps : List Pair) (x : OpId) (a : Act) → is_open_send plans ps x a ≡ true → is_post_or_arrival a ≡ true
   open_send_filtered ps x a e =
       let outer = and_parts ((place a.class == 0) && not (is_paired ps a.op)) (fits plans x a.op) e in
       let inner = and_parts (place a.class == 0) (not (is_paired ps a.op)) outer.0 in
-      ap is_post_or_arrival_class (place_same a.class Arrive (eqb-true (place a.class) 0 inner.0))
+      ap is_post_or_arrival_class (place_injective a.class Arrive (eqb-true (place a.class) 0 inner.0))
 
   -- with the same pairs before
   new_pair_same : (ps : List Pair) (h : List Act) (class : Class) (x : OpId) → new_pair plans ps (filter is_post_or_arrival h) class x ≡ new_pair plans ps h class x
@@ -99,4 +99,4 @@ happened_filtered class x (a ∷ h) e = go (happened_filtered class x h e) (case
         ap (happened class x) (filtered_more a h t) ∙ ap (λ (b : Bool). b || is_act class x a) rest
     go rest (inr f) =
         let other = false_from_ne_true (is_act class x a) (λ p. both_ways (is_post_or_arrival a) f (ap is_post_or_arrival_class (is_act_class class x a p) ∙ e)) in
-        ap (happened class x) (filtered_same a h f) ∙ rest ∙ sym (happened_other class x a h other)
+        ap (happened class x) (filtered_same a h f) ∙ rest ∙ sym (happened_unless_newest class x a h other)

@@ -15,7 +15,7 @@ use Rattle.goal_graph.specs.Fault.{IsOp}
 use Rattle.goal_graph.specs.Action.{Act, place, same_op, happened}
 use Rattle.goal_graph.specs.Matching.{Pair, pair_of, fits, is_paired, new_pair, pairs}
 use Rattle.goal_graph.specs.Laws.{has_class}
-use Rattle.goal_graph.proofs.ForCallers.{op_of_kind, pairs_same, place_same, same_op_from, cases_op, same_op_true, same_op_itself, same_op_swapped, not_send_receive, not_arrived, not_posted, happened_before}
+use Rattle.goal_graph.proofs.ForCallers.{op_of_kind, pairs_same, place_injective, same_op_from, cases_op, same_op_true, same_op_itself, same_op_swapped, not_send_receive, not_arrived, not_posted, happened_before}
 use Rattle.sim_match.specs.declared.pattern.Pattern.{Pattern}
 use Rattle.sim_match.specs.Patterns.{same_number, own_list, list_of, AreListed}
 use Rattle.sim_match.specs.ListNumbers.{coded, AreNamed}
@@ -127,7 +127,7 @@ unfolding ops_of
 ops_differ plans [] c are = λ i j d l b. absurd (omega arith)
 ops_differ plans (a ∷ h) c are = elim (cases_Bool (place a.class == place c)) [
   | inl t ↦
-      let same : a.class ≡ c = place_same a.class c (eqb-true _ _ t) in
+      let same : a.class ≡ c = place_injective a.class c (eqb-true _ _ t) in
       let fresh : happened c a.op h ≡ false = subst (λ (d : Class). happened d a.op h ≡ false) same are.1.fresh in
       subst (AllPairs (λ (x z : OpId). x ≢ z)) (sym (ops_same c a h t)) (all_pairs_push (λ (x z : OpId). x ≢ z) (ops_of c h) a.op (ops_differ plans h c are.0) (λ k d b e. both_ways _ (ops_apart plans h are.0 c a.op fresh k d b) (same_op_from a.op _ (sym e))))
   | inr f ↦ subst (AllPairs (λ (x z : OpId). x ≢ z)) (sym (ops_other c a h f)) (ops_differ plans h c are.0)

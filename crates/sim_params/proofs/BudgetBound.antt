@@ -12,7 +12,7 @@ use Rattle.goal_graph.specs.Schedule.{Plan, kind_at, operations, IsSend, IsRecei
 use Rattle.goal_graph.specs.Action.{happened, plain, plain_act}
 use Rattle.goal_graph.specs.Matching.{pairs, is_paired}
 use Rattle.goal_graph.specs.Allowed.{is_served, may, allowed}
-use Rattle.goal_graph.proofs.ForCallers.{happened_stays, happened_now, allowed_may, allowed_fresh, allowed_serve, fits_send, partner_of_receive, partners_mutual, kind_listed, allowed_listed, sum_falls}
+use Rattle.goal_graph.proofs.ForCallers.{happened_stays, happened_newest, allowed_may, allowed_fresh, allowed_serve, fits_send, partner_of_receive, partners_mutual, kind_listed, allowed_listed, sum_falls}
 use Rattle.sim_params.specs.Costs.{CostModel, over, over_one, gap, gap_one, flight, latency, is_eager}
 use Rattle.sim_params.specs.Times.{at_partner, mate, cpu_hold, tx_hold, rx_hold, Possible}
 use Rattle.sim_params.specs.Budget.{message_share, request_share, share_of, share, budget}
@@ -70,7 +70,7 @@ module _ (plans : List Plan) (costs : CostModel) where
 
   now_happened : (a : Timed) (h : List Timed) → happened a.class a.op (plain (a ∷ h)) ≡ true
   unfolding plain
-  now_happened a h = happened_now (plain_act a) (plain h)
+  now_happened a h = happened_newest (plain_act a) (plain h)
 
   taken_kept : (a : Timed) (h : List Timed) (x : OpId) → taken h (mate plans costs h x) ≡ true → taken (a ∷ h) (mate plans costs (a ∷ h) x) ≡ true
   taken_kept a h x e = go (mate plans costs h x) refl e

@@ -10,7 +10,7 @@ use Rattle.goal_graph.specs.Action.{plain, plain_act}
 use Rattle.goal_graph.specs.Allowed.{allowed}
 use Rattle.goal_graph.specs.Interleaving.{IsInterleaving}
 use Rattle.goal_graph.specs.Laws.{left}
-use Rattle.goal_graph.proofs.ForCallers.{find_class, allowed_listed, one_allowed, left_falls, less_irreflexive, less_transitive, key_cases, same_timed}
+use Rattle.goal_graph.proofs.ForCallers.{find_class, allowed_listed, one_allowed, left_falls, less_irreflexive, less_transitive, key_cases, timed_from_parts}
 use Rattle.sim_params.specs.Costs.{CostModel, is_eager}
 use Rattle.sim_params.specs.Times.{time, Possible}
 use Rattle.goal_graph.specs.Order.{IsLess, key}
@@ -36,7 +36,7 @@ module _ (plans : List Plan) (costs : CostModel) where
   only_one : (h : List Timed) (c : Class) (x : OpId) → IsInterleaving plans (is_eager plans costs) (plain h) → allowed plans (is_eager plans costs) (plain h) c x ≡ true → NoneBefore h (at_its_time plans costs h c x) x
   only_one h c x i e b p q before =
       let class : b.class ≡ c = one_allowed plans (is_eager plans costs) (plain h) b.class c b.op i q.allowed (subst (λ y. allowed plans (is_eager plans costs) (plain h) c y ≡ true) (sym p) e) in
-      let same : b ≡ at_its_time plans costs h c x = same_timed b (at_its_time plans costs h c x) (q.time ∙ ap₂ (time plans costs h) class p) class (ap (λ (y : OpId). y.rank) p) (ap (λ (y : OpId). y.op) p) in
+      let same : b ≡ at_its_time plans costs h c x = timed_from_parts b (at_its_time plans costs h c x) (q.time ∙ ap₂ (time plans costs h) class p) class (ap (λ (y : OpId). y.rank) p) (ap (λ (y : OpId). y.op) p) in
       less_irreflexive (key b) (subst (λ a. IsLess (key b) (key a)) (sym same) before)
 
   of_one : (h : List Timed) (x : OpId) → IsInterleaving plans (is_eager plans costs) (plain h) → ((a : Timed) × Possible plans costs h a × NoneBefore h a x) ⊎ HasNone h x

@@ -9,12 +9,12 @@ use Rattle.sim_params.specs.Times.{Possible}
 use Rattle.goal_graph.specs.Order.{IsLess, key}
 use Rattle.sim_params.specs.Run.{IsNext}
 use Rattle.sim_params.specs.Laws.{HasBound, IsLeastIn}
-use Rattle.goal_graph.proofs.ForCallers.{less_transitive, same_timed}
+use Rattle.goal_graph.proofs.ForCallers.{less_transitive, timed_from_parts}
 
 -- the key of an entry for an action is at most that of the action
 bound_before : (e b : Timed) → e.class ≡ b.class → e.op ≡ b.op → e.time ≤ b.time → (e ≡ b) ⊎ IsLess (key e) (key b)
 bound_before e b c o le =
-    elim (cases_eq e.time b.time) [ inl s ↦ inl (same_timed e b s c (ap (λ (x : OpId). x.rank) o) (ap (λ (x : OpId). x.op) o)) | inr s ↦ inr (inl (omega arith)) ]
+    elim (cases_eq e.time b.time) [ inl s ↦ inl (timed_from_parts e b s c (ap (λ (x : OpId). x.rank) o) (ap (λ (x : OpId). x.op) o)) | inr s ↦ inr (inl (omega arith)) ]
 
 module _ (plans : List Plan) (costs : CostModel) (InQueue : Timed → Type 0) where
   pub least_is_next : (h : List Timed) (a : Timed) → ((b : Timed) → Possible plans costs h b → HasBound InQueue b) → IsLeastIn InQueue a → Possible plans costs h a → IsNext plans costs h a

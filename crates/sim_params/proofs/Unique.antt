@@ -6,12 +6,12 @@ use Rattle.goal_graph.specs.Schedule.{Plan}
 use Rattle.sim_params.specs.Costs.{CostModel}
 use Rattle.sim_params.specs.Times.{Possible}
 use Rattle.sim_params.specs.Run.{IsNext, IsRun, IsCompleteRun}
-use Rattle.goal_graph.proofs.ForCallers.{one_least}
+use Rattle.goal_graph.proofs.ForCallers.{least_unique}
 
 module _ (plans : List Plan) (costs : CostModel) where
   -- at most one action is next
   pub one_next : (h : List Timed) (a b : Timed) → IsNext plans costs h a → IsNext plans costs h b → a ≡ b
-  one_next h a b n m = one_least a b (m.least a n.possible) (n.least b m.possible)
+  one_next h a b n m = least_unique a b (m.least a n.possible) (n.least b m.possible)
 
   -- two runs of the same length are the same
   pub one_of_length : (h k : List Timed) → length h ≡ length k → IsRun plans costs h → IsRun plans costs k → h ≡ k

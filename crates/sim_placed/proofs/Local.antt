@@ -6,7 +6,7 @@ use Rattle.goal_graph.specs.declared.action.OpId.{OpId}
 use Rattle.goal_graph.specs.declared.action.Timed.{Timed}
 use Rattle.goal_graph.specs.declared.action.Class.{Class}
 use Rattle.goal_graph.specs.Action.{is_act, happened, plain, plain_act}
-use Rattle.goal_graph.proofs.ForCallers.{happened_stays, happened_cases, happened_none, happened_other, happened_new, is_act_op}
+use Rattle.goal_graph.proofs.ForCallers.{happened_stays, happened_cases, happened_none, happened_unless_newest, happened_new, is_act_op}
 use Rattle.sim_params.specs.Times.{since}
 use Rattle.sim_params.proofs.ForCallers.{since_kept, since_new}
 use Rattle.sim_placed.proofs.Tails.{IsTail, whole, newer, on_rank, on_here, on_other, Below, Rises}
@@ -37,7 +37,7 @@ has_happened_new c x a h e = happened_new c x (plain_act a) (plain h) e
 has_happened_other : (c : Class) (x : OpId) (a : Timed) (h : List Timed) → (a.op.rank ≡ x.rank → ⊥) → has_happened c x (a ∷ h) ≡ has_happened c x h
 unfolding plain
 has_happened_other c x a h ne =
-    happened_other c x (plain_act a) (plain h) (false_from_ne_true _ (λ t. ne (ap (λ (y : OpId). y.rank) (is_act_op c x (plain_act a) t))))
+    happened_unless_newest c x (plain_act a) (plain h) (false_from_ne_true _ (λ t. ne (ap (λ (y : OpId). y.rank) (is_act_op c x (plain_act a) t))))
 
 has_happened_same : (c : Class) (x : OpId) (a : Timed) (h u : List Timed) → has_happened c x h ≡ has_happened c x u → has_happened c x (a ∷ h) ≡ has_happened c x (a ∷ u)
 unfolding plain happened

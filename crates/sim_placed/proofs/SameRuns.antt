@@ -14,7 +14,7 @@ use Rattle.goal_graph.specs.Action.{place, is_act, happened, plain, plain_act}
 use Rattle.goal_graph.specs.Matching.{accepts, fits_kinds, fits}
 use Rattle.goal_graph.specs.Allowed.{first_class, last_class, is_served, may, allowed}
 use Rattle.goal_graph.specs.Laws.{IsApart}
-use Rattle.goal_graph.proofs.ForCallers.{fits_send, allowed_data, allowed_serve, allowed_arrive, allowed_from, arrived_begun, data_paired, cases_some, is_act_class, is_act_op, place_same}
+use Rattle.goal_graph.proofs.ForCallers.{fits_send, allowed_data, allowed_serve, allowed_arrive, allowed_from, arrived_begun, data_paired, cases_some, is_act_class, is_act_op, place_injective}
 use Rattle.sim_params.specs.Costs.{CostModel, flight, flight_one, latency, is_eager}
 use Rattle.sim_params.specs.Times.{since, mate, start, end, paired_at, there_at, time_of, time, Possible}
 use Rattle.sim_params.specs.Run.{IsNext, IsRun, IsCompleteRun}
@@ -378,7 +378,7 @@ module _ (plans : List Plan) (costs : CostModel) (apart : IsApart plans) (takes 
               let e : Timed = record { time = time_happened Arrive m q; class = Arrive; op = m } in
               let possible = arrival p q a.time part_a part_q (older_tail a p tail_a) b.op m s fit ne there (omega (arith, when)) fresh in
               let low : place a.class ≤ 0 = ⊎_elim (λ less. absurd (next_a.least e possible (inr (when, inl less)))) (λ le. le) (cases_lt 0 (place a.class)) in
-              let class_a = place_same a.class Arrive (omega (arith, low)) in
+              let class_a = place_injective a.class Arrive (omega (arith, low)) in
               let possible_a = moved plans costs apart h each_h q p part_q part_a a.op same_back a.class a.time (arrive_crosses class_a) next_a.possible in
               let least = place_least a possible_a (sym same_time) in
               let one = serve_place b.class is in
@@ -421,7 +421,7 @@ module _ (plans : List Plan) (costs : CostModel) (apart : IsApart plans) (takes 
           -- so they are one action
           same_action : a ≡ b
           same_action =
-              let class = place_same a.class b.class same_class in
+              let class = place_injective a.class b.class same_class in
               λ i. record { time = same_time i; class = class i; op = record { rank = rank_a i; op = same_number i } }
 
           below_next : Below (b ∷ q) h

@@ -15,7 +15,7 @@ use Rattle.goal_graph.specs.Matching.{pairs, is_paired}
 use Rattle.goal_graph.specs.Allowed.{first_class, last_class, has_started, is_ready, may, allowed}
 use Rattle.goal_graph.specs.Interleaving.{IsInterleaving}
 use Rattle.goal_graph.specs.Laws.{IsCalc}
-use Rattle.goal_graph.proofs.ForCallers.{happened_other, happened_new, is_act_from, arrived_begun, count-cons, fits_receive, fits_send, is_some_from, allowed_fresh, partners_met, started_receive, started_send, started_stays}
+use Rattle.goal_graph.proofs.ForCallers.{happened_unless_newest, happened_new, is_act_from, arrived_begun, count-cons, fits_receive, fits_send, is_some_from, allowed_fresh, partners_met, started_receive, started_send, started_stays}
 use Rattle.sim_params.specs.Costs.{CostModel, flight, flight_one, is_eager}
 use Rattle.sim_params.specs.Times.{mate, cpu_hold, start, paired_at, time_of, time, Possible}
 use Rattle.sim_params.specs.Run.{IsRun}
@@ -74,7 +74,7 @@ module _ (plans : List Plan) (costs : CostModel) (h : List Timed) (a : Timed) wh
 
   pub happened_same : (c : Class) (x : OpId) → is_act c x (plain_act a) ≡ false → happened c x (plain (a ∷ h)) ≡ happened c x (plain h)
   unfolding plain
-  happened_same c x e = happened_other c x (plain_act a) (plain h) e
+  happened_same c x e = happened_unless_newest c x (plain_act a) (plain h) e
 
   pub happened_this : (c : Class) → a.class ≡ c → happened c a.op (plain (a ∷ h)) ≡ true
   unfolding plain

@@ -13,7 +13,7 @@ use Rattle.goal_graph.specs.Action.{happened, plain}
 use Rattle.goal_graph.specs.Matching.{pairs, is_paired}
 use Rattle.goal_graph.specs.Allowed.{first_class, has_started, has_ended, is_ready, is_served, may, allowed}
 use Rattle.goal_graph.specs.Laws.{IsCalc}
-use Rattle.goal_graph.proofs.ForCallers.{partner_is_send, allowed_fresh, allowed_may, allowed_from, allowed_data, allowed_serve, arrived_begun, cases_some, first_of_calc, first_of_send, first_of_receive, ended_receive, last_of_eager, last_of_large}
+use Rattle.goal_graph.proofs.ForCallers.{partner_is_send, allowed_fresh, allowed_may, allowed_from, allowed_data, allowed_serve, arrived_begun, cases_some, first_of_calc, first_of_send, first_of_receive, ended_receive, last_of_eager, last_of_rendezvous}
 use Rattle.sim_params.specs.Costs.{CostModel, is_eager, eager_of, latency, flight}
 use Rattle.sim_params.specs.Times.{since, mate, ready, cpu, tx, rx, paired_at, there_at, time_of, time}
 use Rattle.sim_params.specs.Run.{IsRun}
@@ -109,7 +109,7 @@ module _ (plans : List Plan) (costs : CostModel) (h : List Timed) (x : OpId) whe
   -- a rendezvous send ends as it transfers its data
   large_end : IsSend plans x → is_eager plans costs x ≡ false → (e : OpState) → e ≡ entry_known plans costs h x → happened Data x (plain h) ≡ is_some e.times.end
   large_end k large e told =
-      sym (ap (λ (c : Class). happened c x (plain h)) (last_of_large plans (is_eager plans costs) x k large)) ∙ end_told e told
+      sym (ap (λ (c : Class). happened c x (plain h)) (last_of_rendezvous plans (is_eager plans costs) x k large)) ∙ end_told e told
 
   -- nothing more of that class once it has started, nor while something that it needs is not there
   pub begun_not_enabled : (c : Class) → BeginsBy c → has_started plans x (plain h) ≡ true → None ≡ enabled_action plans costs h c x

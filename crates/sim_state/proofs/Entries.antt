@@ -11,7 +11,7 @@ use Rattle.goal_graph.specs.Fault.{IsOp}
 use Rattle.goal_graph.specs.Action.{place, same_op, is_act, happened, plain, plain_act}
 use Rattle.goal_graph.specs.Allowed.{first_class, last_class, has_started, allowed}
 use Rattle.goal_graph.specs.Laws.{IsCalc}
-use Rattle.goal_graph.proofs.ForCallers.{allowed_data, cases_op, is_act_class, same_op_true, not_arrived, not_send_receive, first_of_calc, first_of_send, first_of_receive, last_of_calc, last_of_eager, last_of_large, last_of_receive, same_tables, at_entry, off_entry, entry_written, same_op_swapped, send_is_op, receive_is_op}
+use Rattle.goal_graph.proofs.ForCallers.{allowed_data, cases_op, is_act_class, same_op_true, not_arrived, not_send_receive, first_of_calc, first_of_send, first_of_receive, last_of_calc, last_of_eager, last_of_rendezvous, last_of_receive, same_tables, with_entry_same, with_entry_other, entry_written, same_op_swapped, send_is_op, receive_is_op}
 use Rattle.sim_params.specs.Costs.{CostModel, flight, flight_one, is_eager}
 use Rattle.sim_params.specs.Times.{mate, cpu_hold, Possible}
 use Rattle.sim_params.specs.Run.{IsRun}
@@ -52,11 +52,11 @@ pair_written y m at e f g differ here there others = entry_written m _ first g s
 
     second : g m ≡ paired_with y at (first m)
     second =
-        there ∙ ap (paired_with y at) (sym (off_entry y _ base m (same_op_swapped y m differ) ∙ off_entry y e f m (same_op_swapped y m differ)))
+        there ∙ ap (paired_with y at) (sym (with_entry_other y _ base m (same_op_swapped y m differ) ∙ with_entry_other y e f m (same_op_swapped y m differ)))
 
     rest : (x : OpId) → same_op m x ≡ false → g x ≡ first x
     rest x d =
-        elim (cases_op x y) [ inl s ↦ ap g s ∙ here ∙ ap (paired_with m at) (sym (at_entry y e f y refl)) ∙ sym (at_entry y _ base x s) | inr o ↦ others x (same_op_swapped x y o) d ∙ sym (off_entry y _ base x o ∙ off_entry y e f x o) ]
+        elim (cases_op x y) [ inl s ↦ ap g s ∙ here ∙ ap (paired_with m at) (sym (with_entry_same y e f y refl)) ∙ sym (with_entry_same y _ base x s) | inr o ↦ others x (same_op_swapped x y o) d ∙ sym (with_entry_other y _ base x o ∙ with_entry_other y e f x o) ]
 
 module _ (plans : List Plan) (costs : CostModel) (h : List Timed) (a : Timed) (run : IsRun plans costs h) (possible : Possible plans costs h a) where
   abbrev before : OpId → OpState
@@ -81,10 +81,10 @@ module _ (plans : List Plan) (costs : CostModel) (h : List Timed) (a : Timed) (r
       record (after x) { times = record (times_known plans costs (a ∷ h) x) { awaited = awaited_then x } }
 
   pub own_next : next a.op ≡ after a.op
-  own_next = at_entry a.op (after a.op) waiting a.op refl
+  own_next = with_entry_same a.op (after a.op) waiting a.op refl
 
   other_next : (x : OpId) → same_op a.op x ≡ false → next x ≡ waiting x
-  other_next x d = off_entry a.op (after a.op) waiting x (same_op_swapped a.op x d)
+  other_next x d = with_entry_other a.op (after a.op) waiting x (same_op_swapped a.op x d)
 
   -- what one awaits that has the partner that it had, and that another action was of
   other_awaited : (x : OpId) → mate plans costs (a ∷ h) x ≡ mate plans costs h x → same_op a.op x ≡ false → awaited_then x ≡ awaited_known plans costs h x
@@ -190,7 +190,7 @@ module _ (plans : List Plan) (costs : CostModel) (h : List Timed) (a : Timed) (r
       pub data_sent : (there : ℕ) → a.class ≡ Data → IsSend plans a.op → is_eager plans costs a.op ≡ false → there ≡ a.time + flight plans costs a.op → Becomes (record e { times = record e.times { end = Some until; awaited = Some there } })
       data_sent there c k large at =
           let mates = unpaired Data c refl in
-          one_written _ mates (same_entry _ _ work_was (start_was Data c (λ f. let g = f ∙ first_of_send plans a.op k in differ g)) (end_now (c ∙ sym (last_of_large plans (is_eager plans costs) a.op k large))) (awaited_there c ∙ ap Some (sym at)) (link_was (mates a.op)))
+          one_written _ mates (same_entry _ _ work_was (start_was Data c (λ f. let g = f ∙ first_of_send plans a.op k in differ g)) (end_now (c ∙ sym (last_of_rendezvous plans (is_eager plans costs) a.op k large))) (awaited_there c ∙ ap Some (sym at)) (link_was (mates a.op)))
         where
           differ : Data ≡ Begin → ⊥
           differ f = cc
@@ -208,7 +208,7 @@ module _ (plans : List Plan) (costs : CostModel) (h : List Timed) (a : Timed) (r
     pub request_begun : (arrive : ℕ) → a.class ≡ Begin → IsSend plans a.op → is_eager plans costs a.op ≡ false → arrive ≡ a.time + flight_one plans costs a.op → Becomes (record e { times = record e.times { start = Some a.time; awaited = Some arrive } })
     request_begun arrive c k large at =
         let mates = unpaired Begin c refl in
-        one_written _ mates (same_entry _ _ work_was (start_new plans costs h a possible (c ∙ sym (first_of_send plans a.op k))) (end_was Begin c (λ f. differ (f ∙ last_of_large plans (is_eager plans costs) a.op k large))) (awaited_now Begin c refl (sym (first_of_send plans a.op k)) (mates a.op) ∙ arriving_begun plans costs h a run possible c k ∙ ap (λ (b : Bool). Some (a.time + (if b then flight plans costs a.op else flight_one plans costs a.op))) large ∙ ap Some (sym at)) (link_was (mates a.op)))
+        one_written _ mates (same_entry _ _ work_was (start_new plans costs h a possible (c ∙ sym (first_of_send plans a.op k))) (end_was Begin c (λ f. differ (f ∙ last_of_rendezvous plans (is_eager plans costs) a.op k large))) (awaited_now Begin c refl (sym (first_of_send plans a.op k)) (mates a.op) ∙ arriving_begun plans costs h a run possible c k ∙ ap (λ (b : Bool). Some (a.time + (if b then flight plans costs a.op else flight_one plans costs a.op))) large ∙ ap Some (sym at)) (link_was (mates a.op)))
       where
         differ : Begin ≡ Data → ⊥
         differ f = cc
@@ -234,7 +234,7 @@ module _ (plans : List Plan) (costs : CostModel) (h : List Timed) (a : Timed) (r
 
         last : Arrive ≡ last_class (is_eager plans costs a.op) (kind_at plans a.op) → ⊥
         last f =
-            elim (cases_Bool (is_eager plans costs a.op)) [ inl t ↦ differ (f ∙ last_of_eager plans (is_eager plans costs) a.op k t) | inr t ↦ differ_too (f ∙ last_of_large plans (is_eager plans costs) a.op k t) ]
+            elim (cases_Bool (is_eager plans costs a.op)) [ inl t ↦ differ (f ∙ last_of_eager plans (is_eager plans costs) a.op k t) | inr t ↦ differ_too (f ∙ last_of_rendezvous plans (is_eager plans costs) a.op k t) ]
 
     -- where no one is paired
     posted_alone : a.class ≡ Post → IsReceive plans a.op → send_for plans (filter is_post_or_arrival (plain h)) a.op ≡ None → Becomes (record e { times = record e.times { start = Some a.time; awaited = None } })

@@ -12,7 +12,7 @@ use Rattle.goal_graph.specs.Schedule.{Plan, kind_at, needed}
 use Rattle.goal_graph.specs.Concerned.{waiting_on}
 use Rattle.goal_graph.specs.Action.{same_op, plain}
 use Rattle.goal_graph.specs.Allowed.{first_class, has_started}
-use Rattle.goal_graph.proofs.ForCallers.{at_entry, cases_op, count-cons, entry_written, off_entry, same_op_itself, same_op_swapped}
+use Rattle.goal_graph.proofs.ForCallers.{with_entry_same, cases_op, count-cons, entry_written, with_entry_other, same_op_itself, same_op_swapped}
 use Rattle.sim_params.specs.Costs.{CostModel}
 use Rattle.sim_params.specs.Times.{greatest, met_at, Possible}
 use Rattle.sim_params.specs.Run.{IsRun}
@@ -80,10 +80,10 @@ module _ (plans : List Plan) (costs : CostModel) (h : List Timed) (a : Timed) wh
   other_then x = entry_with x (awaited_then x) (unmet plans costs h x)
 
   own_is : (y : OpId) → y ≡ a.op → entry_then plans costs h a y ≡ own_then y
-  own_is y e = at_entry a.op (own_then a.op) other_then y e ∙ ap own_then (sym e)
+  own_is y e = with_entry_same a.op (own_then a.op) other_then y e ∙ ap own_then (sym e)
 
   other_is : (y : OpId) → same_op y a.op ≡ false → entry_then plans costs h a y ≡ other_then y
-  other_is y d = off_entry a.op (own_then a.op) other_then y d
+  other_is y d = with_entry_other a.op (own_then a.op) other_then y d
 
   -- before that it waits for as many as before the action
   unmet_then : (y : OpId) → (entry_then plans costs h a y).link.unmet ≡ unmet plans costs h y

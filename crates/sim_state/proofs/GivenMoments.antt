@@ -13,7 +13,7 @@ use Rattle.goal_graph.specs.Schedule.{Plan, kind_at, IsSend}
 use Rattle.goal_graph.specs.Action.{same_op, is_act, happened, plain, plain_act}
 use Rattle.goal_graph.specs.Allowed.{first_class, last_class, has_started, is_met, is_ready, allowed}
 use Rattle.goal_graph.specs.Laws.{IsCalc}
-use Rattle.goal_graph.proofs.ForCallers.{allowed_begin, allowed_data, allowed_post, allowed_serve, ended_started, first_of_calc, first_of_send, first_of_receive, last_of_large, last_of_receive, happened_before, happened_cases, is_act_class, is_act_op, started_ready}
+use Rattle.goal_graph.proofs.ForCallers.{allowed_begin, allowed_data, allowed_post, allowed_serve, ended_started, first_of_calc, first_of_send, first_of_receive, last_of_rendezvous, last_of_receive, happened_before, happened_cases, is_act_class, is_act_op, started_ready}
 use Rattle.sim_params.specs.Costs.{CostModel, is_eager}
 use Rattle.sim_params.specs.Times.{met_at, Possible}
 use Rattle.sim_params.specs.Run.{IsRun}
@@ -125,7 +125,7 @@ module _ (plans : List Plan) (costs : CostModel) (h : List Timed) (a : Timed) wh
     data_last : a.class ≡ Data → last_class (is_eager plans costs a.op) (kind_at plans a.op) ≡ Data
     data_last e =
         let s = allowed_data plans (is_eager plans costs) (plain h) a.op (is_allowed Data e) in
-        last_of_large plans (is_eager plans costs) a.op s.0 s.1
+        last_of_rendezvous plans (is_eager plans costs) a.op s.0 s.1
 
     serve_last : a.class ≡ Serve → last_class (is_eager plans costs a.op) (kind_at plans a.op) ≡ Serve
     serve_last e =

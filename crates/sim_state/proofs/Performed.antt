@@ -8,7 +8,7 @@ use Rattle.goal_graph.specs.declared.plan.When.TheVariants.{AfterEnd, AfterStart
 use Rattle.goal_graph.specs.Schedule.{Plan, operations}
 use Rattle.goal_graph.specs.Action.{plain}
 use Rattle.goal_graph.specs.Fault.{IsOp}
-use Rattle.goal_graph.proofs.ForCallers.{allowed_listed, at_entry, cases_op, off_entry, whole_back}
+use Rattle.goal_graph.proofs.ForCallers.{allowed_listed, with_entry_same, cases_op, with_entry_other, borrowed_whole_restored}
 use Rattle.sim_params.specs.Costs.{CostModel, is_eager}
 use Rattle.sim_params.specs.Run.{IsNext}
 use Rattle.sim_params.proofs.ForCallers.{possible_room}
@@ -33,7 +33,7 @@ next_at {C} model v w a e = subst (λ (u : RunSoFar C). IsNext u.plans (model u.
 -- a vector whose elements were lent and written holds what was written
 pub written_back : {X : Type 0} (count : ℕ) (written lent items : List X) → length written ≡ length lent → lent ≡ items → count ≡ length items → take count (written ++ drop (length written) items) ≡ written
 written_back count written lent items kept same whole =
-    whole_back count written items (kept ∙ ap length same) whole
+    borrowed_whole_restored count written items (kept ∙ ap length same) whole
 
 -- what the entries of two tables of the same operations are at one of these
 map_same_at : {Y : Type 0} (f g : OpId → Y) (xs : List OpId) (x : OpId) → Contains xs x → map f xs ≡ map g xs → f x ≡ g x
@@ -50,7 +50,7 @@ moment_ignores_awaited t o AfterEnd = refl
 module _ (y : OpId) (at : ℕ) (w : When) where
   paired_moment : (x m : OpId) (f : OpId → OpState) → moment_in (with_pairing x m at f y).times w ≡ moment_in (f y).times w
   paired_moment x m f =
-      elim (cases_op y x) [ inl s ↦ ap moment (at_entry x _ f y s) ∙ moment_ignores_awaited (f x).times (Some at) w ∙ ap (λ (z : OpId). moment (f z)) (sym s) | inr d ↦ ap moment (off_entry x _ f y d) ]
+      elim (cases_op y x) [ inl s ↦ ap moment (with_entry_same x _ f y s) ∙ moment_ignores_awaited (f x).times (Some at) w ∙ ap (λ (z : OpId). moment (f z)) (sym s) | inr d ↦ ap moment (with_entry_other x _ f y d) ]
     where
       moment : OpState → Option ℕ
       moment e = moment_in e.times w
@@ -61,7 +61,7 @@ module _ (y : OpId) (at : ℕ) (w : When) where
 
   written_moment : (c : Change) (f : OpId → OpState) → moment_in (with_change y c at f y).times w ≡ moment_in c.times w
   written_moment c f =
-      partnered_moment c.partner (with_times y c.times f) ∙ ap (λ (e : OpState). moment_in e.times w) (at_entry y _ f y refl)
+      partnered_moment c.partner (with_times y c.times f) ∙ ap (λ (e : OpState). moment_in e.times w) (with_entry_same y _ f y refl)
 
 module _ (plans : List Plan) (costs : CostModel) (h : List Timed) (entries : List OpState) (matcher : PostsAndArrivals) (res : Holds) (has_room : ℕ → Type 0) (m : Represents plans costs h entries matcher res has_room) where
   -- each operation has its entry

@@ -20,7 +20,7 @@ use Rattle.sim_params.specs.Stuck.{lacks_end}
 use Rattle.sim_events.specs.Engine.{start_known, end_known}
 use Rattle.sim_timeline.specs.Timeline.{is_unmatched, end_or_zero, operation_line, summary_line, first_line, line_by, line_of}
 use Rattle.sim_timeline.specs.Pages.{IsSummary, is_unmatched_send}
-use Rattle.goal_graph.proofs.ForCallers.{at_kind}
+use Rattle.goal_graph.proofs.ForCallers.{kind_of_found_op}
 
 -- the greatest of a list and one more
 pub greatest-append : {A : Type 0} (f : A → ℕ) (xs : List A) (x : A) → greatest f (xs ++ x ∷ []) ≡ max (greatest f xs) (f x)
@@ -52,7 +52,7 @@ module _ (plans : List Plan) (costs : CostModel) (h : List Timed) where
   unmatched_found : (x : OpId) (o : Op) → op_at plans x ≡ Some o
       → is_unmatched_send (Some o.kind) (start_known plans costs h x) (partner (pairs plans (plain h)) x) ≡ is_unmatched plans costs h x
   unmatched_found x o found =
-      ap (λ (k : Option Kind). is_unmatched_send k (start_known plans costs h x) (partner (pairs plans (plain h)) x)) (sym (at_kind plans x o found))
+      ap (λ (k : Option Kind). is_unmatched_send k (start_known plans costs h x) (partner (pairs plans (plain h)) x)) (sym (kind_of_found_op plans x o found))
       ∙ rw (started (has_started plans x (plain h)) (start plans costs h x)) refl
 
   -- the summary of operations and one more
@@ -78,7 +78,7 @@ module _ (plans : List Plan) (costs : CostModel) (h : List Timed) where
   pub line_is : (x : OpId) (o : Op) → op_at plans x ≡ Some o
       → operation_line x o.kind (start_known plans costs h x) (end_known plans costs h x) (partner (pairs plans (plain h)) x) ≡ line_of plans costs h x
   unfolding line_of
-  line_is x o found = ap (line_by plans costs h x) (sym (at_kind plans x o found))
+  line_is x o found = ap (line_by plans costs h x) (sym (kind_of_found_op plans x o found))
 
   -- the line of an operation that exists is not empty
   line_not_empty : (x : OpId) (o : Option Op) → op_at plans x ≡ o → is_some o ≡ true → line_of plans costs h x ≡ [] → ⊥

@@ -2,7 +2,7 @@ use Rattle.std.proofs.Common.{length, add-one, sym, ap, ◌∙◌, arith}
 use Rattle.goal_collectives.specs.Probe.{probed, next_state, round_from, state_before}
 use Rattle.goal_collectives.proofs.ProbePlans.{small_at, few_at, probed_ranks, none_probed, first_before, one_round, next_before, round_ranks}
 use Rattle.goal_collectives.proofs.probe.probe_plans.Goals as goal
-use Rattle.goal_graph.proofs.ForCallers.{whole_back}
+use Rattle.goal_graph.proofs.ForCallers.{borrowed_whole_restored}
 
 pub loop-number-init : goal.loop-number-init
 loop-number-init c = record {
@@ -31,7 +31,7 @@ loop-number-preserved c =
     let size = ap length c.in_ok-add_round.ensures ∙ (round_ranks n c.round.result c.deref_mut.result.now ∙ ap length c.deref_mut.ensures.value) in
     record {
       plans =
-          whole_back c.loop-number.plans.len c.add_round.new.plans c.loop-number.plans.items size c.loop-number.plans.ok.0
+          borrowed_whole_restored c.loop-number.plans.len c.add_round.new.plans c.loop-number.plans.items size c.loop-number.plans.ok.0
           ∙ (one_round n c.args.seed c.round.result c.deref_mut.result.now c.add_round.new.plans before (c.round.ensures.round ∙ ap round_from c.loop-number.invariant.state) c.in_ok-add_round.ensures
           ∙ ap (λ k. probed k c.args.seed) (sym (add-one n)));
       state =

@@ -2,7 +2,7 @@ use Rattle.std.proofs.Common.{◌<◌, List, Contains, length, get_or, ap, sym, 
 use Rattle.goal_graph.specs.declared.action.OpId.{OpId}
 use Rattle.goal_graph.specs.Schedule.{Plan, operations}
 use Rattle.goal_graph.specs.Fault.{IsOp}
-use Rattle.goal_graph.proofs.ForCallers.{listed_places, still_left, none_left}
+use Rattle.goal_graph.proofs.ForCallers.{listed_places, unread_after_next, nothing_after_end}
 use Rattle.sim_events.proofs.Changes.{still_placed, placed_again}
 use Rattle.sim_events.proofs.Queue.{all_due, possible_keys, fewer_due, refreshed}
 use Rattle.sim_events.proofs.follow.fill.Goals as goal
@@ -29,13 +29,13 @@ loop-id-preserved g c =
     let items = c.operations-id-items.ensures.all ∙ ap operations c.sched.ensures in
     let k = c.loop-id.id-index in
     let within = subst (λ (xs : List OpId). k < length xs) items c.loop-id-test.true in
-    (refreshed plans _ _ _ _ _ _ _ c.loop-id.invariant.0 c.refresh.ensures.queue (λ y is left differ. still_left (operations plans) k first y within left (λ e. differ (e ∙ ap (λ (xs : List OpId). get_or xs k first) (sym items)))), λ k few. omega (arith, c.loop-id.invariant.1 k few, c.refresh.ensures.counted k (omega (arith, few, c.loop-id.invariant.0.of_it.each, c.requires.of_it.each))), placed_again c.args.queue.now _ _ c.loop-id.invariant.2 c.refresh.ensures.placed)
+    (refreshed plans _ _ _ _ _ _ _ c.loop-id.invariant.0 c.refresh.ensures.queue (λ y is left differ. unread_after_next (operations plans) k first y within left (λ e. differ (e ∙ ap (λ (xs : List OpId). get_or xs k first) (sym items)))), λ k few. omega (arith, c.loop-id.invariant.1 k few, c.refresh.ensures.counted k (omega (arith, few, c.loop-id.invariant.0.of_it.each, c.requires.of_it.each))), placed_again c.args.queue.now _ _ c.loop-id.invariant.2 c.refresh.ensures.placed)
 
 pub returns-clause-queue : goal.returns-clause-queue
 returns-clause-queue g c =
     let plans = c.args.state.now.plans in
     let items = c.operations-id-items.ensures.all ∙ ap operations c.sched.ensures in
-    fewer_due plans _ _ _ _ _ c.loop-id.invariant.0 (λ y is left. none_left (operations plans) c.loop-id.id-index y (omega (arith, ap length items, c.loop-id-test.false)) left)
+    fewer_due plans _ _ _ _ _ c.loop-id.invariant.0 (λ y is left. nothing_after_end (operations plans) c.loop-id.id-index y (omega (arith, ap length items, c.loop-id-test.false)) left)
 
 pub returns-clause-counted : goal.returns-clause-counted
 returns-clause-counted g c = λ k few. omega (arith, c.loop-id.invariant.1 k few)

@@ -8,7 +8,7 @@ use Rattle.sim_match.proofs.PatternLemmas.{lists_once, lists_within}
 use Rattle.sim_match.proofs.CapacityLemmas.{receives_fit, receive_more, its_lists, sends_fit, send_more, calc_more}
 use Rattle.sim_match.proofs.capacities.capacities.Goals as goal
 use Rattle.sim_match.proofs.capacities.capacities.Goals.{in-Recv, in-Send, in-Calc}
-use Rattle.goal_graph.proofs.ForCallers.{whole_back, at_kind}
+use Rattle.goal_graph.proofs.ForCallers.{borrowed_whole_restored, kind_of_found_op}
 
 pub list_of_receive-list-requires-clause-receive :
     goal.list_of_receive-list-requires-clause-receive
@@ -16,7 +16,7 @@ list_of_receive-list-requires-clause-receive c = record {
   room = c.in-Recv.bytes;
   from = c.in-Recv.from;
   tag = c.in-Recv.tag;
-  kind = at_kind _ _ _ c.op.ensures.op ∙ ap (λ (k : Kind). Some k) c.in-Recv.is;
+  kind = kind_of_found_op _ _ _ c.op.ensures.op ∙ ap (λ (k : Kind). Some k) c.in-Recv.is;
 }
 
 pub overflow_add-capacity : goal.overflow_add-capacity
@@ -31,7 +31,7 @@ this_send c = record {
   bytes = c.in-Send.bytes;
   to = c.in-Send.to;
   tag = c.in-Send.tag;
-  kind = at_kind _ _ _ c.op.ensures.op ∙ ap (λ (k : Kind). Some k) c.in-Send.is;
+  kind = kind_of_found_op _ _ _ c.op.ensures.op ∙ ap (λ (k : Kind). Some k) c.in-Send.is;
 }
 
 pub lists_of_send-requires-clause-send : goal.lists_of_send-requires-clause-send
@@ -39,7 +39,7 @@ lists_of_send-requires-clause-send c = record {
   bytes = c.in-Send.bytes;
   to = c.in-Send.to;
   tag = c.in-Send.tag;
-  kind = at_kind _ _ _ c.op.ensures.op ∙ ap (λ (k : Kind). Some k) c.in-Send.is;
+  kind = kind_of_found_op _ _ _ c.op.ensures.op ∙ ap (λ (k : Kind). Some k) c.in-Send.is;
 }
 
 pub count_send-requires-clause-once : goal.count_send-requires-clause-once
@@ -61,7 +61,7 @@ loop-id-preserved c = λ n. elim c.match-op.branch [
   | in-Send w ↦
       let its = w.lists_of_send.ensures n ∙ its_lists _ _ c.operations-id-items.result.now c.loop-id.id-index (record { rank = 0; op = 0 }) (omega arith) _ (c.loop-id.invariant n) _ c.op.ensures.op _ _ _ w.in-Send.is in
       let counted = rw (its, w.deref_mut.ensures.value) at w.count_send.ensures in
-      let back = whole_back c.loop-id.capacities.len w.count_send.new.capacities c.loop-id.capacities.items counted.one_each (omega (arith, c.loop-id.capacities.ok.0)) in
+      let back = borrowed_whole_restored c.loop-id.capacities.len w.count_send.new.capacities c.loop-id.capacities.items counted.one_each (omega (arith, c.loop-id.capacities.ok.0)) in
       rw (w.capacities-is, back) (send_more _ _ c.operations-id-items.result.now c.loop-id.id-index (record { rank = 0; op = 0 }) (omega arith) _ (c.loop-id.invariant n) _ c.op.ensures.op _ _ _ w.in-Send.is w.count_send.new.capacities counted)
   | in-Calc w ↦ rw w.capacities-is (calc_more _ _ c.operations-id-items.result.now c.loop-id.id-index (record { rank = 0; op = 0 }) (omega arith) _ (c.loop-id.invariant n) _ c.op.ensures.op _ w.in-Calc.is)
 ]

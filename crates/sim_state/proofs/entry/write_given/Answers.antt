@@ -1,6 +1,6 @@
 use Rattle.std.proofs.Common.{◌∙◌, ◌-◌, List, ap, arith, get_or, slice_set}
 use Rattle.goal_graph.specs.Schedule.{operations}
-use Rattle.goal_graph.proofs.ForCallers.{entry_of}
+use Rattle.goal_graph.proofs.ForCallers.{get_or_mapped}
 use Rattle.sim_state.specs.declared.entry.OpState.{OpState}
 use Rattle.sim_state.specs.declared.entry.Times.{Times}
 use Rattle.sim_state.specs.Given.{given_times}
@@ -11,7 +11,7 @@ use Rattle.sim_state.proofs.entry.write_given.Goals as goal
 pub with_one_met-kept-requires : goal.with_one_met-kept-requires
 with_one_met-kept-requires c =
     let waits = c.requires.waits in
-    let is = ap (λ (es : List OpState). (get_or es c.index.result c.index-entries-index.result).link.unmet) waits.1 ∙ ap (λ (e : OpState). e.link.unmet) (entry_of waits.0 (operations c.args.sched.now) c.index.result c.args.id c.index-entries-index.result c.index.ensures.index) in
+    let is = ap (λ (es : List OpState). (get_or es c.index.result c.index-entries-index.result).link.unmet) waits.1 ∙ ap (λ (e : OpState). e.link.unmet) (get_or_mapped waits.0 (operations c.args.sched.now) c.index.result c.args.id c.index-entries-index.result c.index.ensures.index) in
     omega (arith, is, waits.2)
 
 pub returns : goal.returns

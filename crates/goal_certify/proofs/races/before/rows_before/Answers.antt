@@ -2,7 +2,7 @@ use Rattle.std.proofs.Common.{◌≡◌, ◌++◌, take, drop, length, arith, ap
 use Rattle.goal_certify.specs.Rows.{has}
 use Rattle.goal_certify.proofs.Before.{rows_at_start, rows_same}
 use Rattle.goal_certify.proofs.races.before.rows_before.Goals as goal
-use Rattle.goal_graph.proofs.ForCallers.{whole_back}
+use Rattle.goal_graph.proofs.ForCallers.{borrowed_whole_restored}
 
 pub fill_all-requires-clause-rows : goal.fill_all-requires-clause-rows
 fill_all-requires-clause-rows c =
@@ -13,7 +13,7 @@ returns c =
     let rows = c.make_room.new.rows in
     let new = c.fill_all.new.rows in
     let same : length new ≡ length rows.items = omega (arith, c.fill_all.auto.rows, ap length c.deref_mut.ensures.value) in
-    let back : take rows.len (new ++ drop (length new) rows.items) ≡ new = whole_back rows.len new rows.items same (omega (arith, rows.ok.0)) in
+    let back : take rows.len (new ++ drop (length new) rows.items) ≡ new = borrowed_whole_restored rows.len new rows.items same (omega (arith, rows.ok.0)) in
     record {
       room = omega (arith, ap length back, same, c.in_ok-make_room.ensures.room, c.op_count-count.ensures.count);
       rows = rows_same c.args.sched.now c.args.rank _ new _ back c.in_ok-fill_all.ensures.rows;

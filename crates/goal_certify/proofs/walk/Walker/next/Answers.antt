@@ -5,7 +5,7 @@ use Rattle.goal_certify.specs.WalkSoFar.{WalkSoFar}
 use Rattle.goal_certify.specs.WalkQueue.{AreCursors}
 use Rattle.goal_certify.proofs.Steps.{op_after, newest_after, due_after, first_after, cursors_after}
 use Rattle.goal_certify.proofs.walk.Walker.next.Goals as goal
-use Rattle.goal_graph.proofs.ForCallers.{whole_back}
+use Rattle.goal_graph.proofs.ForCallers.{borrowed_whole_restored}
 
 pub follow-requires-clause-exists : goal.follow-requires-clause-exists
 follow-requires-clause-exists c =
@@ -30,6 +30,6 @@ invariant_of-self c =
     let after = c.perform.new.self in
     record {
       queue = c.follow.ensures.queue;
-      are_cursors = subst (AreCursors after.plans after.history) (sym (whole_back c.self.inside.cursors.len c.follow.new.cursors c.self.inside.cursors.items (c.follow.auto.cursors ∙ ap length c.deref_mut.ensures.value) c.self.inside.cursors.ok.0)) c.follow.ensures.cursors;
+      are_cursors = subst (AreCursors after.plans after.history) (sym (borrowed_whole_restored c.self.inside.cursors.len c.follow.new.cursors c.self.inside.cursors.items (c.follow.auto.cursors ∙ ap length c.deref_mut.ensures.value) c.self.inside.cursors.ok.0)) c.follow.ensures.cursors;
       in_order = first_after c.self.inside.state after c.in_ok-action.action c.perform.ensures c.in_ok-action.ensures.may c.self.invariant.in_order c.in_ok-action.ensures.first;
     }

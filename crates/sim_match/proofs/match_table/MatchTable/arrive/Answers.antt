@@ -4,7 +4,7 @@ use Rattle.std.proofs.lemmas.List.{length-append}
 use Rattle.sim_match.proofs.Kept.{length-actions_of, actions_of-arrival, arrival_counted, arrival_exists, arrival_met_exists, arrival_answers, arrival_stands, arrival_keeps}
 use Rattle.sim_match.proofs.Numbering.{same_numbers}
 use Rattle.sim_match.proofs.match_table.MatchTable.arrive.Goals as goal
-use Rattle.goal_graph.proofs.ForCallers.{whole_back}
+use Rattle.goal_graph.proofs.ForCallers.{borrowed_whole_restored}
 
 pub overflow_add-self : goal.overflow_add-self
 overflow_add-self g c =
@@ -24,7 +24,7 @@ unfolding same_numbers
 returns-clause-kept g c =
     let changes = rw (c.deref_mut.ensures.value, c.join-met.ensures.marks) at c.pair.ensures.paired in
     let long = rw (c.deref_mut.ensures.value, c.join-met.ensures.marks) at c.pair.ensures.long in
-    let back = whole_back c.join-met.new.self.marks.len c.pair.new.marks c.join-met.new.self.marks.items (rw c.deref_mut.ensures.value at c.pair.ensures.long) (omega (arith, c.join-met.new.self.marks.ok.0)) in
+    let back = borrowed_whole_restored c.join-met.new.self.marks.len c.pair.new.marks c.join-met.new.self.marks.items (rw c.deref_mut.ensures.value at c.pair.ensures.long) (omega (arith, c.join-met.new.self.marks.ok.0)) in
     let kept = arrival_keeps _ _ _ _ _ c.requires.kept.mirrors c.args.send c.requires.send c.requires.fresh _ _ (c.join-met.ensures.joined c.requires.kept) c.pair.new.marks changes long in
     record {
       few = c.requires.kept.few;

@@ -6,7 +6,7 @@ use Rattle.sim_match.proofs.Kept.{length-actions_of, actions_of-post, standing_p
 use Rattle.sim_match.proofs.Unseen.{unseen_read, still_covered}
 use Rattle.sim_match.proofs.Sides.{sides_length, sides_read, sides_set, there_is}
 use Rattle.sim_match.proofs.match_table.MatchTable.post.Goals as goal
-use Rattle.goal_graph.proofs.ForCallers.{whole_back}
+use Rattle.goal_graph.proofs.ForCallers.{borrowed_whole_restored}
 
 pub overflow_add-self : goal.overflow_add-self
 overflow_add-self g c =
@@ -89,7 +89,7 @@ returns-clause-kept g c =
     let grown = ap (λ (n : ℕ). pushed r.0 (record { op = c.args.recv; at = n })) at in
     let changes = rw c.deref_mut.ensures.value at c.pair.ensures.paired in
     let marked = rw c.deref_mut.ensures.value at c.pair.ensures.long in
-    let back = whole_back c.args.self.now.marks.len c.pair.new.marks c.args.self.now.marks.items marked (omega (arith, c.args.self.now.marks.ok.0)) in
+    let back = borrowed_whole_restored c.args.self.now.marks.len c.pair.new.marks c.args.self.now.marks.items marked (omega (arith, c.args.self.now.marks.ok.0)) in
     let kept = post_keeps _ _ _ _ _ c.requires.kept.mirrors c.args.recv c.requires.receive c.requires.fresh c.list_of_receive-list.result (c.list_of_receive-list.ensures.list c.requires.kept.numbered) (record { receives = r.0; sends = s.0 }) (sides_read c.args.self.now.receives c.args.self.now.sends c.list_of_receive-list.result r.0 s.0 r.1 s.1) (record { receives = pushed r.0 (record { op = c.args.recv; at = c.args.self.now.count }); sends = record { entries = s.0.entries; head = first.0; room = s.0.room } }) c.first_standing-met.result (rw c.deref.ensures.value at first.2) grown c.pair.new.marks changes marked in
     let sides = ap₂ side_by_side (c.push.ensures r.0 r.1) first.1 ∙ sides_set c.args.self.now.receives c.args.self.now.sends c.list_of_receive-list.result _ _ in
     let more = ap length (c.push.ensures r.0 r.1) ∙ length-set c.args.self.now.receives c.list_of_receive-list.result _ in

@@ -5,7 +5,7 @@ use Rattle.sim_match.specs.Matcher.{actions_of}
 use Rattle.sim_match.specs.Queues.{come, waits_as}
 use Rattle.sim_match.proofs.Queued.{come_within, come_alone, come_behind, come_meets, still_to_come, behind_to_come, none_taken, in_line, last_within, same_sides, other_sides, waits_itself, waits_not, comes_next, comes_exists, other_side}
 use Rattle.sim_match.proofs.queues.Queues.come.Goals as goal
-use Rattle.goal_graph.proofs.ForCallers.{whole_back}
+use Rattle.goal_graph.proofs.ForCallers.{borrowed_whole_restored}
 
 pub index-queue-requires : goal.index-queue-requires
 index-queue-requires c =
@@ -68,7 +68,7 @@ returns-then-is-clause-kept c =
     let at = slice_get_read c.args.self.now.queues.items (length c.args.self.now.queues.items) c.args.list c.index-queue.result.now refl (come_within c.args.sched.now c.requires.kept.keys c.requires.kept.named c.requires.kept.listed (actions_of c.args.sched.now c.args.self.now.events.items) c.requires.kept.actions c.args.self.now.queues.items c.args.self.now.next.items c.requires.kept.queues c.args.side c.args.id c.requires.fresh c.args.list (c.requires.own c.requires.kept)) c.index-queue.ensures in
     let linked = rw c.deref_mut.ensures.value at c.behind.ensures.linked in
     let long = ap length linked ∙ length-set c.args.self.now.next.items c.index-queue.result.now.last c.behind.result.last in
-    let back = whole_back c.args.self.now.next.len c.behind.new.next c.args.self.now.next.items long (omega (arith, c.args.self.now.next.ok.0)) in
+    let back = borrowed_whole_restored c.args.self.now.next.len c.behind.new.next c.args.self.now.next.items long (omega (arith, c.args.self.now.next.ok.0)) in
     let queues = come_behind c.args.sched.now c.requires.kept.keys c.requires.kept.named c.requires.kept.listed (actions_of c.args.sched.now c.args.self.now.events.items) c.requires.kept.actions c.args.self.now.queues.items c.args.self.now.next.items c.requires.kept.queues c.args.side c.args.id c.requires.fresh c.args.list (c.requires.own c.requires.kept) c.index-queue.result.now at (ap (λ o. waits_as o (other_side c.args.side)) ((c.in-Some.is ∙ ap (λ w. Some w) (same_sides c.in-Some.waits c.args.side (sym c.is.ensures ∙ c.if-is.true)))) ∙ waits_not c.args.side) c.behind.result (ap (λ o. waits_as o c.args.side) ((c.in-Some.is ∙ ap (λ w. Some w) (same_sides c.in-Some.waits c.args.side (sym c.is.ensures ∙ c.if-is.true)))) ∙ waits_itself c.args.side) (c.behind.ensures.waits ∙ (c.in-Some.is ∙ ap (λ w. Some w) (same_sides c.in-Some.waits c.args.side (sym c.is.ensures ∙ c.if-is.true)))) c.behind.ensures.first c.behind.ensures.last in
     record {
       keys = c.requires.kept.keys;
