@@ -20,7 +20,7 @@ use Rattle.goal_graph.proofs.ForCallers.{and_left, and_right, started_send, is_s
 use Rattle.sim_params.specs.Costs.{CostModel, flight, is_eager}
 use Rattle.sim_params.specs.Times.{since, mate, greatest, met_at, ready, cpu, tx, rx, paired_at, there_at, time_of, time}
 use Rattle.sim_params.specs.Run.{IsRun}
-use Rattle.sim_params.proofs.ForCallers.{run_each, start_kept, end_kept, paired_at_kept, mate_stays, since_kept}
+use Rattle.sim_params.proofs.ForCallers.{run_is_each_possible, start_kept, end_kept, paired_at_kept, mate_stays, since_kept}
 use Rattle.sim_stations.specs.Stations.{waits_for_room}
 use Rattle.sim_state.specs.Free.{free, free_of}
 use Rattle.sim_state.specs.Awaited.{is_there}
@@ -60,7 +60,7 @@ module _ (plans : List Plan) (costs : CostModel) (a : Timed) (h : List Timed) wh
   module _ (run : IsRun plans costs h) where
     -- a moment that is there stays the same
     moment_kept : (w : When) (y : OpId) → is_met plans (is_eager plans costs) (plain h) w y ≡ true → met_at plans costs (a ∷ h) w y ≡ met_at plans costs h w y
-    moment_kept AfterEnd y e = end_kept plans costs a h y (run_each plans costs h run) e
+    moment_kept AfterEnd y e = end_kept plans costs a h y (run_is_each_possible plans costs h run) e
     moment_kept AfterStart y e = start_kept plans costs a h y e
 
     greatest_kept : (x : OpId) (ds : List Need) → list_all (is_there plans costs h x) ds ≡ true → greatest (moment_at plans costs (a ∷ h) x) ds ≡ greatest (moment_at plans costs h x) ds

@@ -43,15 +43,15 @@ stays_at : (test : List Act → Bool) (a : Timed) (h : List Timed) → Stays tes
 unfolding plain
 stays_at test a h stays e = stays (plain_act a) (plain h) e
 
-pub since_never : (test : List Act → Bool) (h : List Timed) → Stays test → test (plain h) ≡ false → since test h ≡ 0
+pub since_of_unpassed : (test : List Act → Bool) (h : List Timed) → Stays test → test (plain h) ≡ false → since test h ≡ 0
 unfolding since
-since_never test [] stays e = refl
-since_never test (a ∷ h) stays e =
+since_of_unpassed test [] stays e = refl
+since_of_unpassed test (a ∷ h) stays e =
     elim (cases_Bool (test (plain h))) [ inl t ↦ absurd (both_ways _ e (stays_at test a h stays t)) | inr f ↦ since_absent test a h f e ]
 
 pub since_grows : (test : List Act → Bool) (a : Timed) (h : List Timed) → Stays test → since test h ≤ since test (a ∷ h)
 since_grows test a h stays =
-    elim (cases_Bool (test (plain h))) [ inl t ↦ omega (arith, since_kept test a h t) | inr f ↦ omega (arith, since_never test h stays f) ]
+    elim (cases_Bool (test (plain h))) [ inl t ↦ omega (arith, since_kept test a h t) | inr f ↦ omega (arith, since_of_unpassed test h stays f) ]
 
 -- the greatest of greater numbers is greater
 pub greatest_grows : {A : Type 0} (f g : A → ℕ) (xs : List A) → ((x : A) → f x ≤ g x) → greatest f xs ≤ greatest g xs
@@ -145,8 +145,8 @@ module _ (plans : List Plan) where
     unfolding time
     time_grows a h c x = time_of_grows a h c x (kind_at plans x)
 
-    pub none_falls : (h : List Timed) (a : Timed) → NoneFalls plans costs h a
-    none_falls h a = record {
+    pub no_time_falls : (h : List Timed) (a : Timed) → NoneFalls plans costs h a
+    no_time_falls h a = record {
       times = λ c x. time_grows a h c x;
       starts = λ x. start_grows a h x;
       ends = λ x. end_grows a h x;

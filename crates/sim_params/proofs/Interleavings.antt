@@ -33,17 +33,17 @@ module _ (plans : List Plan) (costs : CostModel) where
   EachPossible [] = Unit {0}
   EachPossible (a ∷ h) = EachPossible h × Possible plans costs h a
 
-  pub run_each : (h : List Timed) → IsRun plans costs h → EachPossible h
-  run_each [] r = tt
-  run_each (a ∷ h) r = (run_each h r.0, r.1.possible)
+  pub run_is_each_possible : (h : List Timed) → IsRun plans costs h → EachPossible h
+  run_is_each_possible [] r = tt
+  run_is_each_possible (a ∷ h) r = (run_is_each_possible h r.0, r.1.possible)
 
-  pub each_interleaving : (h : List Timed) → EachPossible h → IsInterleaving plans (is_eager plans costs) (plain h)
+  pub each_possible_is_interleaving : (h : List Timed) → EachPossible h → IsInterleaving plans (is_eager plans costs) (plain h)
   unfolding plain
-  each_interleaving [] r = tt
-  each_interleaving (a ∷ h) r = (each_interleaving h r.0, r.1.allowed)
+  each_possible_is_interleaving [] r = tt
+  each_possible_is_interleaving (a ∷ h) r = (each_possible_is_interleaving h r.0, r.1.allowed)
 
   pub run_interleaving : (h : List Timed) → IsRun plans costs h → IsInterleaving plans (is_eager plans costs) (plain h)
-  run_interleaving h r = each_interleaving h (run_each h r)
+  run_interleaving h r = each_possible_is_interleaving h (run_is_each_possible h r)
 
   pub complete_interleaving : (h : List Timed) → IsCompleteRun plans costs h → IsCompleteInterleaving plans (is_eager plans costs) (plain h)
   complete_interleaving h r = record {

@@ -22,13 +22,13 @@ use Rattle.sim_params.specs.Costs.{CostModel, flight, flight_one, latency, is_ea
 use Rattle.sim_params.specs.Times.{since, greatest, at_partner, mate, holds_tx, holds_rx, same_place, cpu_hold, tx_hold, rx_hold, cpu, tx, rx, end, met_at, ready, paired_at, there_at, time_of, time, Possible}
 use Rattle.sim_params.specs.Laws.{hold, reach, IsWithin}
 use Rattle.sim_params.proofs.Grow.{since_kept, since_new, since_absent}
-use Rattle.sim_params.proofs.Fixed.{end_kept, end_now}
+use Rattle.sim_params.proofs.Fixed.{end_kept, end_at_newest}
 use Rattle.sim_params.proofs.Interleavings.{EachPossible}
 
 -- a number under a test is at most a bound of the number
-if_le : (b : Bool) (n m : ℕ) → n ≤ m → (if b then n else 0) ≤ m
-if_le true n m le = le
-if_le false n m le = zero-le
+if_within_bound : (b : Bool) (n m : ℕ) → n ≤ m → (if b then n else 0) ≤ m
+if_within_bound true n m le = le
+if_within_bound false n m le = zero-le
 
 -- the greatest is at most a bound of each
 greatest_le : {A : Type 0} (test : A → Bool) (f : A → ℕ) (n : ℕ) (xs : List A) → ((x : A) → test x ≡ true → f x ≤ n) → list_all test xs ≡ true → greatest f xs ≤ n
@@ -43,36 +43,36 @@ module _ (plans : List Plan) (costs : CostModel) where
   unfolding reach
   reach_grows a h = omega arith
 
-  pub reach_time : (a : Timed) (h : List Timed) → a.time + hold plans costs h a ≤ reach plans costs (a ∷ h)
+  pub newest_within_reach : (a : Timed) (h : List Timed) → a.time + hold plans costs h a ≤ reach plans costs (a ∷ h)
   unfolding reach
-  reach_time a h = omega arith
+  newest_within_reach a h = omega arith
 
   pub cpu_reach : (h : List Timed) (x : OpId) → cpu plans costs h x ≤ reach plans costs h
   unfolding cpu
   cpu_reach [] x = zero-le
   cpu_reach (a ∷ h) x =
-      let le : a.time + cpu_hold plans costs h a.class a.op (kind_at plans a.op) ≤ reach plans costs (a ∷ h) = omega (arith, reach_time a h) in
-      omega (arith, cpu_reach h x, reach_grows a h, if_le (holds_cpu a.class && same_place (λ (o : Op). o.cpu) x (op_at plans x) a.op (op_at plans a.op)) _ _ le)
+      let le : a.time + cpu_hold plans costs h a.class a.op (kind_at plans a.op) ≤ reach plans costs (a ∷ h) = omega (arith, newest_within_reach a h) in
+      omega (arith, cpu_reach h x, reach_grows a h, if_within_bound (holds_cpu a.class && same_place (λ (o : Op). o.cpu) x (op_at plans x) a.op (op_at plans a.op)) _ _ le)
 
   pub tx_reach : (h : List Timed) (x : OpId) → tx plans costs h x ≤ reach plans costs h
   unfolding tx
   tx_reach [] x = zero-le
   tx_reach (a ∷ h) x =
-      let le : a.time + tx_hold plans costs a.class a.op (kind_at plans a.op) ≤ reach plans costs (a ∷ h) = omega (arith, reach_time a h) in
-      omega (arith, tx_reach h x, reach_grows a h, if_le (holds_tx a.class (kind_at plans a.op) && same_place (λ (o : Op). o.nic) x (op_at plans x) a.op (op_at plans a.op)) _ _ le)
+      let le : a.time + tx_hold plans costs a.class a.op (kind_at plans a.op) ≤ reach plans costs (a ∷ h) = omega (arith, newest_within_reach a h) in
+      omega (arith, tx_reach h x, reach_grows a h, if_within_bound (holds_tx a.class (kind_at plans a.op) && same_place (λ (o : Op). o.nic) x (op_at plans x) a.op (op_at plans a.op)) _ _ le)
 
   pub rx_reach : (h : List Timed) (x : OpId) → rx plans costs h x ≤ reach plans costs h
   unfolding rx
   rx_reach [] x = zero-le
   rx_reach (a ∷ h) x =
-      let le : a.time + rx_hold plans costs h a.class a.op (kind_at plans a.op) ≤ reach plans costs (a ∷ h) = omega (arith, reach_time a h) in
-      omega (arith, rx_reach h x, reach_grows a h, if_le (holds_rx a.class && same_place (λ (o : Op). o.nic) x (op_at plans x) a.op (op_at plans a.op)) _ _ le)
+      let le : a.time + rx_hold plans costs h a.class a.op (kind_at plans a.op) ≤ reach plans costs (a ∷ h) = omega (arith, newest_within_reach a h) in
+      omega (arith, rx_reach h x, reach_grows a h, if_within_bound (holds_rx a.class && same_place (λ (o : Op). o.nic) x (op_at plans x) a.op (op_at plans a.op)) _ _ le)
 
   pub since_reach : (test : List Act → Bool) (h : List Timed) → since test h ≤ reach plans costs h
   unfolding since
   since_reach test [] = zero-le
   since_reach test (a ∷ h) =
-      elim (cases_Bool (test (plain h))) [ inl t ↦ omega (arith, since_kept test a h t, since_reach test h, reach_grows a h) | inr f ↦ elim (cases_Bool (test (plain (a ∷ h)))) [ inl t ↦ omega (arith, since_new test a h f t, reach_time a h) | inr g ↦ omega (arith, since_absent test a h f g) ] ]
+      elim (cases_Bool (test (plain h))) [ inl t ↦ omega (arith, since_kept test a h t, since_reach test h, reach_grows a h) | inr f ↦ elim (cases_Bool (test (plain (a ∷ h)))) [ inl t ↦ omega (arith, since_new test a h f t, newest_within_reach a h) | inr g ↦ omega (arith, since_absent test a h f g) ] ]
 
   pub end_reach : (h : List Timed) (x : OpId) → EachPossible plans costs h → has_ended plans (is_eager plans costs) x (plain h) ≡ true → end plans costs h x ≤ reach plans costs h
   unfolding plain
@@ -86,7 +86,7 @@ module _ (plans : List Plan) (costs : CostModel) where
       new : has_ended plans (is_eager plans costs) x (plain h) ≡ false → (happened last x (plain h) ≡ true) ⊎ (is_act last x (plain_act a) ≡ true) → end plans costs (a ∷ h) x ≤ reach plans costs (a ∷ h)
       new f (inl t) = absurd (both_ways _ f t)
       new f (inr t) =
-          omega (arith, end_now plans costs a h x f (is_act_class last x (plain_act a) t) (is_act_op last x (plain_act a) t), reach_time a h)
+          omega (arith, end_at_newest plans costs a h x f (is_act_class last x (plain_act a) t) (is_act_op last x (plain_act a) t), newest_within_reach a h)
 
   met_reach : (h : List Timed) (w : When) (y : OpId) → EachPossible plans costs h → is_met plans (is_eager plans costs) (plain h) w y ≡ true → met_at plans costs h w y ≤ reach plans costs h
   met_reach h AfterEnd y each e = end_reach h y each e
@@ -129,7 +129,7 @@ module _ (plans : List Plan) (costs : CostModel) where
   times_reach : (h : List Timed) → All (λ (a : Timed). a.time ≤ reach plans costs h) h
   times_reach [] = All-nil (λ (a : Timed). a.time ≤ reach plans costs [])
   times_reach (a ∷ h) =
-      All-cons (λ (b : Timed). b.time ≤ reach plans costs (a ∷ h)) a h (omega (arith, reach_time a h)) (All-weaker (λ (b : Timed). b.time ≤ reach plans costs h) (λ (b : Timed). b.time ≤ reach plans costs (a ∷ h)) (λ b le. le_trans le (reach_grows a h)) h (times_reach h))
+      All-cons (λ (b : Timed). b.time ≤ reach plans costs (a ∷ h)) a h (omega (arith, newest_within_reach a h)) (All-weaker (λ (b : Timed). b.time ≤ reach plans costs h) (λ (b : Timed). b.time ≤ reach plans costs (a ∷ h)) (λ b le. le_trans le (reach_grows a h)) h (times_reach h))
 
   pub within_reach : (h : List Timed) → EachPossible plans costs h → IsWithin plans costs h (reach plans costs h)
   within_reach h each = record {

@@ -27,12 +27,12 @@ use Rattle.sim_params.proofs.Grow.{since_new, mate_stays, time_grows}
 use Rattle.sim_params.proofs.Interleavings.{possible_at, run_interleaving}
 
 -- if not all passed before, and all pass now, one passes newly
-greatest_new : {A : Type 0} (before now : A → Bool) (f : A → ℕ) (n : ℕ) (xs : List A) → ((x : A) → before x ≡ false → now x ≡ true → n ≤ f x) → list_all before xs ≡ false → list_all now xs ≡ true → n ≤ greatest f xs
+greatest_after_new : {A : Type 0} (before now : A → Bool) (f : A → ℕ) (n : ℕ) (xs : List A) → ((x : A) → before x ≡ false → now x ≡ true → n ≤ f x) → list_all before xs ≡ false → list_all now xs ≡ true → n ≤ greatest f xs
 unfolding greatest
-greatest_new before now f n [] new p q = absurd (both_ways _ p refl)
-greatest_new before now f n (x ∷ xs) new p q =
+greatest_after_new before now f n [] new p q = absurd (both_ways _ p refl)
+greatest_after_new before now f n (x ∷ xs) new p q =
     let t = and_parts (now x) (list_all now xs) q in
-    elim (and_cases (before x) (list_all before xs) p) [ inl s ↦ le_trans (new x s t.0) (le-max_left (f x) (greatest f xs)) | inr s ↦ le_trans (greatest_new before now f n xs new s t.1) (le-max_right (f x) (greatest f xs)) ]
+    elim (and_cases (before x) (list_all before xs) p) [ inl s ↦ le_trans (new x s t.0) (le-max_left (f x) (greatest f xs)) | inr s ↦ le_trans (greatest_after_new before now f n xs new s t.1) (le-max_right (f x) (greatest f xs)) ]
 
 module _ (plans : List Plan) (costs : CostModel) where
   since_rises : (test : List Act → Bool) (a : Timed) (h : List Timed) → test (plain h) ≡ false → test (plain (a ∷ h)) ≡ true → a.time ≤ since test (a ∷ h)
@@ -45,7 +45,7 @@ module _ (plans : List Plan) (costs : CostModel) where
   ready_rises : (a : Timed) (h : List Timed) (x : OpId) → is_ready plans (is_eager plans costs) (plain h) x ≡ false → is_ready plans (is_eager plans costs) (plain (a ∷ h)) x ≡ true → a.time ≤ ready plans costs (a ∷ h) x
   unfolding ready is_ready
   ready_rises a h x p q =
-      greatest_new (λ (d : Need). is_met plans (is_eager plans costs) (plain h) d.when (needed x d)) (λ (d : Need). is_met plans (is_eager plans costs) (plain (a ∷ h)) d.when (needed x d)) (λ (d : Need). met_at plans costs (a ∷ h) d.when (needed x d)) a.time (needs plans x) (λ d s t. met_rises a h d.when (needed x d) s t) p q
+      greatest_after_new (λ (d : Need). is_met plans (is_eager plans costs) (plain h) d.when (needed x d)) (λ (d : Need). is_met plans (is_eager plans costs) (plain (a ∷ h)) d.when (needed x d)) (λ (d : Need). met_at plans costs (a ∷ h) d.when (needed x d)) a.time (needs plans x) (λ d s t. met_rises a h d.when (needed x d) s t) p q
 
   -- the message of a partner that was not there before
   there_rises : (a : Timed) (h : List Timed) (x : OpId) → IsInterleaving plans (is_eager plans costs) (plain (a ∷ h)) → is_served plans (is_eager plans costs) (plain h) (mate plans costs h x) ≡ false → is_served plans (is_eager plans costs) (plain (a ∷ h)) (mate plans costs (a ∷ h) x) ≡ true → a.time ≤ there_at plans costs (a ∷ h) x (mate plans costs (a ∷ h) x)

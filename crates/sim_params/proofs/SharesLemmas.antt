@@ -44,22 +44,22 @@ module _ (plans : List Plan) (costs : CostModel) (x : OpId) where
   unfolding share is_eager
   share_eager bytes to tag e eager = simp (e, eager) (omega arith)
 
-  pub share_large : (bytes to tag : ℕ) → kind_at plans x ≡ Some (Send bytes to tag) → costs.eager x.rank to bytes ≡ false → share plans costs x ≡ message_share costs x.rank to bytes + request_share costs x.rank to
+  pub share_rendezvous : (bytes to tag : ℕ) → kind_at plans x ≡ Some (Send bytes to tag) → costs.eager x.rank to bytes ≡ false → share plans costs x ≡ message_share costs x.rank to bytes + request_share costs x.rank to
   unfolding share is_eager
-  share_large bytes to tag e eager = simp (e, eager)
+  share_rendezvous bytes to tag e eager = simp (e, eager)
 
 -- no share is over 2^66
 module _ (plans : List Plan) (costs : CostModel) (accepted : IsAccepted plans) (bounded : IsBounded costs) where
   send_bound : (x : OpId) (bytes to tag : ℕ) → kind_at plans x ≡ Some (Send bytes to tag) → bytes < 2 ^ 40 → share plans costs x ≤ 2 ^ 66
   send_bound x bytes to tag e few =
-      elim (cases_Bool (costs.eager x.rank to bytes)) [ inl t ↦ omega (arith, share_eager plans costs x bytes to tag e t, bounded.over x.rank to bytes few, bounded.gap x.rank to bytes few, bounded.flight x.rank to bytes few) | inr f ↦ omega (arith, share_large plans costs x bytes to tag e f, bounded.over x.rank to bytes few, bounded.gap x.rank to bytes few, bounded.flight x.rank to bytes few, bounded.over x.rank to 1 (omega arith), bounded.gap x.rank to 1 (omega arith), bounded.flight x.rank to 1 (omega arith), bounded.latency x.rank to) ]
+      elim (cases_Bool (costs.eager x.rank to bytes)) [ inl t ↦ omega (arith, share_eager plans costs x bytes to tag e t, bounded.over x.rank to bytes few, bounded.gap x.rank to bytes few, bounded.flight x.rank to bytes few) | inr f ↦ omega (arith, share_rendezvous plans costs x bytes to tag e f, bounded.over x.rank to bytes few, bounded.gap x.rank to bytes few, bounded.flight x.rank to bytes few, bounded.over x.rank to 1 (omega arith), bounded.gap x.rank to 1 (omega arith), bounded.flight x.rank to 1 (omega arith), bounded.latency x.rank to) ]
 
-  kind_bound : (x : OpId) (o : Op) → op_at plans x ≡ Some o → (k : Kind) → o.kind ≡ k → share plans costs x ≤ 2 ^ 66
-  kind_bound x o e (Calc nanos) f =
+  share_of_kind_bound : (x : OpId) (o : Op) → op_at plans x ≡ Some o → (k : Kind) → o.kind ≡ k → share plans costs x ≤ 2 ^ 66
+  share_of_kind_bound x o e (Calc nanos) f =
       omega (arith, share_calc plans costs x nanos (kind_from_op plans x o _ e f), few_nanos o nanos (value_within plans accepted x o e) f)
-  kind_bound x o e (Send bytes to tag) f =
+  share_of_kind_bound x o e (Send bytes to tag) f =
       send_bound x bytes to tag (kind_from_op plans x o _ e f) (few_bytes o bytes to tag (value_within plans accepted x o e) f)
-  kind_bound x o e (Recv room from tag) f = omega (arith, share_recv plans costs x room from tag (kind_from_op plans x o _ e f))
+  share_of_kind_bound x o e (Recv room from tag) f = omega (arith, share_recv plans costs x room from tag (kind_from_op plans x o _ e f))
 
   pub share_bound : (x : OpId) → share plans costs x ≤ 2 ^ 66
   unfolding kind_at
@@ -67,7 +67,7 @@ module _ (plans : List Plan) (costs : CostModel) (accepted : IsAccepted plans) (
     where
       go : (o : Option Op) → op_at plans x ≡ o → share plans costs x ≤ 2 ^ 66
       go None e = omega (arith, share_none plans costs x (ap (option_map (λ (o : Op). o.kind)) e))
-      go (Some o) e = kind_bound x o e o.kind refl
+      go (Some o) e = share_of_kind_bound x o e o.kind refl
 
   pub shares_bound : (xs : List OpId) → length xs ≤ 2 ^ 20 → sum_by (share plans costs) xs ≤ 2 ^ 86
   shares_bound xs few =

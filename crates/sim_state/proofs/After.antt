@@ -19,7 +19,7 @@ use Rattle.goal_graph.proofs.ForCallers.{happened_unless_newest, happened_new, i
 use Rattle.sim_params.specs.Costs.{CostModel, flight, flight_one, is_eager}
 use Rattle.sim_params.specs.Times.{mate, cpu_hold, start, paired_at, time_of, time, Possible}
 use Rattle.sim_params.specs.Run.{IsRun}
-use Rattle.sim_params.proofs.ForCallers.{start_kept, start_now, end_kept, end_last, paired_at_kept, since_kept, since_new, run_each, run_interleaving}
+use Rattle.sim_params.proofs.ForCallers.{start_kept, start_at_newest, end_kept, end_last, paired_at_kept, since_kept, since_new, run_is_each_possible, run_interleaving}
 use Rattle.sim_state.specs.Engine.{start_known, end_known}
 use Rattle.sim_state.specs.Awaited.{is_there, unmet, awaited_known, delivered_known, paired_since}
 use Rattle.sim_state.specs.Enabled.{time_known}
@@ -93,12 +93,12 @@ module _ (plans : List Plan) (costs : CostModel) (h : List Timed) (a : Timed) wh
 
   pub start_new : Possible plans costs h a → a.class ≡ first_class (kind_at plans a.op) → start_known plans costs (a ∷ h) a.op ≡ Some a.time
   start_new p e =
-      cond-true _ _ _ (happened_this (first_class (kind_at plans a.op)) e) ∙ ap Some (start_now plans costs a h p e)
+      cond-true _ _ _ (happened_this (first_class (kind_at plans a.op)) e) ∙ ap Some (start_at_newest plans costs a h p e)
 
   -- the end
   pub end_same : IsRun plans costs h → (x : OpId) → is_act (last_class (is_eager plans costs x) (kind_at plans x)) x (plain_act a) ≡ false → end_known plans costs (a ∷ h) x ≡ end_known plans costs h x
   end_same run x e =
-      known_alike _ _ _ _ (happened_same (last_class (is_eager plans costs x) (kind_at plans x)) x e) (end_kept plans costs a h x (run_each plans costs h run))
+      known_alike _ _ _ _ (happened_same (last_class (is_eager plans costs x) (kind_at plans x)) x e) (end_kept plans costs a h x (run_is_each_possible plans costs h run))
 
   pub end_new : Possible plans costs h a → a.class ≡ last_class (is_eager plans costs a.op) (kind_at plans a.op) → end_known plans costs (a ∷ h) a.op ≡ Some (a.time + cpu_hold plans costs h a.class a.op (kind_at plans a.op))
   end_new p e =
@@ -164,7 +164,7 @@ module _ (plans : List Plan) (costs : CostModel) (h : List Timed) (a : Timed) wh
       let other : is_act Arrive a.op (plain_act a) ≡ false = other_class Arrive a.op (ap (λ (c : Class). place c == 0) e) in
       let under_way : (not (happened Arrive a.op (plain (a ∷ h))) && happened Begin a.op (plain (a ∷ h))) ≡ true = ap₂ (λ (b c : Bool). not b && c) (happened_same Arrive a.op other ∙ not_arrived) (happened_this Begin e) in
       let first : a.class ≡ first_class (kind_at plans a.op) = e ∙ sym (ap first_class s.kind) in
-      arriving_is (a ∷ h) a.op _ s.kind ∙ cond-true _ _ _ under_way ∙ ap (λ (n : ℕ). Some (n + travel a.op)) (start_now plans costs a h p first)
+      arriving_is (a ∷ h) a.op _ s.kind ∙ cond-true _ _ _ under_way ∙ ap (λ (n : ℕ). Some (n + travel a.op)) (start_at_newest plans costs a h p first)
 
   -- what has arrived is not
   pub arriving_arrived : a.class ≡ Arrive → time_known plans costs (a ∷ h) Arrive a.op ≡ None

@@ -19,7 +19,7 @@ use Rattle.sim_params.specs.Times.{since, mate, ready, cpu, tx, rx, paired_at, t
 use Rattle.sim_params.specs.Run.{IsRun}
 use Rattle.sim_params.specs.Laws.{at_its_time}
 use Rattle.sim_params.specs.Budget.{budget}
-use Rattle.sim_params.proofs.ForCallers.{possible_budget, possible_at, run_each, run_interleaving}
+use Rattle.sim_params.proofs.ForCallers.{possible_within_budget, possible_at, run_is_each_possible, run_interleaving}
 use Rattle.sim_state.specs.declared.entry.OpState.{OpState}
 use Rattle.sim_state.specs.declared.task.Task.{Task}
 use Rattle.sim_state.specs.declared.task.Task.TheVariants as task
@@ -224,7 +224,7 @@ module _ (plans : List Plan) (costs : CostModel) (h : List Timed) (x : OpId) whe
       pub clears : paired_at plans costs h x + latency plans costs x ≤ budget plans costs
       clears =
           let can = allowed_from plans (is_eager plans costs) (plain h) Data x unended_fresh may_data in
-          omega (arith, possible_budget plans costs h (at_its_time plans costs h Data x) (run_each plans costs h run) (possible_at plans costs h Data x can), data_time k)
+          omega (arith, possible_within_budget plans costs h (at_its_time plans costs h Data x) (run_is_each_possible plans costs h run) (possible_at plans costs h Data x can), data_time k)
 
   -- the message of a rendezvous send is available once it has ended, when its data reach the receive
   pub ended_message : IsRun plans costs h → IsSend plans x → is_eager plans costs x ≡ false → (at : ℕ) (e : OpState) → e ≡ entry_known plans costs h x → is_some e.times.end ≡ true → e.times.awaited ≡ message_known plans costs h (record { with = x; at = at })

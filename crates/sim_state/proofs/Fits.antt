@@ -15,24 +15,24 @@ use Rattle.sim_params.specs.Times.{since, mate, cpu_hold, tx_hold, rx_hold, pair
 use Rattle.sim_params.specs.Run.{IsRun}
 use Rattle.sim_params.specs.Budget.{budget}
 use Rattle.sim_params.specs.Laws.{at_its_time}
-use Rattle.sim_params.proofs.ForCallers.{possible_budget, start_now, since_new, mate_stays, possible_at, run_each, run_interleaving}
+use Rattle.sim_params.proofs.ForCallers.{possible_within_budget, start_at_newest, since_new, mate_stays, possible_at, run_is_each_possible, run_interleaving}
 use Rattle.sim_state.proofs.After.{happened_same, happened_this, not_happened_yet, other_class}
 
 module _ (plans : List Plan) (costs : CostModel) (h : List Timed) (a : Timed) (run : IsRun plans costs h) (p : Possible plans costs h a) where
   -- the action releases what it holds within the budget
   pub cpu_fits : a.time + cpu_hold plans costs h a.class a.op (kind_at plans a.op) ≤ budget plans costs
-  cpu_fits = omega (arith, possible_budget plans costs h a (run_each plans costs h run) p)
+  cpu_fits = omega (arith, possible_within_budget plans costs h a (run_is_each_possible plans costs h run) p)
 
   pub tx_fits : a.time + tx_hold plans costs a.class a.op (kind_at plans a.op) ≤ budget plans costs
-  tx_fits = omega (arith, possible_budget plans costs h a (run_each plans costs h run) p)
+  tx_fits = omega (arith, possible_within_budget plans costs h a (run_is_each_possible plans costs h run) p)
 
   pub rx_fits : a.time + rx_hold plans costs h a.class a.op (kind_at plans a.op) ≤ budget plans costs
-  rx_fits = omega (arith, possible_budget plans costs h a (run_each plans costs h run) p)
+  rx_fits = omega (arith, possible_within_budget plans costs h a (run_is_each_possible plans costs h run) p)
 
   -- what is allowed after it happens within the budget
   next_fits : (c : Class) (x : OpId) → allowed plans (is_eager plans costs) (plain (a ∷ h)) c x ≡ true → time plans costs (a ∷ h) c x ≤ budget plans costs
   next_fits c x e =
-      omega (arith, possible_budget plans costs (a ∷ h) (at_its_time plans costs (a ∷ h) c x) (run_each plans costs h run, p) (possible_at plans costs (a ∷ h) c x e))
+      omega (arith, possible_within_budget plans costs (a ∷ h) (at_its_time plans costs (a ∷ h) c x) (run_is_each_possible plans costs h run, p) (possible_at plans costs (a ∷ h) c x e))
 
   -- the message of a send that begins arrives within the budget
   flight_fits : a.class ≡ Begin → IsSend plans a.op → a.time + (if is_eager plans costs a.op then flight plans costs a.op else flight_one plans costs a.op) ≤ budget plans costs
@@ -45,7 +45,7 @@ module _ (plans : List Plan) (costs : CostModel) (h : List Timed) (a : Timed) (r
       let first : a.class ≡ first_class (kind_at plans a.op) = e ∙ sym (ap first_class s.kind) in
       let bound = next_fits Arrive a.op (allowed_from plans (is_eager plans costs) (plain (a ∷ h)) Arrive a.op still may_arrive) in
       let when = ap (time_of plans costs (a ∷ h) Arrive a.op) s.kind in
-      omega (arith, bound, when, start_now plans costs a h p first)
+      omega (arith, bound, when, start_at_newest plans costs a h p first)
 
   pub flight_of_eager : a.class ≡ Begin → IsSend plans a.op → is_eager plans costs a.op ≡ true → a.time + flight plans costs a.op ≤ budget plans costs
   flight_of_eager e s eager = subst (λ (b : Bool). a.time + (if b then flight plans costs a.op else flight_one plans costs a.op) ≤ budget plans costs) eager (flight_fits e s)

@@ -17,7 +17,7 @@ use Rattle.sim_params.specs.Costs.{CostModel}
 use Rattle.sim_params.specs.Times.{greatest, met_at, Possible}
 use Rattle.sim_params.specs.Run.{IsRun}
 use Rattle.sim_params.specs.Budget.{budget}
-use Rattle.sim_params.proofs.ForCallers.{run_each, within_budget}
+use Rattle.sim_params.proofs.ForCallers.{run_is_each_possible, within_budget}
 use Rattle.sim_state.specs.declared.entry.OpState.{OpState}
 use Rattle.sim_state.specs.declared.entry.Times.{Times}
 use Rattle.sim_state.specs.Awaited.{unmet, last_given, awaited_known}
@@ -178,8 +178,8 @@ module _ (plans : List Plan) (costs : CostModel) (h : List Timed) (a : Timed) wh
   module _ (run : IsRun plans costs h) (p : Possible plans costs h a) where
     -- the moment is within the budget
     pub moment_fits : (w : When) → there_now plans costs h a w a.op ≡ true → met_at plans costs (a ∷ h) w a.op ≤ budget plans costs
-    moment_fits AfterEnd t = (within_budget plans costs (a ∷ h) (run_each plans costs h run, p)).ends a.op t
-    moment_fits AfterStart t = (within_budget plans costs (a ∷ h) (run_each plans costs h run, p)).starts a.op
+    moment_fits AfterEnd t = (within_budget plans costs (a ∷ h) (run_is_each_possible plans costs h run, p)).ends a.op t
+    moment_fits AfterStart t = (within_budget plans costs (a ∷ h) (run_is_each_possible plans costs h run, p)).starts a.op
 
     module _ (ws : List Need) (whom : a.class ≢ Arrive → ws ≡ waiting_on plans a.op) (y : OpId) where
       -- before the first entry

@@ -17,7 +17,7 @@ use Rattle.goal_graph.proofs.ForCallers.{allowed_begin, allowed_data, allowed_po
 use Rattle.sim_params.specs.Costs.{CostModel, is_eager}
 use Rattle.sim_params.specs.Times.{met_at, Possible}
 use Rattle.sim_params.specs.Run.{IsRun}
-use Rattle.sim_params.proofs.ForCallers.{start_kept, end_kept, run_each, run_interleaving}
+use Rattle.sim_params.proofs.ForCallers.{start_kept, end_kept, run_is_each_possible, run_interleaving}
 use Rattle.sim_state.specs.Awaited.{gives}
 use Rattle.sim_state.proofs.After.{other_op, happened_same, not_happened_yet}
 
@@ -51,7 +51,7 @@ module _ (plans : List Plan) (costs : CostModel) (h : List Timed) (a : Timed) wh
 
   -- what was there is there at the same time
   pub same_moment : IsRun plans costs h → (w : When) (x : OpId) → was_there w x ≡ true → met_at plans costs (a ∷ h) w x ≡ met_at plans costs h w x
-  same_moment run AfterEnd x e = end_kept plans costs a h x (run_each plans costs h run) e
+  same_moment run AfterEnd x e = end_kept plans costs a h x (run_is_each_possible plans costs h run) e
   same_moment run AfterStart x e = start_kept plans costs a h x e
 
   -- the first action of an operation gives its start, the last its end

@@ -18,7 +18,7 @@ use Rattle.goal_graph.specs.Laws.{IsTaken}
 use Rattle.goal_graph.proofs.ForCallers.{listed_places, operations_in_order, needs-exist, contains_source}
 use Rattle.sim_params.specs.Costs.{CostModel, is_eager}
 use Rattle.sim_params.specs.Run.{IsRun, IsFinished}
-use Rattle.sim_params.proofs.ForCallers.{run_interleaving, complete_interleaving, op_is_unmet, partner_is_absent, op_is_stuck, partner_is_stuck, alone_is_alone}
+use Rattle.sim_params.proofs.ForCallers.{run_interleaving, complete_interleaving, op_is_unmet, partner_is_absent, op_is_stuck, partner_is_stuck, partners_of_alone_taken}
 use Rattle.sim_stuck.specs.StuckList.{with_reason, stuck_list}
 use Rattle.sim_stuck.specs.Laws.{ops_of, IsInOrder, NamesListed, ListsStuck, AloneAreAlone}
 use Rattle.sim_params.specs.Stuck.{are_fit, lacks_end}
@@ -81,7 +81,7 @@ module _ (plans : List Plan) (costs : CostModel) (h : List Timed) where
       let l = listed_is s c in
       let same = ap (λ (t : Stuck). t.op) l.3 in
       let alone = ap (λ (t : Stuck). t.why) l.3 ∙ e in
-      subst (λ (z : OpId). (has_started plans y (plain h) ≡ true) × IsTaken plans (plain h) y z) same (alone_is_alone plans (is_eager plans costs) (plain h) complete l.0 y (not-true _ l.2) alone (subst (λ (z : OpId). are_fit plans (is_eager plans costs) z y ≡ true) (sym same) fit))
+      subst (λ (z : OpId). (has_started plans y (plain h) ≡ true) × IsTaken plans (plain h) y z) same (partners_of_alone_taken plans (is_eager plans costs) (plain h) complete l.0 y (not-true _ l.2) alone (subst (λ (z : OpId). are_fit plans (is_eager plans costs) z y ≡ true) (sym same) fit))
 
 -- nothing is listed if all operations have an end
 pub none_listed : (plans : List Plan) (costs : CostModel) (h : List Timed) (stuck : List OpId) (list : List Stuck) → length stuck ≤ 0 → list ≡ [] → list ≡ map (with_reason plans costs h) stuck

@@ -18,7 +18,7 @@ use Rattle.sim_params.specs.Costs.{CostModel, is_eager}
 use Rattle.sim_params.specs.Times.{since, greatest, met_at, start, ready, time_of, time, Possible}
 use Rattle.sim_params.specs.Run.{IsRun}
 use Rattle.sim_params.specs.Laws.{NewestIsLast}
-use Rattle.sim_params.proofs.ForCallers.{since_kept, since_new, start_kept, end_kept, run_each, run_interleaving}
+use Rattle.sim_params.proofs.ForCallers.{since_kept, since_new, start_kept, end_kept, run_is_each_possible, run_interleaving}
 use Rattle.sim_waits.specs.Waits.{ended, last_time, wait}
 
 -- functions that agree on a list have the same greatest number
@@ -44,7 +44,7 @@ since_within test n (a ∷ h) each = go (test (plain h)) (test (plain (a ∷ h))
 
 module _ (plans : List Plan) (costs : CostModel) where
   met_kept : (a : Timed) (h : List Timed) (w : When) (y : OpId) → IsRun plans costs h → is_met plans (is_eager plans costs) (plain h) w y ≡ true → met_at plans costs (a ∷ h) w y ≡ met_at plans costs h w y
-  met_kept a h AfterEnd y run e = end_kept plans costs a h y (run_each plans costs h run) e
+  met_kept a h AfterEnd y run e = end_kept plans costs a h y (run_is_each_possible plans costs h run) e
   met_kept a h AfterStart y run e = start_kept plans costs a h y e
 
   -- the ready time of an operation that is ready stays

@@ -1,10 +1,10 @@
 -- Each law is a lemma.
 use Rattle.std.proofs.Common.{Contains}
-use Rattle.sim_params.proofs.Interleavings.{run_each, run_interleaving, complete_interleaving, run_length, possible_room}
+use Rattle.sim_params.proofs.Interleavings.{run_is_each_possible, run_interleaving, complete_interleaving, run_length, possible_room}
 use Rattle.sim_params.proofs.Fixed.{end_kept}
 use Rattle.sim_params.proofs.Rise.{times_rise, newest_last, possible_last}
-use Rattle.sim_params.proofs.Unique.{one_next, one_of_length, one_starts_other, starts_complete, one_complete}
-use Rattle.sim_params.proofs.Exists.{next_or_finished, some_complete}
+use Rattle.sim_params.proofs.Unique.{next_unique, run_of_length_unique, one_run_extends_other, complete_run_extends_run, complete_run_unique}
+use Rattle.sim_params.proofs.Exists.{next_or_finished, complete_run_exists}
 use Rattle.goal_graph.proofs.ForCallers.{run_in_turn, in_turn_run}
 use Rattle.sim_params.specs.Run.{IsNext, IsRun}
 use Rattle.sim_params.proofs.Queue.{least_is_next}
@@ -23,7 +23,7 @@ pub returns-clause-room_for_possible : goal.returns-clause-room_for_possible
 returns-clause-room_for_possible c = possible_room
 
 pub returns-clause-end_stays : goal.returns-clause-end_stays
-returns-clause-end_stays c = λ plans costs h a x r. end_kept plans costs a h x (run_each plans costs h r)
+returns-clause-end_stays c = λ plans costs h a x r. end_kept plans costs a h x (run_is_each_possible plans costs h r)
 
 pub returns-clause-times_rise : goal.returns-clause-times_rise
 returns-clause-times_rise c = λ plans costs h a b. times_rise plans costs a b h
@@ -35,25 +35,25 @@ pub returns-clause-possible_is_not_past : goal.returns-clause-possible_is_not_pa
 returns-clause-possible_is_not_past c = possible_last
 
 pub returns-clause-one_is_next : goal.returns-clause-one_is_next
-returns-clause-one_is_next c = one_next
+returns-clause-one_is_next c = next_unique
 
 pub returns-clause-next_or_finished : goal.returns-clause-next_or_finished
 returns-clause-next_or_finished c = next_or_finished
 
 pub returns-clause-one_run_of_each_length : goal.returns-clause-one_run_of_each_length
-returns-clause-one_run_of_each_length c = one_of_length
+returns-clause-one_run_of_each_length c = run_of_length_unique
 
 pub returns-clause-one_begins_as_the_other : goal.returns-clause-one_begins_as_the_other
-returns-clause-one_begins_as_the_other c = one_starts_other
+returns-clause-one_begins_as_the_other c = one_run_extends_other
 
 pub returns-clause-complete_run_begins_as_each : goal.returns-clause-complete_run_begins_as_each
-returns-clause-complete_run_begins_as_each c = starts_complete
+returns-clause-complete_run_begins_as_each c = complete_run_extends_run
 
 pub returns-clause-one_complete_run : goal.returns-clause-one_complete_run
-returns-clause-one_complete_run c = one_complete
+returns-clause-one_complete_run c = complete_run_unique
 
 pub returns-clause-some_complete_run : goal.returns-clause-some_complete_run
-returns-clause-some_complete_run c = some_complete
+returns-clause-some_complete_run c = complete_run_exists
 
 pub returns-clause-read_oldest_first : goal.returns-clause-read_oldest_first
 returns-clause-read_oldest_first c = λ plans costs h.

@@ -1,5 +1,5 @@
 use Rattle.std.proofs.Common.{sym, ◌∙◌, arith}
-use Rattle.sim_params.proofs.SharesLemmas.{few_bytes, share_calc, share_recv, share_eager, share_large}
+use Rattle.sim_params.proofs.SharesLemmas.{few_bytes, share_calc, share_recv, share_eager, share_rendezvous}
 use Rattle.sim_params.proofs.shares.share.Goals as goal
 use Rattle.goal_graph.proofs.ForCallers.{kind_from_op}
 
@@ -21,7 +21,7 @@ returns-then-eager g c =
 
 pub returns-else-eager : goal.returns-else-eager
 returns-else-eager g c =
-    let whole = share_large c.args.sched.now (g.C.Costs.model c.args.costs.now) c.args.id c.in-Send.bytes c.in-Send.to c.in-Send.tag (kind_from_op _ _ _ _ c.op.ensures.op c.in-Send.is) (cc) in
+    let whole = share_rendezvous c.args.sched.now (g.C.Costs.model c.args.costs.now) c.args.id c.in-Send.bytes c.in-Send.to c.in-Send.tag (kind_from_op _ _ _ _ c.op.ensures.op c.in-Send.is) (cc) in
     omega (arith, whole, c.from-message.ensures, c.message_share.ensures, c.from-else-eager.ensures, c.request_share.ensures)
 
 pub returns-in-Recv : goal.returns-in-Recv

@@ -1,6 +1,6 @@
 use Rattle.std.proofs.Common.{refl, sym, ap, ◌∙◌, subst, arith}
 use Rattle.sim_params.specs.Run.{IsRun, IsCompleteRun}
-use Rattle.sim_params.proofs.ForCallers.{one_complete}
+use Rattle.sim_params.proofs.ForCallers.{complete_run_unique}
 use Rattle.sim_events.specs.declared.engine.Engine.TheInside.{Inside}
 use Rattle.sim_state.specs.Engine.{RunSoFar}
 use Rattle.sim_events.specs.Pending.{IsPending}
@@ -26,7 +26,7 @@ pub returns-clause-complete : goal.returns-clause-complete
 returns-clause-complete g c = complete g c
 
 pub returns-clause-only : goal.returns-clause-only
-returns-clause-only g c = λ h other. one_complete _ _ h _ other (complete g c)
+returns-clause-only g c = λ h other. complete_run_unique _ _ h _ other (complete g c)
 
 pub returns-clause-plans : goal.returns-clause-plans
 returns-clause-plans g c =
