@@ -21,9 +21,9 @@ use Rattle.sim_match.proofs.Marks.{no_marks}
 use Rattle.sim_match.proofs.Unmet.{unmet_none}
 use Rattle.sim_match.proofs.Sides.{sides_map}
 
-empty_skips : {X : Type 0} (P : X → Type 0) (n : ℕ) → All P (take n [])
-empty_skips P zero = All-nil P
-empty_skips P (suc n) = All-nil P
+all_of_taken_none : {X : Type 0} (P : X → Type 0) (n : ℕ) → All P (take n [])
+all_of_taken_none P zero = All-nil P
+all_of_taken_none P (suc n) = All-nil P
 
 none_paired : (plans : List Plan) (x : OpId) → is_paired (pairs plans []) x ≡ false
 unfolding pairs partner
@@ -33,7 +33,7 @@ begun_match_list : (es : List MatchEntry) (paired : OpId → Bool) (count room :
 begun_match_list es paired count room none roomy = record {
   entries = sym none;
   within = omega arith;
-  skipped = subst (λ (xs : List MatchEntry). All (λ (e : MatchEntry). paired e.op ≡ true) (take 0 xs)) (sym none) (empty_skips (λ (e : MatchEntry). paired e.op ≡ true) 0);
+  skipped = subst (λ (xs : List MatchEntry). All (λ (e : MatchEntry). paired e.op ≡ true) (take 0 xs)) (sym none) (all_of_taken_none (λ (e : MatchEntry). paired e.op ≡ true) 0);
   room = roomy;
 }
 
@@ -41,8 +41,8 @@ abbrev empty_lists : Capacity → PatternLists
 empty_lists c = record { receives = empty_list Receives c; sends = empty_list Sends c }
 
 -- what a new match table keeps
-pub begins : (plans : List Plan) (keys : List Pattern) (capacities : List Capacity) (marks : List Bool) → IsAccepted plans → AreListed plans keys → AreCapacities plans keys (operations plans) capacities → marks ≡ replicate (length (operations plans)) false → Mirrors plans keys (side_by_side (map (empty_list Receives) capacities) (map (empty_list Sends) capacities)) marks []
-begins plans keys capacities marks accepted listed counted unmarked = subst (λ (ws : List PatternLists). Mirrors plans keys ws marks []) (sym (sides_map (empty_list Receives) (empty_list Sends) capacities)) (record {
+pub new_table_mirrors : (plans : List Plan) (keys : List Pattern) (capacities : List Capacity) (marks : List Bool) → IsAccepted plans → AreListed plans keys → AreCapacities plans keys (operations plans) capacities → marks ≡ replicate (length (operations plans)) false → Mirrors plans keys (side_by_side (map (empty_list Receives) capacities) (map (empty_list Sends) capacities)) marks []
+new_table_mirrors plans keys capacities marks accepted listed counted unmarked = subst (λ (ws : List PatternLists). Mirrors plans keys ws marks []) (sym (sides_map (empty_list Receives) (empty_list Sends) capacities)) (record {
   accepted = accepted;
   actions = tt;
   listed = listed;

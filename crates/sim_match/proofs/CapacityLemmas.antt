@@ -21,43 +21,43 @@ use Rattle.goal_graph.proofs.ForCallers.{kind_of_found_op}
 abbrev one_if : Bool → ℕ
 one_if b = cond b 1 0
 
-stays : (n : ℕ) → n ≡ n + cond false 1 0
-stays n = omega arith
+plus_no_count : (n : ℕ) → n ≡ n + cond false 1 0
+plus_no_count n = omega arith
 
 -- a send is counted in the first k of its lists
 pub counted_none : (capacities : List Capacity) → AreCounted [] capacities capacities
 counted_none capacities = record {
   one_each = refl;
-  each = λ l capacity e. record { before = capacity; was = e; receives = refl; sends = stays capacity.sends };
+  each = λ l capacity e. record { before = capacity; was = e; receives = refl; sends = plus_no_count capacity.sends };
 }
 
 module _ (numbers : List (Option ℕ)) (old now : List Capacity) (k : ℕ) (d : Option ℕ) (inside : k < length numbers) (c : AreCounted (take k numbers) old now) where
-  more : (test : Option ℕ → Bool) → list_any test (take (k + 1) numbers) ≡ (list_any test (take k numbers) || test (get_or numbers k d))
-  more test = list_any_more test numbers k d inside
+  list_any_next_number : (test : Option ℕ → Bool) → list_any test (take (k + 1) numbers) ≡ (list_any test (take k numbers) || test (get_or numbers k d))
+  list_any_next_number test = list_any_more test numbers k d inside
 
-  or_none : (s : Bool) → (s || false) ≡ s
-  or_none true = refl
-  or_none false = refl
+  or_false : (s : Bool) → (s || false) ≡ s
+  or_false true = refl
+  or_false false = refl
 
-  alike : (l : ℕ) (capacity : Capacity) → same_number (Some l) (get_or numbers k d) ≡ false → IsCounted (take k numbers) old l capacity → IsCounted (take (k + 1) numbers) old l capacity
-  alike l capacity other is = record {
+  unlisted_stays_counted : (l : ℕ) (capacity : Capacity) → same_number (Some l) (get_or numbers k d) ≡ false → IsCounted (take k numbers) old l capacity → IsCounted (take (k + 1) numbers) old l capacity
+  unlisted_stays_counted l capacity other is = record {
     before = is.before;
     was = is.was;
     receives = is.receives;
-    sends = is.sends ∙ ap (λ (b : Bool). is.before.sends + (if b then 1 else 0)) (sym (more (same_number (Some l)) ∙ ap (λ (b : Bool). list_any (same_number (Some l)) (take k numbers) || b) other ∙ or_none (list_any (same_number (Some l)) (take k numbers))));
+    sends = is.sends ∙ ap (λ (b : Bool). is.before.sends + (if b then 1 else 0)) (sym (list_any_next_number (same_number (Some l)) ∙ ap (λ (b : Bool). list_any (same_number (Some l)) (take k numbers) || b) other ∙ or_false (list_any (same_number (Some l)) (take k numbers))));
   }
 
   -- no list
   pub counted_without : get_or numbers k d ≡ None → AreCounted (take (k + 1) numbers) old now
   counted_without absent = record {
     one_each = c.one_each;
-    each = λ l capacity e. alike l capacity (ap (same_number (Some l)) absent) (c.each l capacity e);
+    each = λ l capacity e. unlisted_stays_counted l capacity (ap (same_number (Some l)) absent) (c.each l capacity e);
   }
 
   -- a list
   module _ (i : ℕ) (is : get_or numbers k d ≡ Some i) (once : AreOnce numbers) (within : AreWithin numbers (length old)) where
-    at : slice_get numbers k ≡ Some (Some i)
-    at = slice_get_read numbers (length numbers) k (Some i) refl inside (sym (get_or_from numbers k d (Some i) inside is))
+    number_at_k : slice_get numbers k ≡ Some (Some i)
+    number_at_k = slice_get_read numbers (length numbers) k (Some i) refl inside (sym (get_or_from numbers k d (Some i) inside is))
       where
         get_or_from : (xs : List (Option ℕ)) (k : ℕ) (d o : Option ℕ) → k < length xs → get_or xs k d ≡ o → get_or xs k o ≡ o
         get_or_from [] k d o b e = absurd (omega arith)
@@ -65,60 +65,60 @@ module _ (numbers : List (Option ℕ)) (old now : List Capacity) (k : ℕ) (d : 
         get_or_from (z ∷ zs) (suc k) d o b e = get_or_from zs k d o (omega arith) e
 
     pub count_within : i < length now
-    count_within = let low = within k i at in omega (arith, low, c.one_each)
+    count_within = let low = within k i number_at_k in omega (arith, low, c.one_each)
 
     module _ (capacity : Capacity) (read : capacity ≡ get_or now i capacity) where
-      its : IsCounted (take k numbers) old i capacity
-      its = c.each i capacity (slice_get_read now (length now) i capacity refl count_within read)
+      is_counted_before : IsCounted (take k numbers) old i capacity
+      is_counted_before = c.each i capacity (slice_get_read now (length now) i capacity refl count_within read)
 
-      none : one_if (list_any (same_number (Some i)) (take k numbers)) ≡ 0
-      none = ap one_if (once k i at)
+      not_counted_before : one_if (list_any (same_number (Some i)) (take k numbers)) ≡ 0
+      not_counted_before = ap one_if (once k i number_at_k)
 
       pub count_fits : ((l : ℕ) (r : Capacity) → slice_get old l ≡ Some r → r.sends + 1 < 2 ^ 32) → capacity.sends + 1 < 2 ^ 32
       count_fits small =
-          let fits = small i (its).before (its).was in
-          omega (arith, (its).sends, none, fits)
+          let fits = small i (is_counted_before).before (is_counted_before).was in
+          omega (arith, (is_counted_before).sends, not_counted_before, fits)
 
       pub counted_with : AreCounted (take (k + 1) numbers) old (slice_set now i (record capacity { sends = capacity.sends + 1 }))
       counted_with = record {
         one_each = length-set now i (record capacity { sends = capacity.sends + 1 }) ∙ c.one_each;
         each = λ l u e. elim (cases_eq l i) [
           | inl same ↦ subst (λ (n : ℕ). IsCounted (take (k + 1) numbers) old n u) (sym same) (subst (IsCounted (take (k + 1) numbers) old i) (slice_get_written now i (record capacity { sends = capacity.sends + 1 }) u (subst (λ (n : ℕ). slice_get (slice_set now i (record capacity { sends = capacity.sends + 1 })) n ≡ Some u) same e)) here)
-          | inr n ↦ alike l u (ap (same_number (Some l)) is ∙ ne_eqb l i n) (c.each l u (sym (slice_get_elsewhere now i l (record capacity { sends = capacity.sends + 1 }) n) ∙ e))
+          | inr n ↦ unlisted_stays_counted l u (ap (same_number (Some l)) is ∙ ne_eqb l i n) (c.each l u (sym (slice_get_elsewhere now i l (record capacity { sends = capacity.sends + 1 }) n) ∙ e))
         ];
       }
         where
           one : one_if (list_any (same_number (Some i)) (take (k + 1) numbers)) ≡ 1
-          one = ap one_if (more (same_number (Some i)) ∙ ap (λ (b : Bool). b || same_number (Some i) (get_or numbers k d)) (once k i at) ∙ ap (same_number (Some i)) is ∙ eq-eqb i i refl)
+          one = ap one_if (list_any_next_number (same_number (Some i)) ∙ ap (λ (b : Bool). b || same_number (Some i) (get_or numbers k d)) (once k i number_at_k) ∙ ap (same_number (Some i)) is ∙ eq-eqb i i refl)
 
           here : IsCounted (take (k + 1) numbers) old i (record capacity { sends = capacity.sends + 1 })
           here = record {
-            before = (its).before;
-            was = (its).was;
-            receives = (its).receives;
-            sends = omega (arith, (its).sends, none, one);
+            before = (is_counted_before).before;
+            was = (is_counted_before).was;
+            receives = (is_counted_before).receives;
+            sends = omega (arith, (is_counted_before).sends, not_counted_before, one);
           }
 
 -- the capacities after `it`, the operation o that is read at a place
 module _ (plans : List Plan) (keys : List Pattern) (ops : List OpId) (i : ℕ) (d : OpId) (inside : i < length ops) (capacities : List Capacity) (before : AreCapacities plans keys (take i ops) capacities) (o : Op) (is : op_at plans (get_or ops i d) ≡ Some o) where
-  abbrev it : OpId
-  it = get_or ops i d
+  abbrev op_read : OpId
+  op_read = get_or ops i d
 
-  kind : (k : Kind) → o.kind ≡ k → kind_at plans it ≡ Some k
-  kind k e = kind_of_found_op plans it o is ∙ ap (λ (k : Kind). Some k) e
+  kind_of_read_op : (k : Kind) → o.kind ≡ k → kind_at plans op_read ≡ Some k
+  kind_of_read_op k e = kind_of_found_op plans op_read o is ∙ ap (λ (k : Kind). Some k) e
 
-  capacity_more : (list : ℕ) (old new : Capacity) → IsCapacity plans keys (take i ops) list old → (r s : Bool) → in_list plans keys list it ≡ r → for_list plans keys list it ≡ s → new.receives ≡ old.receives + cond r 1 0 → new.sends ≡ old.sends + cond s 1 0 → IsCapacity plans keys (take (i + 1) ops) list new
-  capacity_more list old new was r s er es receives sends = record {
+  capacity_after_op : (list : ℕ) (old new : Capacity) → IsCapacity plans keys (take i ops) list old → (r s : Bool) → in_list plans keys list op_read ≡ r → for_list plans keys list op_read ≡ s → new.receives ≡ old.receives + cond r 1 0 → new.sends ≡ old.sends + cond s 1 0 → IsCapacity plans keys (take (i + 1) ops) list new
+  capacity_after_op list old new was r s er es receives sends = record {
     receives = receives ∙ ap (λ (n : ℕ). n + cond r 1 0) was.receives ∙ sym (counts (in_list plans keys list) r er);
     sends = sends ∙ ap (λ (n : ℕ). n + cond s 1 0) was.sends ∙ sym (counts (for_list plans keys list) s es);
   }
     where
-      counts : (test : OpId → Bool) (b : Bool) → test it ≡ b → count_by test (take (i + 1) ops) ≡ count_by test (take i ops) + cond b 1 0
+      counts : (test : OpId → Bool) (b : Bool) → test op_read ≡ b → count_by test (take (i + 1) ops) ≡ count_by test (take i ops) + cond b 1 0
       counts test b e =
           sum_by_more (λ (x : OpId). cond (test x) 1 0) ops i d inside ∙ ap (λ (b : Bool). count_by test (take i ops) + cond b 1 0) e
 
-  few : (test : OpId → Bool) → length ops < 2 ^ 32 → count_by test (take i ops) + 1 < 2 ^ 32
-  few test short =
+  count_with_next_fits : (test : OpId → Bool) → length ops < 2 ^ 32 → count_by test (take i ops) + 1 < 2 ^ 32
+  count_with_next_fits test short =
       let less = count_by-le-length test (take i ops) in
       let part = length-take i ops in
       omega (arith, less, part)
@@ -128,72 +128,72 @@ module _ (plans : List Plan) (keys : List Pattern) (ops : List OpId) (i : ℕ) (
     pub receive_within : list < length capacities
     receive_within = omega (arith, within, before.one_each)
 
-    here : in_list plans keys list it ≡ true
+    in_own_list : in_list plans keys list op_read ≡ true
     unfolding in_list
-    here = ap (λ (o : Option ℕ). same_number o (Some list)) has ∙ eq-eqb list list refl
+    in_own_list = ap (λ (o : Option ℕ). same_number o (Some list)) has ∙ eq-eqb list list refl
 
-    elsewhere : (l : ℕ) → (l ≡ list → ⊥) → in_list plans keys l it ≡ false
+    in_no_other_list : (l : ℕ) → (l ≡ list → ⊥) → in_list plans keys l op_read ≡ false
     unfolding in_list
-    elsewhere l n = ap (λ (o : Option ℕ). same_number o (Some l)) has ∙ ne_eqb list l (λ f. n (sym f))
+    in_no_other_list l n = ap (λ (o : Option ℕ). same_number o (Some l)) has ∙ ne_eqb list l (λ f. n (sym f))
 
-    no_send : (l : ℕ) → for_list plans keys l it ≡ false
+    receive_for_no_list : (l : ℕ) → for_list plans keys l op_read ≡ false
     unfolding for_list
-    no_send l = ap (λ (k : Option Kind). list_any (same_number (Some l)) (numbers_for keys it k)) (kind (Recv bytes from tag) e)
+    receive_for_no_list l = ap (λ (k : Option Kind). list_any (same_number (Some l)) (numbers_for keys op_read k)) (kind_of_read_op (Recv bytes from tag) e)
 
     module _ (capacity : Capacity) (read : capacity ≡ get_or capacities list capacity) where
-      its_capacity : IsCapacity plans keys (take i ops) list capacity
-      its_capacity = before.each list capacity (slice_get_read capacities (length capacities) list capacity refl receive_within read)
+      capacity_before : IsCapacity plans keys (take i ops) list capacity
+      capacity_before = before.each list capacity (slice_get_read capacities (length capacities) list capacity refl receive_within read)
 
       pub receives_fit : length ops < 2 ^ 32 → capacity.receives + 1 < 2 ^ 32
       receives_fit short =
-          let fits = few (in_list plans keys list) short in
-          omega (arith, fits, (its_capacity).receives)
+          let fits = count_with_next_fits (in_list plans keys list) short in
+          omega (arith, fits, (capacity_before).receives)
 
-      pub receive_more : AreCapacities plans keys (take (i + 1) ops) (slice_set capacities list (record capacity { receives = capacity.receives + 1 }))
-      receive_more = record {
+      pub capacities_after_receive : AreCapacities plans keys (take (i + 1) ops) (slice_set capacities list (record capacity { receives = capacity.receives + 1 }))
+      capacities_after_receive = record {
         one_each = length-set capacities list (record capacity { receives = capacity.receives + 1 }) ∙ before.one_each;
         each = λ l u f. elim (cases_eq l list) [
-          | inl same ↦ subst (λ (n : ℕ). IsCapacity plans keys (take (i + 1) ops) n u) (sym same) (subst (IsCapacity plans keys (take (i + 1) ops) list) (slice_get_written capacities list (record capacity { receives = capacity.receives + 1 }) u (subst (λ (n : ℕ). slice_get (slice_set capacities list (record capacity { receives = capacity.receives + 1 })) n ≡ Some u) same f)) (capacity_more list capacity (record capacity { receives = capacity.receives + 1 }) its_capacity true false here (no_send list) refl (stays capacity.sends)))
-          | inr n ↦ capacity_more l u u (before.each l u (sym (slice_get_elsewhere capacities list l (record capacity { receives = capacity.receives + 1 }) n) ∙ f)) false false (elsewhere l n) (no_send l) (stays u.receives) (stays u.sends)
+          | inl same ↦ subst (λ (n : ℕ). IsCapacity plans keys (take (i + 1) ops) n u) (sym same) (subst (IsCapacity plans keys (take (i + 1) ops) list) (slice_get_written capacities list (record capacity { receives = capacity.receives + 1 }) u (subst (λ (n : ℕ). slice_get (slice_set capacities list (record capacity { receives = capacity.receives + 1 })) n ≡ Some u) same f)) (capacity_after_op list capacity (record capacity { receives = capacity.receives + 1 }) capacity_before true false in_own_list (receive_for_no_list list) refl (plus_no_count capacity.sends)))
+          | inr n ↦ capacity_after_op l u u (before.each l u (sym (slice_get_elsewhere capacities list l (record capacity { receives = capacity.receives + 1 }) n) ∙ f)) false false (in_no_other_list l n) (receive_for_no_list l) (plus_no_count u.receives) (plus_no_count u.sends)
         ];
       }
 
   -- a send
   module _ (bytes to tag : ℕ) (e : o.kind ≡ Send bytes to tag) where
-    no_receive : (l : ℕ) → in_list plans keys l it ≡ false
+    send_in_no_list : (l : ℕ) → in_list plans keys l op_read ≡ false
     unfolding in_list
-    no_receive l = ap (λ (k : Option Kind). same_number (list_number keys (pattern_of it k)) (Some l)) (kind (Send bytes to tag) e)
+    send_in_no_list l = ap (λ (k : Option Kind). same_number (list_number keys (pattern_of op_read k)) (Some l)) (kind_of_read_op (Send bytes to tag) e)
 
     pub its_lists : lists_for plans keys (get_or ops i d) ≡ numbers_for keys (get_or ops i d) (Some (Send bytes to tag))
-    its_lists = ap (numbers_for keys it) (kind (Send bytes to tag) e)
+    its_lists = ap (numbers_for keys op_read) (kind_of_read_op (Send bytes to tag) e)
 
-    for_one : (l : ℕ) → for_list plans keys l it ≡ list_any (same_number (Some l)) (numbers_for keys it (Some (Send bytes to tag)))
+    send_for_list : (l : ℕ) → for_list plans keys l op_read ≡ list_any (same_number (Some l)) (numbers_for keys op_read (Some (Send bytes to tag)))
     unfolding for_list
-    for_one l = ap (list_any (same_number (Some l))) its_lists
+    send_for_list l = ap (list_any (same_number (Some l))) its_lists
 
     pub sends_fit : length ops < 2 ^ 32 → (l : ℕ) (capacity : Capacity) → slice_get capacities l ≡ Some capacity → capacity.sends + 1 < 2 ^ 32
     sends_fit short l capacity at =
-        let fits = few (for_list plans keys l) short in
+        let fits = count_with_next_fits (for_list plans keys l) short in
         omega (arith, fits, (before.each l capacity at).sends)
 
-    pub send_more : (new : List Capacity) → AreCounted (numbers_for keys (get_or ops i d) (Some (Send bytes to tag))) capacities new → AreCapacities plans keys (take (i + 1) ops) new
-    send_more new c = record {
+    pub capacities_after_send : (new : List Capacity) → AreCounted (numbers_for keys (get_or ops i d) (Some (Send bytes to tag))) capacities new → AreCapacities plans keys (take (i + 1) ops) new
+    capacities_after_send new c = record {
       one_each = c.one_each ∙ before.one_each;
-      each = λ l u f. let was = c.each l u f in capacity_more l was.before u (before.each l was.before was.was) false (list_any (same_number (Some l)) (numbers_for keys it (Some (Send bytes to tag)))) (no_receive l) (for_one l) (was.receives ∙ stays was.before.receives) was.sends;
+      each = λ l u f. let was = c.each l u f in capacity_after_op l was.before u (before.each l was.before was.was) false (list_any (same_number (Some l)) (numbers_for keys op_read (Some (Send bytes to tag)))) (send_in_no_list l) (send_for_list l) (was.receives ∙ plus_no_count was.before.receives) was.sends;
     }
 
   -- a calc
   module _ (nanos : ℕ) (e : o.kind ≡ Calc nanos) where
-    no_list : (l : ℕ) → in_list plans keys l it ≡ false
+    calc_in_no_list : (l : ℕ) → in_list plans keys l op_read ≡ false
     unfolding in_list
-    no_list l = ap (λ (k : Option Kind). same_number (list_number keys (pattern_of it k)) (Some l)) (kind (Calc nanos) e)
+    calc_in_no_list l = ap (λ (k : Option Kind). same_number (list_number keys (pattern_of op_read k)) (Some l)) (kind_of_read_op (Calc nanos) e)
 
-    no_lists : (l : ℕ) → for_list plans keys l it ≡ false
+    calc_for_no_list : (l : ℕ) → for_list plans keys l op_read ≡ false
     unfolding for_list
-    no_lists l = ap (λ (k : Option Kind). list_any (same_number (Some l)) (numbers_for keys it k)) (kind (Calc nanos) e)
+    calc_for_no_list l = ap (λ (k : Option Kind). list_any (same_number (Some l)) (numbers_for keys op_read k)) (kind_of_read_op (Calc nanos) e)
 
-    pub calc_more : AreCapacities plans keys (take (i + 1) ops) capacities
-    calc_more = record {
+    pub capacities_after_calc : AreCapacities plans keys (take (i + 1) ops) capacities
+    capacities_after_calc = record {
       one_each = before.one_each;
-      each = λ l u f. capacity_more l u u (before.each l u f) false false (no_list l) (no_lists l) (stays u.receives) (stays u.sends);
+      each = λ l u f. capacity_after_op l u u (before.each l u f) false false (calc_in_no_list l) (calc_for_no_list l) (plus_no_count u.receives) (plus_no_count u.sends);
     }

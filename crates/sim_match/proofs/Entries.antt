@@ -22,14 +22,14 @@ use Rattle.sim_match.proofs.Finding.{find_map, InOrder}
 use Rattle.goal_graph.proofs.ForCallers.{op_of_kind}
 
 -- the entries after one more action, of that class and of another
-pub entries_same : (class : Class) (a : Act) (h : List Act) → (place a.class == place class) ≡ true → entries_of class (a ∷ h) ≡ entries_of class h ++ record { op = a.op; at = length h } ∷ []
+pub entries_after_its_class : (class : Class) (a : Act) (h : List Act) → (place a.class == place class) ≡ true → entries_of class (a ∷ h) ≡ entries_of class h ++ record { op = a.op; at = length h } ∷ []
 unfolding entries_of
-entries_same class a h e =
+entries_after_its_class class a h e =
     ap (λ (b : Bool). entries_of class h ++ (if b then record { op = a.op; at = length h } ∷ [] else [])) e
 
-pub entries_other : (class : Class) (a : Act) (h : List Act) → (place a.class == place class) ≡ false → entries_of class (a ∷ h) ≡ entries_of class h
+pub entries_after_other_class : (class : Class) (a : Act) (h : List Act) → (place a.class == place class) ≡ false → entries_of class (a ∷ h) ≡ entries_of class h
 unfolding entries_of
-entries_other class a h e =
+entries_after_other_class class a h e =
     ap (λ (b : Bool). entries_of class h ++ (if b then record { op = a.op; at = length h } ∷ [] else [])) e ∙ append-nil (entries_of class h)
 
 pub entries_none : (class : Class) → entries_of class [] ≡ []
@@ -56,25 +56,25 @@ entries_before class (a ∷ h) = more (entries_before class h) (cases_Bool (plac
     more before c =
         let older : All (λ (e : MatchEntry). e.at < length (a ∷ h)) (entries_of class h) = All-weaker (λ (e : MatchEntry). e.at < length h) (λ (e : MatchEntry). e.at < length (a ∷ h)) (λ e l. omega (arith, l)) (entries_of class h) before in
         elim c [
-          | inl t ↦ subst (All (λ (e : MatchEntry). e.at < length (a ∷ h))) (sym (entries_same class a h t)) (All-push (λ (e : MatchEntry). e.at < length (a ∷ h)) (entries_of class h) (record { op = a.op; at = length h }) older (omega arith))
-          | inr f ↦ subst (All (λ (e : MatchEntry). e.at < length (a ∷ h))) (sym (entries_other class a h f)) older
+          | inl t ↦ subst (All (λ (e : MatchEntry). e.at < length (a ∷ h))) (sym (entries_after_its_class class a h t)) (All-push (λ (e : MatchEntry). e.at < length (a ∷ h)) (entries_of class h) (record { op = a.op; at = length h }) older (omega arith))
+          | inr f ↦ subst (All (λ (e : MatchEntry). e.at < length (a ∷ h))) (sym (entries_after_other_class class a h f)) older
         ]
 
 pub entries_order : (class : Class) (h : List Act) → InOrder (entries_of class h)
 entries_order class [] = subst InOrder (sym (entries_none class)) (λ i j d l b. absurd (omega arith))
 entries_order class (a ∷ h) = elim (cases_Bool (place a.class == place class)) [
-  | inl t ↦ subst InOrder (sym (entries_same class a h t)) (all_pairs_push (λ (e f : MatchEntry). e.at < f.at) (entries_of class h) (record { op = a.op; at = length h }) (entries_order class h) (entries_before class h))
-  | inr f ↦ subst InOrder (sym (entries_other class a h f)) (entries_order class h)
+  | inl t ↦ subst InOrder (sym (entries_after_its_class class a h t)) (all_pairs_push (λ (e f : MatchEntry). e.at < f.at) (entries_of class h) (record { op = a.op; at = length h }) (entries_order class h) (entries_before class h))
+  | inr f ↦ subst InOrder (sym (entries_after_other_class class a h f)) (entries_order class h)
 ]
 
-from_map : {X Y : Type 0} (P : Y → Type 0) (f : X → Y) (xs : List X) → All P (map f xs) → All (λ x. P (f x)) xs
-from_map P f xs all k d b =
+all_from_mapped : {X Y : Type 0} (P : Y → Type 0) (f : X → Y) (xs : List X) → All P (map f xs) → All (λ x. P (f x)) xs
+all_from_mapped P f xs all k d b =
     let long = length-map xs f in
     subst P (get_or-map f xs k d (f d) b) (all k (f d) (omega (arith, b, long)))
 
 pub entries_happened : (class : Class) (h : List Act) → All (λ (e : MatchEntry). happened class e.op h ≡ true) (entries_of class h)
 entries_happened class h =
-    from_map (λ (x : OpId). happened class x h ≡ true) (λ (e : MatchEntry). e.op) (entries_of class h) (subst (All (λ (x : OpId). happened class x h ≡ true)) (sym (entries_ops class h)) (ops_happened class h))
+    all_from_mapped (λ (x : OpId). happened class x h ≡ true) (λ (e : MatchEntry). e.op) (entries_of class h) (subst (All (λ (x : OpId). happened class x h ≡ true)) (sym (entries_ops class h)) (ops_happened class h))
 
 -- the oldest action of a class that passes two tests is the first of its entries that passes them
 pub oldest_entry : (class : Class) (r q : OpId → Bool) (h : List Act) → oldest (λ (a : Act). (place a.class == place class) && r a.op && q a.op) h ≡ option_map (λ (e : MatchEntry). e.op) (find (λ (e : MatchEntry). r e.op && q e.op) (entries_of class h))

@@ -20,10 +20,10 @@ module _ {X : Type 0} (p : X → Bool) where
       cond-false (p y) (Some y) (find p ys) (All-head (λ x. p x ≡ false) y ys fails) ∙ find_none ys (All-tail (λ x. p x ≡ false) y ys fails)
 
 -- two tests that agree on the elements of a list find the same
-pub find_alike : {X : Type 0} (p q : X → Bool) (xs : List X) → All (λ x. p x ≡ q x) xs → find p xs ≡ find q xs
-find_alike p q [] agree = refl
-find_alike {X} p q (y ∷ ys) agree =
-    ap (λ (b : Bool). cond b (Some y) (find p ys)) (All-head (λ x. p x ≡ q x) y ys agree) ∙ ap (λ (o : Option X). cond (q y) (Some y) o) (find_alike p q ys (All-tail (λ x. p x ≡ q x) y ys agree))
+pub find_by_equal_tests : {X : Type 0} (p q : X → Bool) (xs : List X) → All (λ x. p x ≡ q x) xs → find p xs ≡ find q xs
+find_by_equal_tests p q [] agree = refl
+find_by_equal_tests {X} p q (y ∷ ys) agree =
+    ap (λ (b : Bool). cond b (Some y) (find p ys)) (All-head (λ x. p x ≡ q x) y ys agree) ∙ ap (λ (o : Option X). cond (q y) (Some y) o) (find_by_equal_tests p q ys (All-tail (λ x. p x ≡ q x) y ys agree))
 
 -- what is found among those that pass another test
 pub find_filter : {X : Type 0} (f g : X → Bool) (xs : List X) → find g (filter f xs) ≡ find (λ x. g x && f x) xs
@@ -46,8 +46,8 @@ find_map {X} {Y} f p (x ∷ xs) = go (p (f x)) (find_map f p xs)
     go false rest = rest
 
 -- a last element that fails
-pub filter_last : {X : Type 0} (f : X → Bool) (xs : List X) (x : X) → f x ≡ false → filter f (xs ++ x ∷ []) ≡ filter f xs
-filter_last {X} f xs x e =
+pub filter_last_fails : {X : Type 0} (f : X → Bool) (xs : List X) (x : X) → f x ≡ false → filter f (xs ++ x ∷ []) ≡ filter f xs
+filter_last_fails {X} f xs x e =
     filter-append f xs (x ∷ []) ∙ ap (λ (b : Bool). filter f xs ++ cond b (x ∷ []) []) e ∙ append-nil (filter f xs)
 
 -- a last element that passes

@@ -26,11 +26,11 @@ use Rattle.sim_match.specs.Matcher.{unmet_of, stands_in, stood, class_of_kind, e
 use Rattle.sim_match.proofs.Ops.{post_suits, arrival_suits, actions_fewer}
 use Rattle.sim_match.proofs.Pairs.{in_pair, paired_more, pairs_with}
 use Rattle.sim_match.proofs.Written.{slice_get_written, slice_get_elsewhere}
-use Rattle.sim_match.proofs.Finding.{find_alike, find_filter, find_none, find_either, filter_last, filter_last_passes}
+use Rattle.sim_match.proofs.Finding.{find_by_equal_tests, find_filter, find_none, find_either, filter_last_fails, filter_last_passes}
 use Rattle.sim_match.proofs.PatternLemmas.{fits_list, fits_any, lists_once, lists_within}
 use Rattle.sim_match.proofs.Unmet.{unmet_other, unmet_arrival, unmet_all, unmet_fewer, unmet_found}
-use Rattle.sim_match.proofs.Entries.{entries_same, entries_other, entries_order, oldest_entry, posted_receives, posted_exist, arrived_exist, entries_fewer}
-use Rattle.sim_match.proofs.MatchListLemmas.{match_list_ready, match_list_kept, match_list_found, match_list_pushed, match_list_later}
+use Rattle.sim_match.proofs.Entries.{entries_after_its_class, entries_after_other_class, entries_order, oldest_entry, posted_receives, posted_exist, arrived_exist, entries_fewer}
+use Rattle.sim_match.proofs.MatchListLemmas.{match_list_ready, match_list_kept, match_list_found, match_list_pushed, match_list_after_pairing}
 
 module _ (plans : List Plan) (events : List OpId) where
   pub length-actions_of : length (actions_of plans events) ≡ length events
@@ -42,15 +42,15 @@ module _ (plans : List Plan) (events : List OpId) where
     actions_of-push =
         ap reverse (map_push (event_of plans) events x) ∙ reverse-append (map (event_of plans) events) (event_of plans x ∷ [])
 
-    of_class : (k : Option Kind) → kind_at plans x ≡ k → actions_of plans (events ++ x ∷ []) ≡ record { class = class_of_kind k; op = x } ∷ actions_of plans events
-    of_class k is =
+    actions_of-class : (k : Option Kind) → kind_at plans x ≡ k → actions_of plans (events ++ x ∷ []) ≡ record { class = class_of_kind k; op = x } ∷ actions_of plans events
+    actions_of-class k is =
         actions_of-push ∙ ap (λ (k : Option Kind). record { class = class_of_kind k; op = x } ∷ actions_of plans events) is
 
     pub actions_of-post : IsReceive plans x → actions_of plans (events ++ x ∷ []) ≡ record { class = Post; op = x } ∷ actions_of plans events
-    actions_of-post r = of_class _ r.kind
+    actions_of-post r = actions_of-class _ r.kind
 
     pub actions_of-arrival : IsSend plans x → actions_of plans (events ++ x ∷ []) ≡ record { class = Arrive; op = x } ∷ actions_of plans events
-    actions_of-arrival s = of_class _ s.kind
+    actions_of-arrival s = actions_of-class _ s.kind
 
 or_assoc : (s t u : Bool) → ((s || t) || u) ≡ (s || (t || u))
 or_assoc true t u = refl
@@ -90,13 +90,13 @@ paired_after plans a h old new None pairing both makes marked changes y =
 paired_after plans a h old new (Some f) pairing both makes marked changes y =
     changes y ∙ ap (λ (b : Bool). (b || same_op a.op y) || same_op f.op y) (marked y) ∙ or_assoc (is_paired (pairs plans h) y) (same_op a.op y) (same_op f.op y) ∙ ap (λ (b : Bool). is_paired (pairs plans h) y || b) (sym (both f.op y)) ∙ sym (paired_more (pairing f.op) (pairs plans h) y) ∙ ap (λ (ps : List Pair). is_paired ps y) (sym (pairs_with plans a h (pairing f.op) makes))
 
-its_send : (x : OpId) (o : Option OpId) → option_map (λ (p : Pair). p.send) (option_map (λ (m : OpId). pair_of m x) o) ≡ o
-its_send x None = refl
-its_send x (Some m) = refl
+send_of_pairs : (x : OpId) (o : Option OpId) → option_map (λ (p : Pair). p.send) (option_map (λ (m : OpId). pair_of m x) o) ≡ o
+send_of_pairs x None = refl
+send_of_pairs x (Some m) = refl
 
-its_receive : (m : OpId) (o : Option OpId) → option_map (λ (p : Pair). p.recv) (option_map (λ (x : OpId). pair_of m x) o) ≡ o
-its_receive m None = refl
-its_receive m (Some x) = refl
+receive_of_pairs : (m : OpId) (o : Option OpId) → option_map (λ (p : Pair). p.recv) (option_map (λ (x : OpId). pair_of m x) o) ≡ o
+receive_of_pairs m None = refl
+receive_of_pairs m (Some x) = refl
 
 module _ (plans : List Plan) (keys : List Pattern) (h : List Act) where
   -- the receives and the sends of a list after a post
@@ -111,18 +111,18 @@ module _ (plans : List Plan) (keys : List Pattern) (h : List Act) where
 
   receives_more : (x : OpId) (l : ℕ) → in_list plans keys l x ≡ true → receives_of plans keys (post_of x ∷ h) l ≡ receives_of plans keys h l ++ entry x ∷ []
   receives_more x l pass =
-      ap (filter (λ (e : MatchEntry). in_list plans keys l e.op)) (entries_same Post (post_of x) h refl) ∙ filter_last_passes (λ (e : MatchEntry). in_list plans keys l e.op) (entries_of Post h) (entry x) pass
+      ap (filter (λ (e : MatchEntry). in_list plans keys l e.op)) (entries_after_its_class Post (post_of x) h refl) ∙ filter_last_passes (λ (e : MatchEntry). in_list plans keys l e.op) (entries_of Post h) (entry x) pass
 
   receives_same : (x : OpId) (l : ℕ) → in_list plans keys l x ≡ false → receives_of plans keys (post_of x ∷ h) l ≡ receives_of plans keys h l
   receives_same x l fails =
-      ap (filter (λ (e : MatchEntry). in_list plans keys l e.op)) (entries_same Post (post_of x) h refl) ∙ filter_last (λ (e : MatchEntry). in_list plans keys l e.op) (entries_of Post h) (entry x) fails
+      ap (filter (λ (e : MatchEntry). in_list plans keys l e.op)) (entries_after_its_class Post (post_of x) h refl) ∙ filter_last_fails (λ (e : MatchEntry). in_list plans keys l e.op) (entries_of Post h) (entry x) fails
 
   sends_same : (x : OpId) (l : ℕ) → sends_of plans keys (post_of x ∷ h) l ≡ sends_of plans keys h l
   sends_same x l = ap (filter (λ (e : MatchEntry). for_list plans keys l e.op)) (unmet_other plans (post_of x) h refl)
 
   -- and after an arrival
   receives_stay : (m : OpId) (l : ℕ) → receives_of plans keys (arrival_of m ∷ h) l ≡ receives_of plans keys h l
-  receives_stay m l = ap (filter (λ (e : MatchEntry). in_list plans keys l e.op)) (entries_other Post (arrival_of m) h refl)
+  receives_stay m l = ap (filter (λ (e : MatchEntry). in_list plans keys l e.op)) (entries_after_other_class Post (arrival_of m) h refl)
 
   -- a send that met no receive is in its lists
   sends_then : (m : OpId) (l : ℕ) (met : Option MatchEntry) → new_pair plans (pairs plans h) h Arrive m ≡ option_map (λ (z : OpId). pair_of m z) (option_map (λ (e : MatchEntry). e.op) met) → sends_of plans keys (arrival_of m ∷ h) l ≡ sends_of plans keys h l ++ (if list_any (same_number (Some l)) (stands_in met (lists_for plans keys m)) then entry m ∷ [] else [])
@@ -133,11 +133,11 @@ module _ (plans : List Plan) (keys : List Pattern) (h : List Act) where
       ap (filter (λ (e : MatchEntry). for_list plans keys l e.op)) (unmet_arrival plans (arrival_of m) h refl ∙ ap (λ (o : Option Pair). unmet_of plans h ++ (if is_none o then entry m ∷ [] else [])) makes ∙ append-nil (unmet_of plans h)) ∙ sym (append-nil (sends_of plans keys h l))
 
 -- how many sends have joined lists
-pub standing_post : (plans : List Plan) (h : List Act) (x : OpId) → length (unmet_of plans (record { class = Post; op = x } ∷ h)) ≡ length (unmet_of plans h)
-standing_post plans h x = ap length (unmet_other plans (record { class = Post; op = x }) h refl)
+pub unmet_after_post : (plans : List Plan) (h : List Act) (x : OpId) → length (unmet_of plans (record { class = Post; op = x } ∷ h)) ≡ length (unmet_of plans h)
+unmet_after_post plans h x = ap length (unmet_other plans (record { class = Post; op = x }) h refl)
 
-pub none_standing : (plans : List Plan) (keys : List Pattern) (h : List Act) (list : ℕ) → length (unmet_of plans h) ≡ 0 → sends_of plans keys h list ≡ []
-none_standing plans keys h list none =
+pub no_unmet_no_sends : (plans : List Plan) (keys : List Pattern) (h : List Act) (list : ℕ) → length (unmet_of plans h) ≡ 0 → sends_of plans keys h list ≡ []
+no_unmet_no_sends plans keys h list none =
     ap (filter (λ (e : MatchEntry). for_list plans keys list e.op)) (no_items (unmet_of plans h) none)
   where
     no_items : (es : List MatchEntry) → length es ≡ 0 → es ≡ []
@@ -160,12 +160,12 @@ module _ (plans : List Plan) (keys : List Pattern) (lists : List PatternLists) (
 
   -- a receive that is still to be posted
   module _ (x : OpId) (r : IsReceive plans x) (fresh : happened Post x h ≡ false) where
-    new : IsNew plans h (post_of plans keys h x)
-    new = record { class = refl; suited = post_suits plans x r; fresh = fresh }
+    post_is_new : IsNew plans h (post_of plans keys h x)
+    post_is_new = record { class = refl; suited = post_suits plans x r; fresh = fresh }
 
     pub post_counted : length h < length (operations plans)
     post_counted =
-        let fewer = actions_fewer plans (post_of plans keys h x) h m.actions new in
+        let fewer = actions_fewer plans (post_of plans keys h x) h m.actions post_is_new in
         let all = count_by-le-length (is_message plans) (operations plans) in
         omega (arith, fewer, all)
 
@@ -176,91 +176,91 @@ module _ (plans : List Plan) (keys : List Pattern) (lists : List PatternLists) (
     post_listed = m.listed x r
 
     module _ (list : ℕ) (is : list_of plans keys x ≡ Some list) where
-      post_in : list < length keys
-      post_in =
+      post_list_within : list < length keys
+      post_list_within =
           subst (λ (n : ℕ). n < length keys) (same_Some (post_listed).list list (sym (post_listed).is ∙ is)) (post_listed).within
 
       pub post_within : list < length lists
-      post_within = let within = post_in in omega (arith, within, m.one_each)
+      post_within = let within = post_list_within in omega (arith, within, m.one_each)
 
-      here : in_list plans keys list x ≡ true
+      posted_in_its_list : in_list plans keys list x ≡ true
       unfolding in_list
-      here = ap (λ (o : Option ℕ). same_number o (Some list)) is ∙ eq-eqb list list refl
+      posted_in_its_list = ap (λ (o : Option ℕ). same_number o (Some list)) is ∙ eq-eqb list list refl
 
-      elsewhere : (l : ℕ) → (l ≡ list → ⊥) → in_list plans keys l x ≡ false
+      posted_in_no_other : (l : ℕ) → (l ≡ list → ⊥) → in_list plans keys l x ≡ false
       unfolding in_list
-      elsewhere l n = ap (λ (o : Option ℕ). same_number o (Some l)) is ∙ ne_eqb list l (λ e. n (sym e))
+      posted_in_no_other l n = ap (λ (o : Option ℕ). same_number o (Some l)) is ∙ ne_eqb list l (λ e. n (sym e))
 
       module _ (w : PatternLists) (read : w ≡ get_or lists list w) where
-        old : AreLists plans keys paired list (receives_of plans keys h list) (sends_of plans keys h list) w
-        old = lists_read list w post_in read
+        post_list_before : AreLists plans keys paired list (receives_of plans keys h list) (sends_of plans keys h list) w
+        post_list_before = lists_read list w post_list_within read
 
         pub post_ready : IsReady plans marks w.sends
-        post_ready = match_list_ready _ _ _ w.sends (old).sends plans marks m.marked (sends_exist list) m.all_marks
+        post_ready = match_list_ready _ _ _ w.sends (post_list_before).sends plans marks m.marked (sends_exist list) m.all_marks
 
-        pub post_none : length (unmet_of plans h) ≡ 0 → w.sends.entries ≡ []
-        post_none none = (old).sends.entries ∙ none_standing plans keys h list none
+        pub no_unmet_no_waiting_sends : length (unmet_of plans h) ≡ 0 → w.sends.entries ≡ []
+        no_unmet_no_waiting_sends none = (post_list_before).sends.entries ∙ no_unmet_no_sends plans keys h list none
 
         pub post_room : length w.receives.entries < w.receives.room
         post_room =
-            let fewer = entries_fewer plans h m.actions (in_list plans keys list) Post x (post_suits plans x r) fresh here in
-            omega (arith, fewer, ap length (old).receives.entries, (old).receives.room)
+            let fewer = entries_fewer plans h m.actions (in_list plans keys list) Post x (post_suits plans x r) fresh posted_in_its_list in
+            omega (arith, fewer, ap length (post_list_before).receives.entries, (post_list_before).receives.room)
 
         module _ (v : PatternLists) (met : Option MatchEntry) (first : IsFirst (is_marked (operations plans) marks) w.sends v.sends met) (grown : v.receives ≡ pushed w.receives (entry plans keys h x)) where
           post_met : met ≡ find (λ (e : MatchEntry). not (paired e.op) && fits plans x e.op) (entries_of Arrive h)
           post_met =
-              match_list_found _ _ _ w.sends (old).sends plans marks m.marked v.sends met first ∙ find_filter (λ (e : MatchEntry). for_list plans keys list e.op) (λ (e : MatchEntry). not (paired e.op)) (unmet_of plans h) ∙ unmet_found plans h (λ (e : MatchEntry). for_list plans keys list e.op) ∙ find_agree (λ (e : MatchEntry). not (paired e.op) && for_list plans keys list e.op) (λ (e : MatchEntry). not (paired e.op) && fits plans x e.op) (λ e. ap (λ (b : Bool). not (paired e.op) && b) (sym (fits_list plans keys x e.op list r is))) (entries_of Arrive h)
+              match_list_found _ _ _ w.sends (post_list_before).sends plans marks m.marked v.sends met first ∙ find_filter (λ (e : MatchEntry). for_list plans keys list e.op) (λ (e : MatchEntry). not (paired e.op)) (unmet_of plans h) ∙ unmet_found plans h (λ (e : MatchEntry). for_list plans keys list e.op) ∙ find_agree (λ (e : MatchEntry). not (paired e.op) && for_list plans keys list e.op) (λ (e : MatchEntry). not (paired e.op) && fits plans x e.op) (λ e. ap (λ (b : Bool). not (paired e.op) && b) (sym (fits_list plans keys x e.op list r is))) (entries_of Arrive h)
 
           post_makes : new_pair plans (pairs plans h) h Post x ≡ option_map (λ (z : OpId). pair_of z x) (option_map (λ (e : MatchEntry). e.op) met)
           post_makes =
               ap (option_map (λ (z : OpId). pair_of z x)) (oldest_entry Arrive (λ (z : OpId). not (paired z)) (fits plans x) h ∙ ap (option_map (λ (e : MatchEntry). e.op)) (sym post_met))
 
           pub post_answers : option_map (λ (e : MatchEntry). e.op) met ≡ send_for plans h x
-          post_answers = sym (ap (option_map (λ (p : Pair). p.send)) post_makes ∙ its_send x _)
+          post_answers = sym (ap (option_map (λ (p : Pair). p.send)) post_makes ∙ send_of_pairs x _)
 
           pub post_met_exists : IfSome met (λ (e : MatchEntry). IsOp plans e.op)
           post_met_exists = met_exists plans (entries_of Arrive h) _ met post_met (arrived_exist plans h m.actions)
 
-          later : (y : OpId) → paired y ≡ true → is_paired (pairs plans (post_of plans keys h x ∷ h)) y ≡ true
-          later y = paired_stays plans (post_of plans keys h x) h y
+          paired_stays_after_post : (y : OpId) → paired y ≡ true → is_paired (pairs plans (post_of plans keys h x ∷ h)) y ≡ true
+          paired_stays_after_post y = paired_stays plans (post_of plans keys h x) h y
 
-          post_here : AreLists plans keys (is_paired (pairs plans (post_of plans keys h x ∷ h))) list (receives_of plans keys (post_of plans keys h x ∷ h) list) (sends_of plans keys (post_of plans keys h x ∷ h) list) v
-          post_here = record {
-            receives = subst (λ (es : List MatchEntry). IsMatchList es (is_paired (pairs plans (post_of plans keys h x ∷ h))) (count_by (in_list plans keys list) (operations plans)) v.receives) (sym (receives_more plans keys h x list here)) (match_list_later _ _ _ v.receives (subst (IsMatchList (receives_of plans keys h list ++ entry plans keys h x ∷ []) paired (count_by (in_list plans keys list) (operations plans))) (sym grown) (match_list_pushed _ _ _ w.receives (old).receives (entry plans keys h x))) _ later);
-            sends = subst (λ (es : List MatchEntry). IsMatchList es (is_paired (pairs plans (post_of plans keys h x ∷ h))) (count_by (for_list plans keys list) (operations plans)) v.sends) (sym (sends_same plans keys h x list)) (match_list_later _ _ _ v.sends (match_list_kept _ _ _ w.sends (old).sends plans marks m.marked v.sends met first) _ later);
+          post_its_list_after : AreLists plans keys (is_paired (pairs plans (post_of plans keys h x ∷ h))) list (receives_of plans keys (post_of plans keys h x ∷ h) list) (sends_of plans keys (post_of plans keys h x ∷ h) list) v
+          post_its_list_after = record {
+            receives = subst (λ (es : List MatchEntry). IsMatchList es (is_paired (pairs plans (post_of plans keys h x ∷ h))) (count_by (in_list plans keys list) (operations plans)) v.receives) (sym (receives_more plans keys h x list posted_in_its_list)) (match_list_after_pairing _ _ _ v.receives (subst (IsMatchList (receives_of plans keys h list ++ entry plans keys h x ∷ []) paired (count_by (in_list plans keys list) (operations plans))) (sym grown) (match_list_pushed _ _ _ w.receives (post_list_before).receives (entry plans keys h x))) _ paired_stays_after_post);
+            sends = subst (λ (es : List MatchEntry). IsMatchList es (is_paired (pairs plans (post_of plans keys h x ∷ h))) (count_by (for_list plans keys list) (operations plans)) v.sends) (sym (sends_same plans keys h x list)) (match_list_after_pairing _ _ _ v.sends (match_list_kept _ _ _ w.sends (post_list_before).sends plans marks m.marked v.sends met first) _ paired_stays_after_post);
           }
 
-          post_elsewhere : (l : ℕ) (u : PatternLists) → (l ≡ list → ⊥) → AreLists plans keys paired l (receives_of plans keys h l) (sends_of plans keys h l) u → AreLists plans keys (is_paired (pairs plans (post_of plans keys h x ∷ h))) l (receives_of plans keys (post_of plans keys h x ∷ h) l) (sends_of plans keys (post_of plans keys h x ∷ h) l) u
-          post_elsewhere l u n before = record {
-            receives = subst (λ (es : List MatchEntry). IsMatchList es (is_paired (pairs plans (post_of plans keys h x ∷ h))) (count_by (in_list plans keys l) (operations plans)) u.receives) (sym (receives_same plans keys h x l (elsewhere l n))) (match_list_later _ _ _ u.receives before.receives _ later);
-            sends = subst (λ (es : List MatchEntry). IsMatchList es (is_paired (pairs plans (post_of plans keys h x ∷ h))) (count_by (for_list plans keys l) (operations plans)) u.sends) (sym (sends_same plans keys h x l)) (match_list_later _ _ _ u.sends before.sends _ later);
+          post_other_list_after : (l : ℕ) (u : PatternLists) → (l ≡ list → ⊥) → AreLists plans keys paired l (receives_of plans keys h l) (sends_of plans keys h l) u → AreLists plans keys (is_paired (pairs plans (post_of plans keys h x ∷ h))) l (receives_of plans keys (post_of plans keys h x ∷ h) l) (sends_of plans keys (post_of plans keys h x ∷ h) l) u
+          post_other_list_after l u n before = record {
+            receives = subst (λ (es : List MatchEntry). IsMatchList es (is_paired (pairs plans (post_of plans keys h x ∷ h))) (count_by (in_list plans keys l) (operations plans)) u.receives) (sym (receives_same plans keys h x l (posted_in_no_other l n))) (match_list_after_pairing _ _ _ u.receives before.receives _ paired_stays_after_post);
+            sends = subst (λ (es : List MatchEntry). IsMatchList es (is_paired (pairs plans (post_of plans keys h x ∷ h))) (count_by (for_list plans keys l) (operations plans)) u.sends) (sym (sends_same plans keys h x l)) (match_list_after_pairing _ _ _ u.sends before.sends _ paired_stays_after_post);
           }
 
-          post_each : (l : ℕ) (u : PatternLists) → slice_get (slice_set lists list v) l ≡ Some u → AreLists plans keys (is_paired (pairs plans (post_of plans keys h x ∷ h))) l (receives_of plans keys (post_of plans keys h x ∷ h) l) (sends_of plans keys (post_of plans keys h x ∷ h) l) u
-          post_each l u e = elim (cases_eq l list) [
-            | inl same ↦ subst (λ (k : ℕ). AreLists plans keys (is_paired (pairs plans (post_of plans keys h x ∷ h))) k (receives_of plans keys (post_of plans keys h x ∷ h) k) (sends_of plans keys (post_of plans keys h x ∷ h) k) u) (sym same) (subst (AreLists plans keys (is_paired (pairs plans (post_of plans keys h x ∷ h))) list (receives_of plans keys (post_of plans keys h x ∷ h) list) (sends_of plans keys (post_of plans keys h x ∷ h) list)) (slice_get_written lists list v u (subst (λ (k : ℕ). slice_get (slice_set lists list v) k ≡ Some u) same e)) post_here)
-            | inr n ↦ post_elsewhere l u n (m.each l u (sym (slice_get_elsewhere lists list l v n) ∙ e))
+          post_every_list_after : (l : ℕ) (u : PatternLists) → slice_get (slice_set lists list v) l ≡ Some u → AreLists plans keys (is_paired (pairs plans (post_of plans keys h x ∷ h))) l (receives_of plans keys (post_of plans keys h x ∷ h) l) (sends_of plans keys (post_of plans keys h x ∷ h) l) u
+          post_every_list_after l u e = elim (cases_eq l list) [
+            | inl same ↦ subst (λ (k : ℕ). AreLists plans keys (is_paired (pairs plans (post_of plans keys h x ∷ h))) k (receives_of plans keys (post_of plans keys h x ∷ h) k) (sends_of plans keys (post_of plans keys h x ∷ h) k) u) (sym same) (subst (AreLists plans keys (is_paired (pairs plans (post_of plans keys h x ∷ h))) list (receives_of plans keys (post_of plans keys h x ∷ h) list) (sends_of plans keys (post_of plans keys h x ∷ h) list)) (slice_get_written lists list v u (subst (λ (k : ℕ). slice_get (slice_set lists list v) k ≡ Some u) same e)) post_its_list_after)
+            | inr n ↦ post_other_list_after l u n (m.each l u (sym (slice_get_elsewhere lists list l v n) ∙ e))
           ]
 
           pub post_keeps : (after : List Bool) → ArePaired (operations plans) x met marks after → length after ≡ length marks → Mirrors plans keys (slice_set lists list v) after (post_of plans keys h x ∷ h)
           post_keeps after changes long = record {
             accepted = m.accepted;
-            actions = (m.actions, new);
+            actions = (m.actions, post_is_new);
             listed = m.listed;
             one_each = length-set lists list v ∙ m.one_each;
-            each = post_each;
+            each = post_every_list_after;
             marked = paired_after plans (post_of plans keys h x) h marks after met (λ (z : OpId). pair_of z x) (λ z y. or_comm (same_op z y) (same_op x y)) post_makes m.marked changes;
             all_marks = omega (arith, m.all_marks, long);
           }
 
   -- a send that is still to arrive
   module _ (y : OpId) (s : IsSend plans y) (fresh : happened Arrive y h ≡ false) where
-    coming : IsNew plans h (arrival_of plans keys h y)
-    coming = record { class = refl; suited = arrival_suits plans y s; fresh = fresh }
+    arrival_is_new : IsNew plans h (arrival_of plans keys h y)
+    arrival_is_new = record { class = refl; suited = arrival_suits plans y s; fresh = fresh }
 
     pub arrival_counted : length h < length (operations plans)
     arrival_counted =
-        let fewer = actions_fewer plans (arrival_of plans keys h y) h m.actions coming in
+        let fewer = actions_fewer plans (arrival_of plans keys h y) h m.actions arrival_is_new in
         let all = count_by-le-length (is_message plans) (operations plans) in
         omega (arith, fewer, all)
 
@@ -286,26 +286,26 @@ module _ (plans : List Plan) (keys : List Pattern) (lists : List PatternLists) (
       abbrev numbers : List (Option ℕ)
       numbers = lists_for plans keys y
 
-      more : (test : Option ℕ → Bool) → list_any test (take (k + 1) numbers) ≡ (list_any test (take k numbers) || test (get_or numbers k d))
-      more test = list_any_more test numbers k d inside
+      list_any_next_pattern : (test : Option ℕ → Bool) → list_any test (take (k + 1) numbers) ≡ (list_any test (take k numbers) || test (get_or numbers k d))
+      list_any_next_pattern test = list_any_more test numbers k d inside
 
       -- a pattern that the schedule doesn't have
       module _ (absent : get_or (lists_for plans keys y) k d ≡ None) where
-        as_before : (o : Option ℕ) → list_any (same_number o) (take (k + 1) numbers) ≡ list_any (same_number o) (take k numbers)
-        as_before o =
-            more (same_number o) ∙ ap (λ (b : Bool). list_any (same_number o) (take k numbers) || b) (ap (same_number o) absent ∙ no_number o) ∙ or_none (list_any (same_number o) (take k numbers))
+        absent_number_changes_no_list : (o : Option ℕ) → list_any (same_number o) (take (k + 1) numbers) ≡ list_any (same_number o) (take k numbers)
+        absent_number_changes_no_list o =
+            list_any_next_pattern (same_number o) ∙ ap (λ (b : Bool). list_any (same_number o) (take k numbers) || b) (ap (same_number o) absent ∙ no_number o) ∙ or_none (list_any (same_number o) (take k numbers))
 
-        pub sought_without : (stood : List (Option ℕ)) (now : List PatternLists) (met : Option MatchEntry) → IsJoined plans keys h y stood (take k (lists_for plans keys y)) now met → IsJoined plans keys h y stood (take (k + 1) (lists_for plans keys y)) now met
-        sought_without stood now met j = record {
+        pub sought_absent_pattern : (stood : List (Option ℕ)) (now : List PatternLists) (met : Option MatchEntry) → IsJoined plans keys h y stood (take k (lists_for plans keys y)) now met → IsJoined plans keys h y stood (take (k + 1) (lists_for plans keys y)) now met
+        sought_absent_pattern stood now met j = record {
           one_each = j.one_each;
           each = j.each;
-          found = j.found ∙ find_agree (meets (take k numbers)) (meets (take (k + 1) numbers)) (λ e. ap (λ (b : Bool). not (paired e.op) && b) (sym (as_before (list_of plans keys e.op)))) (entries_of Post h);
+          found = j.found ∙ find_agree (meets (take k numbers)) (meets (take (k + 1) numbers)) (λ e. ap (λ (b : Bool). not (paired e.op) && b) (sym (absent_number_changes_no_list (list_of plans keys e.op)))) (entries_of Post h);
         }
 
-        pub stood_without : (looked : List (Option ℕ)) (now : List PatternLists) (met : Option MatchEntry) → IsJoined plans keys h y (take k (lists_for plans keys y)) looked now met → IsJoined plans keys h y (take (k + 1) (lists_for plans keys y)) looked now met
-        stood_without looked now met j = record {
+        pub joined_absent_pattern : (looked : List (Option ℕ)) (now : List PatternLists) (met : Option MatchEntry) → IsJoined plans keys h y (take k (lists_for plans keys y)) looked now met → IsJoined plans keys h y (take (k + 1) (lists_for plans keys y)) looked now met
+        joined_absent_pattern looked now met j = record {
           one_each = j.one_each;
-          each = λ l w e. let before = j.each l w e in record { receives = before.receives; sends = subst (λ (b : Bool). IsMatchList (sends_of plans keys h l ++ (if b then entry plans keys h y ∷ [] else [])) paired (count_by (for_list plans keys l) (operations plans)) w.sends) (sym (as_before (Some l))) before.sends };
+          each = λ l w e. let before = j.each l w e in record { receives = before.receives; sends = subst (λ (b : Bool). IsMatchList (sends_of plans keys h l ++ (if b then entry plans keys h y ∷ [] else [])) paired (count_by (for_list plans keys l) (operations plans)) w.sends) (sym (absent_number_changes_no_list (Some l))) before.sends };
           found = j.found;
         }
 
@@ -323,92 +323,92 @@ module _ (plans : List Plan) (keys : List Pattern) (lists : List PatternLists) (
           pub join_within : i < length now
           join_within = let within = lists_within plans keys y s k i at in omega (arith, within, j.one_each)
 
-          join_was : (w : PatternLists) → w ≡ get_or now i w → AreLists plans keys paired i (receives_of plans keys h i) (joins stood i) w
-          join_was w read = j.each i w (slice_get_read now (length now) i w refl join_within read)
+          list_before_join : (w : PatternLists) → w ≡ get_or now i w → AreLists plans keys paired i (receives_of plans keys h i) (joins stood i) w
+          list_before_join w read = j.each i w (slice_get_read now (length now) i w refl join_within read)
 
           pub join_ready : (w : PatternLists) → w ≡ get_or now i w → IsReady plans marks w.receives
           join_ready w read =
-              match_list_ready _ _ _ w.receives (join_was w read).receives plans marks m.marked (receives_exist i) m.all_marks
+              match_list_ready _ _ _ w.receives (list_before_join w read).receives plans marks m.marked (receives_exist i) m.all_marks
 
         -- its first receive that waits is looked for
         module _ (stood : List (Option ℕ)) (now : List PatternLists) (met : Option MatchEntry) (j : IsJoined plans keys h y stood (take k (lists_for plans keys y)) now met) (w : PatternLists) (read : w ≡ get_or now i w) (v : PatternLists) (first : Option MatchEntry) (f : IsFirst (is_marked (operations plans) marks) w.receives v.receives first) (same : v.sends ≡ w.sends) where
-          sought_was : AreLists plans keys paired i (receives_of plans keys h i) (joins stood i) w
-          sought_was = join_was stood (take k (lists_for plans keys y)) now met j w read
+          list_before_search : AreLists plans keys paired i (receives_of plans keys h i) (joins stood i) w
+          list_before_search = list_before_join stood (take k (lists_for plans keys y)) now met j w read
 
-          sought_here : AreLists plans keys paired i (receives_of plans keys h i) (joins stood i) v
-          sought_here = record {
-            receives = match_list_kept _ _ _ w.receives (sought_was).receives plans marks m.marked v.receives first f;
-            sends = subst (IsMatchList (joins stood i) paired (count_by (for_list plans keys i) (operations plans))) (sym same) (sought_was).sends;
+          list_after_search : AreLists plans keys paired i (receives_of plans keys h i) (joins stood i) v
+          list_after_search = record {
+            receives = match_list_kept _ _ _ w.receives (list_before_search).receives plans marks m.marked v.receives first f;
+            sends = subst (IsMatchList (joins stood i) paired (count_by (for_list plans keys i) (operations plans))) (sym same) (list_before_search).sends;
           }
 
-          first_here : first ≡ find (λ (e : MatchEntry). not (paired e.op) && same_number (list_of plans keys e.op) (Some i)) (entries_of Post h)
+          first_of_list_found : first ≡ find (λ (e : MatchEntry). not (paired e.op) && same_number (list_of plans keys e.op) (Some i)) (entries_of Post h)
           unfolding in_list
-          first_here =
-              match_list_found _ _ _ w.receives (sought_was).receives plans marks m.marked v.receives first f ∙ find_filter (λ (e : MatchEntry). in_list plans keys i e.op) (λ (e : MatchEntry). not (paired e.op)) (entries_of Post h)
+          first_of_list_found =
+              match_list_found _ _ _ w.receives (list_before_search).receives plans marks m.marked v.receives first f ∙ find_filter (λ (e : MatchEntry). in_list plans keys i e.op) (λ (e : MatchEntry). not (paired e.op)) (entries_of Post h)
 
-          either : (e : MatchEntry) → meets (take (k + 1) (lists_for plans keys y)) e ≡ (meets (take k (lists_for plans keys y)) e || (not (paired e.op) && same_number (list_of plans keys e.op) (Some i)))
-          either e =
-              ap (λ (b : Bool). not (paired e.op) && b) (more (same_number (list_of plans keys e.op)) ∙ ap (λ (o : Option ℕ). list_any (same_number (list_of plans keys e.op)) (take k numbers) || same_number (list_of plans keys e.op) o) is) ∙ and_or (not (paired e.op)) (list_any (same_number (list_of plans keys e.op)) (take k numbers)) (same_number (list_of plans keys e.op) (Some i))
+          meets_next_list : (e : MatchEntry) → meets (take (k + 1) (lists_for plans keys y)) e ≡ (meets (take k (lists_for plans keys y)) e || (not (paired e.op) && same_number (list_of plans keys e.op) (Some i)))
+          meets_next_list e =
+              ap (λ (b : Bool). not (paired e.op) && b) (list_any_next_pattern (same_number (list_of plans keys e.op)) ∙ ap (λ (o : Option ℕ). list_any (same_number (list_of plans keys e.op)) (take k numbers) || same_number (list_of plans keys e.op) o) is) ∙ and_or (not (paired e.op)) (list_any (same_number (list_of plans keys e.op)) (take k numbers)) (same_number (list_of plans keys e.op) (Some i))
 
-          pub sought_with : IsJoined plans keys h y stood (take (k + 1) (lists_for plans keys y)) (slice_set now i v) (earlier met first)
-          sought_with = record {
+          pub sought_next_list : IsJoined plans keys h y stood (take (k + 1) (lists_for plans keys y)) (slice_set now i v) (earlier met first)
+          sought_next_list = record {
             one_each = length-set now i v ∙ j.one_each;
             each = λ l u e. elim (cases_eq l i) [
-              | inl same_place ↦ subst (λ (n : ℕ). AreLists plans keys paired n (receives_of plans keys h n) (joins stood n) u) (sym same_place) (subst (AreLists plans keys paired i (receives_of plans keys h i) (joins stood i)) (slice_get_written now i v u (subst (λ (n : ℕ). slice_get (slice_set now i v) n ≡ Some u) same_place e)) sought_here)
+              | inl same_place ↦ subst (λ (n : ℕ). AreLists plans keys paired n (receives_of plans keys h n) (joins stood n) u) (sym same_place) (subst (AreLists plans keys paired i (receives_of plans keys h i) (joins stood i)) (slice_get_written now i v u (subst (λ (n : ℕ). slice_get (slice_set now i v) n ≡ Some u) same_place e)) list_after_search)
               | inr n ↦ j.each l u (sym (slice_get_elsewhere now i l v n) ∙ e)
             ];
             found =
-                ap (λ (o : Option MatchEntry). earlier o first) j.found ∙ ap (earlier (find (meets (take k numbers)) (entries_of Post h))) first_here ∙ sym (find_agree (meets (take (k + 1) numbers)) (λ (e : MatchEntry). meets (take k numbers) e || (not (paired e.op) && same_number (list_of plans keys e.op) (Some i))) either (entries_of Post h) ∙ find_either (meets (take k numbers)) (λ (e : MatchEntry). not (paired e.op) && same_number (list_of plans keys e.op) (Some i)) (entries_of Post h) (entries_order Post h));
+                ap (λ (o : Option MatchEntry). earlier o first) j.found ∙ ap (earlier (find (meets (take k numbers)) (entries_of Post h))) first_of_list_found ∙ sym (find_agree (meets (take (k + 1) numbers)) (λ (e : MatchEntry). meets (take k numbers) e || (not (paired e.op) && same_number (list_of plans keys e.op) (Some i))) meets_next_list (entries_of Post h) ∙ find_either (meets (take k numbers)) (λ (e : MatchEntry). not (paired e.op) && same_number (list_of plans keys e.op) (Some i)) (entries_of Post h) (entries_order Post h));
           }
 
         -- it stands last there
         module _ (looked : List (Option ℕ)) (now : List PatternLists) (met : Option MatchEntry) (j : IsJoined plans keys h y (take k (lists_for plans keys y)) looked now met) (w : PatternLists) (read : w ≡ get_or now i w) where
-          absent_so_far : list_any (same_number (Some i)) (take k numbers) ≡ false
-          absent_so_far = lists_once plans keys y s k i at
+          list_not_joined_yet : list_any (same_number (Some i)) (take k numbers) ≡ false
+          list_not_joined_yet = lists_once plans keys y s k i at
 
-          stood_was : AreLists plans keys paired i (receives_of plans keys h i) (joins (take k (lists_for plans keys y)) i) w
-          stood_was = join_was (take k (lists_for plans keys y)) looked now met j w read
+          list_before_joining : AreLists plans keys paired i (receives_of plans keys h i) (joins (take k (lists_for plans keys y)) i) w
+          list_before_joining = list_before_join (take k (lists_for plans keys y)) looked now met j w read
 
-          sends_were : IsMatchList (sends_of plans keys h i) paired (count_by (for_list plans keys i) (operations plans)) w.sends
-          sends_were =
-              subst (λ (es : List MatchEntry). IsMatchList es paired (count_by (for_list plans keys i) (operations plans)) w.sends) (ap (λ (b : Bool). sends_of plans keys h i ++ (if b then entry plans keys h y ∷ [] else [])) absent_so_far ∙ append-nil (sends_of plans keys h i)) (stood_was).sends
+          sends_before_joining : IsMatchList (sends_of plans keys h i) paired (count_by (for_list plans keys i) (operations plans)) w.sends
+          sends_before_joining =
+              subst (λ (es : List MatchEntry). IsMatchList es paired (count_by (for_list plans keys i) (operations plans)) w.sends) (ap (λ (b : Bool). sends_of plans keys h i ++ (if b then entry plans keys h y ∷ [] else [])) list_not_joined_yet ∙ append-nil (sends_of plans keys h i)) (list_before_joining).sends
 
-          for_it : for_list plans keys i y ≡ true
+          list_is_for_send : for_list plans keys i y ≡ true
           unfolding for_list
-          for_it = list_any_at (same_number (Some i)) numbers k d inside (ap (same_number (Some i)) is ∙ eq-eqb i i refl)
+          list_is_for_send = list_any_at (same_number (Some i)) numbers k d inside (ap (same_number (Some i)) is ∙ eq-eqb i i refl)
 
           pub join_room : length w.sends.entries < w.sends.room
           join_room =
-              let fewer = entries_fewer plans h m.actions (for_list plans keys i) Arrive y (arrival_suits plans y s) fresh for_it in
+              let fewer = entries_fewer plans h m.actions (for_list plans keys i) Arrive y (arrival_suits plans y s) fresh list_is_for_send in
               let unmet = unmet_fewer plans (λ (e : MatchEntry). for_list plans keys i e.op) h in
-              let match_list = sends_were in
+              let match_list = sends_before_joining in
               omega (arith, fewer, unmet, ap length match_list.entries, match_list.room)
 
           module _ (v : PatternLists) (same : v.receives ≡ w.receives) (grown : v.sends ≡ pushed w.sends (entry plans keys h y)) where
-            stood_here : AreLists plans keys paired i (receives_of plans keys h i) (joins (take (k + 1) (lists_for plans keys y)) i) v
-            stood_here = record {
-              receives = subst (IsMatchList (receives_of plans keys h i) paired (count_by (in_list plans keys i) (operations plans))) (sym same) (stood_was).receives;
-              sends = subst (λ (b : Bool). IsMatchList (sends_of plans keys h i ++ (if b then entry plans keys h y ∷ [] else [])) paired (count_by (for_list plans keys i) (operations plans)) v.sends) (sym seen) (subst (IsMatchList (sends_of plans keys h i ++ entry plans keys h y ∷ []) paired (count_by (for_list plans keys i) (operations plans))) (sym grown) (match_list_pushed _ _ _ w.sends sends_were (entry plans keys h y)));
+            joined_list_after : AreLists plans keys paired i (receives_of plans keys h i) (joins (take (k + 1) (lists_for plans keys y)) i) v
+            joined_list_after = record {
+              receives = subst (IsMatchList (receives_of plans keys h i) paired (count_by (in_list plans keys i) (operations plans))) (sym same) (list_before_joining).receives;
+              sends = subst (λ (b : Bool). IsMatchList (sends_of plans keys h i ++ (if b then entry plans keys h y ∷ [] else [])) paired (count_by (for_list plans keys i) (operations plans)) v.sends) (sym seen) (subst (IsMatchList (sends_of plans keys h i ++ entry plans keys h y ∷ []) paired (count_by (for_list plans keys i) (operations plans))) (sym grown) (match_list_pushed _ _ _ w.sends sends_before_joining (entry plans keys h y)));
             }
               where
                 seen : list_any (same_number (Some i)) (take (k + 1) numbers) ≡ true
-                seen = more (same_number (Some i)) ∙ ap (λ (b : Bool). b || same_number (Some i) (get_or numbers k d)) absent_so_far ∙ ap (same_number (Some i)) is ∙ eq-eqb i i refl
+                seen = list_any_next_pattern (same_number (Some i)) ∙ ap (λ (b : Bool). b || same_number (Some i) (get_or numbers k d)) list_not_joined_yet ∙ ap (same_number (Some i)) is ∙ eq-eqb i i refl
 
-            stood_elsewhere : (l : ℕ) (u : PatternLists) → (l ≡ i → ⊥) → AreLists plans keys paired l (receives_of plans keys h l) (joins (take k (lists_for plans keys y)) l) u → AreLists plans keys paired l (receives_of plans keys h l) (joins (take (k + 1) (lists_for plans keys y)) l) u
-            stood_elsewhere l u n before = record {
+            other_lists_after_joining : (l : ℕ) (u : PatternLists) → (l ≡ i → ⊥) → AreLists plans keys paired l (receives_of plans keys h l) (joins (take k (lists_for plans keys y)) l) u → AreLists plans keys paired l (receives_of plans keys h l) (joins (take (k + 1) (lists_for plans keys y)) l) u
+            other_lists_after_joining l u n before = record {
               receives = before.receives;
               sends = subst (λ (b : Bool). IsMatchList (sends_of plans keys h l ++ (if b then entry plans keys h y ∷ [] else [])) paired (count_by (for_list plans keys l) (operations plans)) u.sends) (sym as_was) before.sends;
             }
               where
                 as_was : list_any (same_number (Some l)) (take (k + 1) numbers) ≡ list_any (same_number (Some l)) (take k numbers)
-                as_was = more (same_number (Some l)) ∙ ap (λ (b : Bool). list_any (same_number (Some l)) (take k numbers) || b) (ap (same_number (Some l)) is ∙ ne_eqb l i n) ∙ or_none (list_any (same_number (Some l)) (take k numbers))
+                as_was = list_any_next_pattern (same_number (Some l)) ∙ ap (λ (b : Bool). list_any (same_number (Some l)) (take k numbers) || b) (ap (same_number (Some l)) is ∙ ne_eqb l i n) ∙ or_none (list_any (same_number (Some l)) (take k numbers))
 
-            pub stood_with : IsJoined plans keys h y (take (k + 1) (lists_for plans keys y)) looked (slice_set now i v) met
-            stood_with = record {
+            pub joined_next_list : IsJoined plans keys h y (take (k + 1) (lists_for plans keys y)) looked (slice_set now i v) met
+            joined_next_list = record {
               one_each = length-set now i v ∙ j.one_each;
               each = λ l u e. elim (cases_eq l i) [
-                | inl same_place ↦ subst (λ (n : ℕ). AreLists plans keys paired n (receives_of plans keys h n) (joins (take (k + 1) numbers) n) u) (sym same_place) (subst (AreLists plans keys paired i (receives_of plans keys h i) (joins (take (k + 1) numbers) i)) (slice_get_written now i v u (subst (λ (n : ℕ). slice_get (slice_set now i v) n ≡ Some u) same_place e)) stood_here)
-                | inr n ↦ stood_elsewhere l u n (j.each l u (sym (slice_get_elsewhere now i l v n) ∙ e))
+                | inl same_place ↦ subst (λ (n : ℕ). AreLists plans keys paired n (receives_of plans keys h n) (joins (take (k + 1) numbers) n) u) (sym same_place) (subst (AreLists plans keys paired i (receives_of plans keys h i) (joins (take (k + 1) numbers) i)) (slice_get_written now i v u (subst (λ (n : ℕ). slice_get (slice_set now i v) n ≡ Some u) same_place e)) joined_list_after)
+                | inr n ↦ other_lists_after_joining l u n (j.each l u (sym (slice_get_elsewhere now i l v n) ∙ e))
               ];
               found = j.found;
             }
@@ -417,14 +417,14 @@ module _ (plans : List Plan) (keys : List Pattern) (lists : List PatternLists) (
     module _ (after : List PatternLists) (met : Option MatchEntry) (j : IsJoined plans keys h y (stands_in met (lists_for plans keys y)) (lists_for plans keys y) after met) where
       arrival_met : met ≡ find (λ (e : MatchEntry). not (paired e.op) && fits plans e.op y) (entries_of Post h)
       arrival_met =
-          j.found ∙ find_alike (meets (lists_for plans keys y)) (λ (e : MatchEntry). not (paired e.op) && fits plans e.op y) (entries_of Post h) (All-weaker (λ (e : MatchEntry). IsReceive plans e.op) (λ (e : MatchEntry). meets (lists_for plans keys y) e ≡ (not (paired e.op) && fits plans e.op y)) (λ e r. ap (λ (b : Bool). not (paired e.op) && b) (fits_any plans keys e.op y r (m.listed e.op r))) (entries_of Post h) (posted_receives plans h m.actions))
+          j.found ∙ find_by_equal_tests (meets (lists_for plans keys y)) (λ (e : MatchEntry). not (paired e.op) && fits plans e.op y) (entries_of Post h) (All-weaker (λ (e : MatchEntry). IsReceive plans e.op) (λ (e : MatchEntry). meets (lists_for plans keys y) e ≡ (not (paired e.op) && fits plans e.op y)) (λ e r. ap (λ (b : Bool). not (paired e.op) && b) (fits_any plans keys e.op y r (m.listed e.op r))) (entries_of Post h) (posted_receives plans h m.actions))
 
       arrival_makes : new_pair plans (pairs plans h) h Arrive y ≡ option_map (λ (z : OpId). pair_of y z) (option_map (λ (e : MatchEntry). e.op) met)
       arrival_makes =
           ap (option_map (λ (z : OpId). pair_of y z)) (oldest_entry Post (λ (z : OpId). not (paired z)) (λ (z : OpId). fits plans z y) h ∙ ap (option_map (λ (e : MatchEntry). e.op)) (sym arrival_met))
 
-      pub arrival_stands : length (unmet_of plans (arrival_of plans keys h y ∷ h)) ≡ length (unmet_of plans h) + stood met
-      arrival_stands =
+      pub unmet_after_arrival : length (unmet_of plans (arrival_of plans keys h y ∷ h)) ≡ length (unmet_of plans h) + stood met
+      unmet_after_arrival =
           ap length (unmet_arrival plans (arrival_of plans keys h y) h refl ∙ ap (λ (o : Option Pair). unmet_of plans h ++ (if is_none o then entry plans keys h y ∷ [] else [])) arrival_makes) ∙ length-append (unmet_of plans h) _ ∙ ap (λ (n : ℕ). length (unmet_of plans h) + n) (one met)
         where
           one : (o : Option MatchEntry) → length (if is_none (option_map (λ (z : OpId). pair_of y z) (option_map (λ (e : MatchEntry). e.op) o)) then entry plans keys h y ∷ [] else []) ≡ stood o
@@ -432,7 +432,7 @@ module _ (plans : List Plan) (keys : List Pattern) (lists : List PatternLists) (
           one (Some f) = refl
 
       pub arrival_answers : option_map (λ (e : MatchEntry). e.op) met ≡ receive_for plans h y
-      arrival_answers = sym (ap (option_map (λ (p : Pair). p.recv)) arrival_makes ∙ its_receive y _)
+      arrival_answers = sym (ap (option_map (λ (p : Pair). p.recv)) arrival_makes ∙ receive_of_pairs y _)
 
       pub arrival_met_exists : IfSome met (λ (e : MatchEntry). IsOp plans e.op)
       arrival_met_exists = met_exists plans (entries_of Post h) _ met arrival_met (posted_exist plans h m.actions)
@@ -440,12 +440,12 @@ module _ (plans : List Plan) (keys : List Pattern) (lists : List PatternLists) (
       pub arrival_keeps : (marks' : List Bool) → ArePaired (operations plans) y met marks marks' → length marks' ≡ length marks → Mirrors plans keys after marks' (arrival_of plans keys h y ∷ h)
       arrival_keeps marks' changes long = record {
         accepted = m.accepted;
-        actions = (m.actions, coming);
+        actions = (m.actions, arrival_is_new);
         listed = m.listed;
         one_each = j.one_each;
         each = λ l u e. let before = j.each l u e in record {
-          receives = subst (λ (es : List MatchEntry). IsMatchList es (is_paired (pairs plans (arrival_of plans keys h y ∷ h))) (count_by (in_list plans keys l) (operations plans)) u.receives) (sym (receives_stay plans keys h y l)) (match_list_later _ _ _ u.receives before.receives _ (paired_stays plans (arrival_of plans keys h y) h));
-          sends = subst (λ (es : List MatchEntry). IsMatchList es (is_paired (pairs plans (arrival_of plans keys h y ∷ h))) (count_by (for_list plans keys l) (operations plans)) u.sends) (sym (sends_then plans keys h y l met arrival_makes)) (match_list_later _ _ _ u.sends before.sends _ (paired_stays plans (arrival_of plans keys h y) h));
+          receives = subst (λ (es : List MatchEntry). IsMatchList es (is_paired (pairs plans (arrival_of plans keys h y ∷ h))) (count_by (in_list plans keys l) (operations plans)) u.receives) (sym (receives_stay plans keys h y l)) (match_list_after_pairing _ _ _ u.receives before.receives _ (paired_stays plans (arrival_of plans keys h y) h));
+          sends = subst (λ (es : List MatchEntry). IsMatchList es (is_paired (pairs plans (arrival_of plans keys h y ∷ h))) (count_by (for_list plans keys l) (operations plans)) u.sends) (sym (sends_then plans keys h y l met arrival_makes)) (match_list_after_pairing _ _ _ u.sends before.sends _ (paired_stays plans (arrival_of plans keys h y) h));
         };
         marked = paired_after plans (arrival_of plans keys h y) h marks marks' met (λ (z : OpId). pair_of y z) (λ z x. refl) arrival_makes m.marked changes;
         all_marks = omega (arith, m.all_marks, long);

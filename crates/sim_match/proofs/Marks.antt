@@ -8,16 +8,16 @@ use Rattle.goal_graph.specs.Schedule.{Plan, operations}
 use Rattle.goal_graph.proofs.ForCallers.{same_op_true, same_op_from, operations_differ}
 use Rattle.sim_match.specs.MatchLists.{is_marked, IsMarked}
 
-apart_there : {X : Type 0} (y : X) (ys : List X) → AllPairs (λ (x z : X). x ≢ z) (y ∷ ys) → (i : ℕ) (z : X) → slice_get ys i ≡ Some z → y ≢ z
-apart_there y ys apart i z e same =
+head_not_in_tail : {X : Type 0} (y : X) (ys : List X) → AllPairs (λ (x z : X). x ≢ z) (y ∷ ys) → (i : ℕ) (z : X) → slice_get ys i ≡ Some z → y ≢ z
+head_not_in_tail y ys apart i z e same =
     let inside = slice_get_within ys i z e in
     apart 0 (suc i) z (omega arith) (omega (arith, inside)) (same ∙ sym (get_or_from_slice_get ys i z z e))
 
-apart_rest : {X : Type 0} (y : X) (ys : List X) → AllPairs (λ (x z : X). x ≢ z) (y ∷ ys) → AllPairs (λ (x z : X). x ≢ z) ys
-apart_rest y ys apart i j d l b = apart (suc i) (suc j) d (omega arith) (omega arith)
+tail_pairwise_different : {X : Type 0} (y : X) (ys : List X) → AllPairs (λ (x z : X). x ≢ z) (y ∷ ys) → AllPairs (λ (x z : X). x ≢ z) ys
+tail_pairwise_different y ys apart i j d l b = apart (suc i) (suc j) d (omega arith) (omega arith)
 
-differ : (y z : OpId) → y ≢ z → same_op y z ≡ false
-differ y z n = false_from_ne_true (same_op y z) (λ t. n (same_op_true y z t))
+different_not_same_op : (y z : OpId) → y ≢ z → same_op y z ≡ false
+different_not_same_op y z n = false_from_ne_true (same_op y z) (λ t. n (same_op_true y z t))
 
 or_true : (b : Bool) → (b || true) ≡ true
 or_true true = refl
@@ -34,7 +34,7 @@ read_mark (y ∷ ys) [] i x d apart e long = absurd (omega arith)
 read_mark (y ∷ ys) (b ∷ bs) zero x d apart e long =
     cond-true (same_op y x) b (is_marked ys bs x) (same_op_from y x (same_Some y x e))
 read_mark (y ∷ ys) (b ∷ bs) (suc i) x d apart e long =
-    cond-false (same_op y x) b (is_marked ys bs x) (differ y x (apart_there y ys apart i x e)) ∙ read_mark ys bs i x d (apart_rest y ys apart) e (omega arith)
+    cond-false (same_op y x) b (is_marked ys bs x) (different_not_same_op y x (head_not_in_tail y ys apart i x e)) ∙ read_mark ys bs i x d (tail_pairwise_different y ys apart) e (omega arith)
 
 -- the marks after one more
 set_mark : (ops : List OpId) (marks : List Bool) (i : ℕ) (x : OpId) → AllPairs (λ (y z : OpId). y ≢ z) ops → slice_get ops i ≡ Some x → length ops ≤ length marks → IsMarked ops x marks (slice_set marks i true)
@@ -47,11 +47,11 @@ set_mark (y ∷ ys) (b ∷ bs) zero x apart e long z =
     go true = sym (or_true b)
     go false = sym (or_false (is_marked ys bs z))
 set_mark (y ∷ ys) (b ∷ bs) (suc i) x apart e long z =
-    go (same_op y z) refl (set_mark ys bs i x (apart_rest y ys apart) e (omega arith) z)
+    go (same_op y z) refl (set_mark ys bs i x (tail_pairwise_different y ys apart) e (omega arith) z)
   where
     go : (s : Bool) → same_op y z ≡ s → is_marked ys (slice_set bs i true) z ≡ (is_marked ys bs z || same_op x z) → (if s then b else is_marked ys (slice_set bs i true) z) ≡ ((if s then b else is_marked ys bs z) || same_op x z)
     go true f rest =
-        let other : same_op x z ≡ false = differ x z (λ same. apart_there y ys apart i x e (same_op_true y z f ∙ sym same)) in
+        let other : same_op x z ≡ false = different_not_same_op x z (λ same. head_not_in_tail y ys apart i x e (same_op_true y z f ∙ sym same)) in
         sym (ap (λ (t : Bool). b || t) other ∙ or_false b)
     go false f rest = rest
 

@@ -48,8 +48,8 @@ module _ (es : List MatchEntry) (paired : OpId → Bool) (room : ℕ) (old : Mat
       }
 
   -- more is paired
-  pub match_list_later : (later : OpId → Bool) → ((x : OpId) → paired x ≡ true → later x ≡ true) → IsMatchList es later room old
-  match_list_later later more = record {
+  pub match_list_after_pairing : (later : OpId → Bool) → ((x : OpId) → paired x ≡ true → later x ≡ true) → IsMatchList es later room old
+  match_list_after_pairing later more = record {
     entries = is.entries;
     within = is.within;
     skipped = All-weaker (λ (e : MatchEntry). paired e.op ≡ true) (λ (e : MatchEntry). later e.op ≡ true) (λ e t. more e.op t) (take old.head es) is.skipped;
@@ -58,8 +58,8 @@ module _ (es : List MatchEntry) (paired : OpId → Bool) (room : ℕ) (old : Mat
 
 -- the first entry that is not marked
 module _ (marked : OpId → Bool) (es : List MatchEntry) (i head room : ℕ) (skipped : All (λ (e : MatchEntry). marked e.op ≡ true) (take i es)) where
-  pub first_there : (e : MatchEntry) → i < length es → e ≡ get_or es i e → marked e.op ≡ false → IsFirst marked (record { entries = es; head = head; room = room }) (record { entries = es; head = i; room = room }) (Some e)
-  first_there e inside read waits = record {
+  pub first_unmarked_found : (e : MatchEntry) → i < length es → e ≡ get_or es i e → marked e.op ≡ false → IsFirst marked (record { entries = es; head = head; room = room }) (record { entries = es; head = i; room = room }) (Some e)
+  first_unmarked_found e inside read waits = record {
     found = ap (λ (f : MatchEntry). Some f) read ∙ sym (find_at_place (λ (f : MatchEntry). not (marked f.op)) es i e inside (ap (λ (f : MatchEntry). not (marked f.op)) (sym read) ∙ ap not waits) (λ k b. ap not (before k e b (omega (arith, inside, b)))));
     entries = refl;
     room = refl;
@@ -74,8 +74,8 @@ module _ (marked : OpId → Bool) (es : List MatchEntry) (i head room : ℕ) (sk
           subst (λ (f : MatchEntry). marked f.op ≡ true) (get_or-take i es k d b) (skipped k d (omega (arith, b, inside, short)))
 
   -- or none
-  pub first_none : i ≡ length es → IsFirst marked (record { entries = es; head = head; room = room }) (record { entries = es; head = i; room = room }) None
-  first_none at_end = record {
+  pub no_unmarked_left : i ≡ length es → IsFirst marked (record { entries = es; head = head; room = room }) (record { entries = es; head = i; room = room }) None
+  no_unmarked_left at_end = record {
     found = sym (find_none (λ (f : MatchEntry). not (marked f.op)) es (All-weaker (λ (e : MatchEntry). marked e.op ≡ true) (λ (e : MatchEntry). not (marked e.op) ≡ false) (λ e t. ap not t) es (subst (All (λ (e : MatchEntry). marked e.op ≡ true)) (take_all i es (omega (arith, at_end))) skipped)));
     entries = refl;
     room = refl;
@@ -85,6 +85,6 @@ module _ (marked : OpId → Bool) (es : List MatchEntry) (i head room : ℕ) (sk
   }
 
 -- an entry that is read, whatever stands for one that is not there
-pub read_any : (es : List MatchEntry) (i : ℕ) (d : MatchEntry) → i < length es → get_or es i d ≡ get_or es i (get_or es i d)
-read_any es i d inside =
+pub get_or_default_irrelevant : (es : List MatchEntry) (i : ℕ) (d : MatchEntry) → i < length es → get_or es i d ≡ get_or es i (get_or es i d)
+get_or_default_irrelevant es i d inside =
     sym (get_or_from_slice_get es i (get_or es i d) (get_or es i d) (slice_get-get_or es i d inside))

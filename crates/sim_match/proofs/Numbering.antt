@@ -12,7 +12,7 @@ use Rattle.sim_match.specs.Patterns.{pattern_of, own_pattern, number, list_numbe
 use Rattle.sim_match.specs.declared.list_numbers.ListNumbers.{ListNumbers}
 use Rattle.sim_match.specs.declared.pattern.Wild.{Wild}
 use Rattle.sim_match.specs.ListNumbers.{coded, IsCodable, IsWildAt, AreNamed, AreWild, AreSought, AreNumbered}
-use Rattle.sim_match.proofs.PatternLemmas.{number_within, send_lists, unnamed, not_wild, wild_itself}
+use Rattle.sim_match.proofs.PatternLemmas.{number_within, send_lists, pattern_of_any_unnumbered, wild_pattern_unnumbered, wild_itself}
 
 -- numbers that are the same have the same patterns
 unfoldable pub same_numbers : (plans : List Plan) (new old : ListNumbers) → new ≡ old → AreNumbered plans old → AreNumbered plans new
@@ -55,15 +55,15 @@ module _ (plans : List Plan) (keys : List Pattern) (x : OpId) where
     -- where each pattern names a source and a tag
     pub lists_where_named : AreNamed keys → lists_for plans keys x ≡ own_list plans keys x ∷ None ∷ None ∷ None ∷ []
     lists_where_named named =
-        let any_tag = unnamed (λ (p : Pattern). p.tag) keys (record { rank = s.to; from = Some x.rank; tag = None }) named.tags refl in
-        let any_source = unnamed (λ (p : Pattern). p.from) keys (record { rank = s.to; from = None; tag = Some s.tag }) named.sources refl in
-        let any = unnamed (λ (p : Pattern). p.from) keys (record { rank = s.to; from = None; tag = None }) named.sources refl in
+        let any_tag = pattern_of_any_unnumbered (λ (p : Pattern). p.tag) keys (record { rank = s.to; from = Some x.rank; tag = None }) named.tags refl in
+        let any_source = pattern_of_any_unnumbered (λ (p : Pattern). p.from) keys (record { rank = s.to; from = None; tag = Some s.tag }) named.sources refl in
+        let any = pattern_of_any_unnumbered (λ (p : Pattern). p.from) keys (record { rank = s.to; from = None; tag = None }) named.sources refl in
         lists_of_send ∙ (λ i. own_list plans keys x ∷ sym any_tag i ∷ sym any_source i ∷ sym any i ∷ [])
 
     -- the number that is kept of its list of that kind
     pub wild_of_send : (wild : Wild) (kept : Option (Vec ℕ Global)) (place : ℕ) (found : Option ℕ) → length keys < 2 ^ 32 - 1 → AreWild plans keys wild kept → slice_get (operations plans) place ≡ Some x → IsWildAt kept place found → found ≡ number keys (wild_pattern wild x.rank s.to s.tag)
     wild_of_send wild None place found few none at is =
-        is ∙ not_wild wild keys (wild_pattern wild x.rank s.to s.tag) none (wild_itself wild x.rank s.to s.tag)
+        is ∙ wild_pattern_unnumbered wild keys (wild_pattern wild x.rank s.to s.tag) none (wild_itself wild x.rank s.to s.tag)
     wild_of_send wild (Some numbers) place found few all at is =
         let its : wild_list plans keys wild x ≡ number keys (wild_pattern wild x.rank s.to s.tag) = ap (wild_number keys wild x) s.kind in
         let read = ap (λ (ns : List ℕ). slice_get ns place) all ∙ slice_get-map (λ (y : OpId). coded (wild_list plans keys wild y)) (operations plans) place ∙ ap (option_map (λ (y : OpId). coded (wild_list plans keys wild y))) at in

@@ -20,13 +20,13 @@ use Rattle.sim_match.specs.Waiting.{ops_of, is_message, is_message_kind}
 use Rattle.sim_match.specs.Matcher.{IsNew, ArePostsAndArrivals}
 
 -- the operations after one more action, of that class and of another
-pub ops_same : (class : Class) (a : Act) (h : List Act) → (place a.class == place class) ≡ true → ops_of class (a ∷ h) ≡ ops_of class h ++ a.op ∷ []
+pub ops_after_its_class : (class : Class) (a : Act) (h : List Act) → (place a.class == place class) ≡ true → ops_of class (a ∷ h) ≡ ops_of class h ++ a.op ∷ []
 unfolding ops_of
-ops_same class a h e = ap (λ (b : Bool). ops_of class h ++ (if b then a.op ∷ [] else [])) e
+ops_after_its_class class a h e = ap (λ (b : Bool). ops_of class h ++ (if b then a.op ∷ [] else [])) e
 
-pub ops_other : (class : Class) (a : Act) (h : List Act) → (place a.class == place class) ≡ false → ops_of class (a ∷ h) ≡ ops_of class h
+pub ops_after_other_class : (class : Class) (a : Act) (h : List Act) → (place a.class == place class) ≡ false → ops_of class (a ∷ h) ≡ ops_of class h
 unfolding ops_of
-ops_other class a h e = ap (λ (b : Bool). ops_of class h ++ (if b then a.op ∷ [] else [])) e ∙ append-nil (ops_of class h)
+ops_after_other_class class a h e = ap (λ (b : Bool). ops_of class h ++ (if b then a.op ∷ [] else [])) e ∙ append-nil (ops_of class h)
 
 -- the oldest action of a class that passes two tests is the first of its operations that passes them
 pub oldest_found : (class : Class) (r q : OpId → Bool) (h : List Act) → oldest (λ (a : Act). (place a.class == place class) && r a.op && q a.op) h ≡ find (λ (x : OpId). r x && q x) (ops_of class h)
@@ -51,9 +51,9 @@ ops_happened class (a ∷ h) =
 
     more : All (λ (x : OpId). happened class x (a ∷ h) ≡ true) (ops_of class h) → (((place a.class == place class) ≡ true) ⊎ ((place a.class == place class) ≡ false)) → All (λ (x : OpId). happened class x (a ∷ h) ≡ true) (ops_of class (a ∷ h))
     more before (inl t) =
-        subst (All (λ (x : OpId). happened class x (a ∷ h) ≡ true)) (sym (ops_same class a h t)) (All-push (λ (x : OpId). happened class x (a ∷ h) ≡ true) (ops_of class h) a.op before (now t))
+        subst (All (λ (x : OpId). happened class x (a ∷ h) ≡ true)) (sym (ops_after_its_class class a h t)) (All-push (λ (x : OpId). happened class x (a ∷ h) ≡ true) (ops_of class h) a.op before (now t))
     more before (inr f) =
-        subst (All (λ (x : OpId). happened class x (a ∷ h) ≡ true)) (sym (ops_other class a h f)) before
+        subst (All (λ (x : OpId). happened class x (a ∷ h) ≡ true)) (sym (ops_after_other_class class a h f)) before
 
 module _ (plans : List Plan) where
   -- what suits its kind is listed among the operations
@@ -99,8 +99,8 @@ module _ (plans : List Plan) where
       let parts = and_parts (test x) (not (happened class x (a ∷ h))) e in
       and_from _ _ parts.0 (not_from_false _ (happened_before class x a h (not-true _ parts.1)))
 
-  to_come_now_of : (test : OpId → Bool) (class : Class) (a : Act) (h : List Act) → a.class ≡ class → still_to_come test class (a ∷ h) a.op ≡ false
-  to_come_now_of test class a h e =
+  happened_not_to_come : (test : OpId → Bool) (class : Class) (a : Act) (h : List Act) → a.class ≡ class → still_to_come test class (a ∷ h) a.op ≡ false
+  happened_not_to_come test class a h e =
       and_right (test a.op) _ (not_from_true _ (happened_new class a.op a h (is_act_from class a.op a e refl)))
 
   -- The operations of a class that pass a test, and those that are still to come, are among those of the schedule.
@@ -118,7 +118,7 @@ module _ (plans : List Plan) where
 
       falls : a.class ≡ class → test a.op ≡ true → count_by (still_to_come test class (a ∷ h)) (operations plans) + 1 ≤ count_by (still_to_come test class h) (operations plans)
       falls same pass =
-          count_falls (still_to_come test class h) (still_to_come test class (a ∷ h)) (operations plans) a.op (suited_listed a.op a.class i.1.suited) (to_come_before_of test class a h) (to_come_now_of test class a h same) (and_from _ _ pass (not_from_false _ (subst (λ (c : Class). happened c a.op h ≡ false) same i.1.fresh)))
+          count_falls (still_to_come test class h) (still_to_come test class (a ∷ h)) (operations plans) a.op (suited_listed a.op a.class i.1.suited) (to_come_before_of test class a h) (happened_not_to_come test class a h same) (and_from _ _ pass (not_from_false _ (subst (λ (c : Class). happened c a.op h ≡ false) same i.1.fresh)))
 
       one : (b : Bool) → test a.op ≡ b → count_by test (ops_of class h ++ a.op ∷ []) ≡ count_by test (ops_of class h) + cond b 1 0
       one b e =
@@ -126,14 +126,14 @@ module _ (plans : List Plan) where
 
       more : count_by test (ops_of class h) + count_by (still_to_come test class h) (operations plans) ≤ count_by test (operations plans) → (((place a.class == place class) ≡ true) ⊎ ((place a.class == place class) ≡ false)) → ((test a.op ≡ true) ⊎ (test a.op ≡ false)) → count_by test (ops_of class (a ∷ h)) + count_by (still_to_come test class (a ∷ h)) (operations plans) ≤ count_by test (operations plans)
       more before (inl t) (inl pass) =
-          let count = ap (λ (l : List OpId). count_by test l) (ops_same class a h t) ∙ one true pass in
+          let count = ap (λ (l : List OpId). count_by test l) (ops_after_its_class class a h t) ∙ one true pass in
           let less = falls (place_injective a.class class (eqb-true _ _ t)) pass in
           omega (arith, before, count, less)
       more before (inl t) (inr fail) =
-          let count = ap (λ (l : List OpId). count_by test l) (ops_same class a h t) ∙ one false fail in
+          let count = ap (λ (l : List OpId). count_by test l) (ops_after_its_class class a h t) ∙ one false fail in
           omega (arith, before, count, stays)
       more before (inr f) pass =
-          let count = ap (λ (l : List OpId). count_by test l) (ops_other class a h f) in
+          let count = ap (λ (l : List OpId). count_by test l) (ops_after_other_class class a h f) in
           omega (arith, before, count, stays)
 
   -- an operation that is still to come finds fewer there than the schedule has
@@ -164,18 +164,18 @@ module _ (plans : List Plan) where
       not_from_false _ (happened_before Post x a h (not-true _ e))
   to_come_before a h x None e = e
 
-  came : (a : Act) (h : List Act) (c : Class) (k : Option Kind) → is_post_or_arrival_class c ≡ true → has_class k c ≡ true → happened c a.op h ≡ false → happened c a.op (a ∷ h) ≡ true → (to_come h a.op k ≡ true) × (to_come (a ∷ h) a.op k ≡ false)
-  came a h Arrive (Some (Send bytes to tag)) e s before now = (not_from_false _ before, not_from_true _ now)
-  came a h Post (Some (Recv room from tag)) e s before now = (not_from_false _ before, not_from_true _ now)
-  came a h Arrive None e s before now = absurd (both_ways _ refl s)
-  came a h Arrive (Some (Calc nanos)) e s before now = absurd (both_ways _ refl s)
-  came a h Arrive (Some (Recv room from tag)) e s before now = absurd (both_ways _ refl s)
-  came a h Post None e s before now = absurd (both_ways _ refl s)
-  came a h Post (Some (Calc nanos)) e s before now = absurd (both_ways _ refl s)
-  came a h Post (Some (Send bytes to tag)) e s before now = absurd (both_ways _ refl s)
-  came a h Serve k e s before now = absurd (both_ways _ refl e)
-  came a h Data k e s before now = absurd (both_ways _ refl e)
-  came a h Begin k e s before now = absurd (both_ways _ refl e)
+  action_no_longer_to_come : (a : Act) (h : List Act) (c : Class) (k : Option Kind) → is_post_or_arrival_class c ≡ true → has_class k c ≡ true → happened c a.op h ≡ false → happened c a.op (a ∷ h) ≡ true → (to_come h a.op k ≡ true) × (to_come (a ∷ h) a.op k ≡ false)
+  action_no_longer_to_come a h Arrive (Some (Send bytes to tag)) e s before now = (not_from_false _ before, not_from_true _ now)
+  action_no_longer_to_come a h Post (Some (Recv room from tag)) e s before now = (not_from_false _ before, not_from_true _ now)
+  action_no_longer_to_come a h Arrive None e s before now = absurd (both_ways _ refl s)
+  action_no_longer_to_come a h Arrive (Some (Calc nanos)) e s before now = absurd (both_ways _ refl s)
+  action_no_longer_to_come a h Arrive (Some (Recv room from tag)) e s before now = absurd (both_ways _ refl s)
+  action_no_longer_to_come a h Post None e s before now = absurd (both_ways _ refl s)
+  action_no_longer_to_come a h Post (Some (Calc nanos)) e s before now = absurd (both_ways _ refl s)
+  action_no_longer_to_come a h Post (Some (Send bytes to tag)) e s before now = absurd (both_ways _ refl s)
+  action_no_longer_to_come a h Serve k e s before now = absurd (both_ways _ refl e)
+  action_no_longer_to_come a h Data k e s before now = absurd (both_ways _ refl e)
+  action_no_longer_to_come a h Begin k e s before now = absurd (both_ways _ refl e)
 
   actions_within : (h : List Act) → ArePostsAndArrivals plans h → length h + count_by (λ (x : OpId). to_come h x (kind_at plans x)) (operations plans) ≤ count_by (is_message plans) (operations plans)
   actions_within [] i =
@@ -183,7 +183,7 @@ module _ (plans : List Plan) where
       omega (arith, all)
   actions_within (a ∷ h) i =
       let before = actions_within h i.0 in
-      let turn = came a h a.class (kind_at plans a.op) i.1.class i.1.suited i.1.fresh (happened_newest a h) in
+      let turn = action_no_longer_to_come a h a.class (kind_at plans a.op) i.1.class i.1.suited i.1.fresh (happened_newest a h) in
       let falls = count_falls (λ (x : OpId). to_come h x (kind_at plans x)) (λ (x : OpId). to_come (a ∷ h) x (kind_at plans x)) (operations plans) a.op (suited_listed a.op a.class i.1.suited) (λ x e. to_come_before a h x (kind_at plans x) e) turn.1 turn.0 in
       omega (arith, before, falls)
 

@@ -14,22 +14,22 @@ use Rattle.sim_match.specs.Packed.{Stretch, stretch, first_start, stretches, lis
 use Rattle.sim_match.proofs.Written.{slice_get_written, slice_get_elsewhere}
 
 -- a part of a list after a write elsewhere, and right behind it
-part_same : {X : Type 0} (xs : List X) (a n k : ℕ) (y : X) → ((k < a) ⊎ (a + n ≤ k)) → take n (drop a (slice_set xs k y)) ≡ take n (drop a xs)
-part_same xs a n k y (inl b) = ap (take n) (drop-set-lt a xs k y b)
-part_same {X} xs a n k y (inr h) =
+part_after_write_elsewhere : {X : Type 0} (xs : List X) (a n k : ℕ) (y : X) → ((k < a) ⊎ (a + n ≤ k)) → take n (drop a (slice_set xs k y)) ≡ take n (drop a xs)
+part_after_write_elsewhere xs a n k y (inl b) = ap (take n) (drop-set-lt a xs k y b)
+part_after_write_elsewhere {X} xs a n k y (inr h) =
     let place : k ≡ a + (k - a) = omega (arith, h) in
     ap (λ (j : ℕ). take n (drop a (slice_set xs j y))) place ∙ ap (take n) (drop-set-add a xs (k - a) y) ∙ take-set-le n (drop a xs) (k - a) y (omega (arith, h))
 
-last_set : {X : Type 0} (xs : List X) (n : ℕ) (y : X) → n < length xs → take (suc n) (slice_set xs n y) ≡ take n xs ++ y ∷ []
-last_set [] n y b = absurd (omega arith)
-last_set (x ∷ xs) zero y b = refl
-last_set {X} (x ∷ xs) (suc n) y b = ap (λ (zs : List X). x ∷ zs) (last_set xs n y (omega arith))
+take_through_written : {X : Type 0} (xs : List X) (n : ℕ) (y : X) → n < length xs → take (suc n) (slice_set xs n y) ≡ take n xs ++ y ∷ []
+take_through_written [] n y b = absurd (omega arith)
+take_through_written (x ∷ xs) zero y b = refl
+take_through_written {X} (x ∷ xs) (suc n) y b = ap (λ (zs : List X). x ∷ zs) (take_through_written xs n y (omega arith))
 
-part_more : {X : Type 0} (xs : List X) (a n k : ℕ) (y : X) → k ≡ a + n → k < length xs → take (n + 1) (drop a (slice_set xs k y)) ≡ take n (drop a xs) ++ y ∷ []
-part_more {X} xs a n k y place b =
+part_with_written_next : {X : Type 0} (xs : List X) (a n k : ℕ) (y : X) → k ≡ a + n → k < length xs → take (n + 1) (drop a (slice_set xs k y)) ≡ take n (drop a xs) ++ y ∷ []
+part_with_written_next {X} xs a n k y place b =
     let rest = length-drop a xs in
     let more : n + 1 ≡ suc n = omega arith in
-    ap (λ (j : ℕ). take (n + 1) (drop a (slice_set xs j y))) place ∙ ap (take (n + 1)) (drop-set-add a xs n y) ∙ ap (λ (m : ℕ). take m (slice_set (drop a xs) n y)) more ∙ last_set (drop a xs) n y (omega (arith, place, b, rest))
+    ap (λ (j : ℕ). take (n + 1) (drop a (slice_set xs j y))) place ∙ ap (take (n + 1)) (drop-set-add a xs n y) ∙ ap (λ (m : ℕ). take m (slice_set (drop a xs) n y)) more ∙ take_through_written (drop a xs) n y (omega (arith, place, b, rest))
 
 -- two functions that agree on all but what is written
 map_agree : {X Y : Type 0} (f g : X → Y) (xs : List X) → ((k : ℕ) (t : X) → slice_get xs k ≡ Some t → g t ≡ f t) → map g xs ≡ map f xs
@@ -46,16 +46,16 @@ map_written {X} {Y} f g (x ∷ xs) (suc l) z agree =
 
 module _ (spans : List Stretch) (entries : List MatchEntry) (packed : ArePacked spans entries) (l : ℕ) (s : Stretch) (at : slice_get spans l ≡ Some s) where
   -- the list of that number
-  pub its_list : slice_get (map (list_at entries) spans) l ≡ Some (list_at entries s)
-  its_list = slice_get-map (list_at entries) spans l ∙ ap (option_map (list_at entries)) at
+  pub list_of_number : slice_get (map (list_at entries) spans) l ≡ Some (list_at entries s)
+  list_of_number = slice_get-map (list_at entries) spans l ∙ ap (option_map (list_at entries)) at
 
-  pub is_its_list : (w : MatchList) → slice_get (map (list_at entries) spans) l ≡ Some w → list_at entries s ≡ w
-  is_its_list w e = same_Some (list_at entries s) w (sym its_list ∙ e)
+  pub list_of_number_is : (w : MatchList) → slice_get (map (list_at entries) spans) l ≡ Some w → list_at entries s ≡ w
+  list_of_number_is w e = same_Some (list_at entries s) w (sym list_of_number ∙ e)
 
   -- what is written there has the same bounds
   module _ (z : Stretch) (start : z.start ≡ s.start) (end : z.end ≡ s.end) (fits : z.start + z.len ≤ z.end) where
-    was : (i : ℕ) (t : Stretch) → slice_get (slice_set spans l z) i ≡ Some t → (u : Stretch) × (slice_get spans i ≡ Some u) × (u.start ≡ t.start) × (u.end ≡ t.end)
-    was i t e =
+    span_before_write : (i : ℕ) (t : Stretch) → slice_get (slice_set spans l z) i ≡ Some t → (u : Stretch) × (slice_get spans i ≡ Some u) × (u.start ≡ t.start) × (u.end ≡ t.end)
+    span_before_write i t e =
         elim (cases_eq i l) [
           | inl same ↦
               let is : z ≡ t = slice_get_written spans l z t (subst (λ (k : ℕ). slice_get (slice_set spans l z) k ≡ Some t) same e) in
@@ -66,8 +66,8 @@ module _ (spans : List Stretch) (entries : List MatchEntry) (packed : ArePacked 
     pub packed_after : (after : List MatchEntry) → length after ≡ length entries → ArePacked (slice_set spans l z) after
     packed_after after long = record {
       apart = λ i j t u b e f.
-          let old = was i t e in
-          let other = was j u f in
+          let old = span_before_write i t e in
+          let other = span_before_write j u f in
           let below = packed.apart i j old.0 other.0 b old.1 other.1 in
           omega (arith, below, old.3, other.2);
       fits = λ i t e. elim (cases_eq i l) [
@@ -77,7 +77,7 @@ module _ (spans : List Stretch) (entries : List MatchEntry) (packed : ArePacked 
         | inr n ↦ packed.fits i t (sym (slice_get_elsewhere spans l i z n) ∙ e)
       ];
       within = λ i t e.
-          let old = was i t e in
+          let old = span_before_write i t e in
           let low = packed.within i old.0 old.1 in
           omega (arith, low, old.3, long);
       few = omega (arith, packed.few, long);
@@ -86,7 +86,7 @@ module _ (spans : List Stretch) (entries : List MatchEntry) (packed : ArePacked 
   -- an entry is written at the end of the list
   pub list_pushed : (e : MatchEntry) (k : ℕ) → k ≡ s.start + s.len → k < s.end → map (list_at (slice_set entries k e)) (slice_set spans l (record { start = s.start; len = s.len + 1; head = s.head; end = s.end })) ≡ slice_set (map (list_at entries) spans) l (pushed (list_at entries s) e)
   list_pushed e k place low =
-      map_written (list_at entries) (list_at (slice_set entries k e)) spans l (record { start = s.start; len = s.len + 1; head = s.head; end = s.end }) others ∙ ap (λ (es : List MatchEntry). slice_set (map (list_at entries) spans) l (record { entries = es; head = s.head; room = s.end - s.start })) (part_more entries s.start s.len k e place (let top = packed.within l s at in omega (arith, low, top)))
+      map_written (list_at entries) (list_at (slice_set entries k e)) spans l (record { start = s.start; len = s.len + 1; head = s.head; end = s.end }) others ∙ ap (λ (es : List MatchEntry). slice_set (map (list_at entries) spans) l (record { entries = es; head = s.head; room = s.end - s.start })) (part_with_written_next entries s.start s.len k e place (let top = packed.within l s at in omega (arith, low, top)))
     where
       apart_from : (i : ℕ) (t : Stretch) → slice_get spans i ≡ Some t → (i ≡ l → ⊥) → (k < t.start) ⊎ (t.start + t.len ≤ k)
       apart_from i t f n = elim (cases_lt i l) [
@@ -99,7 +99,7 @@ module _ (spans : List Stretch) (entries : List MatchEntry) (packed : ArePacked 
 
       others : (i : ℕ) (t : Stretch) → slice_get spans i ≡ Some t → (i ≡ l → ⊥) → list_at (slice_set entries k e) t ≡ list_at entries t
       others i t f n =
-          ap (λ (es : List MatchEntry). record { entries = es; head = t.head; room = t.end - t.start }) (part_same entries t.start t.len k e (apart_from i t f n))
+          ap (λ (es : List MatchEntry). record { entries = es; head = t.head; room = t.end - t.start }) (part_after_write_elsewhere entries t.start t.len k e (apart_from i t f n))
 
   -- the head moves on
   pub list_skipped : (n : ℕ) → map (list_at entries) (slice_set spans l (record { start = s.start; len = s.len; head = n; end = s.end })) ≡ slice_set (map (list_at entries) spans) l (skipped_to (list_at entries s) n)
@@ -107,14 +107,14 @@ module _ (spans : List Stretch) (entries : List MatchEntry) (packed : ArePacked 
       map_written (list_at entries) (list_at entries) spans l (record { start = s.start; len = s.len; head = n; end = s.end }) (λ i t f m. refl)
 
 -- the part that is read
-pub part_is : (start len : ℕ) (read entries : List MatchEntry) → read ≡ entries → take (start + len - start) (drop start read) ≡ take len (drop start entries)
-part_is start len read entries same =
+pub read_part_of_list : (start len : ℕ) (read entries : List MatchEntry) → read ≡ entries → take (start + len - start) (drop start read) ≡ take len (drop start entries)
+read_part_of_list start len read entries same =
     let long : start + len - start ≡ len = omega arith in
     ap (λ (n : ℕ). take n (drop start read)) long ∙ ap (λ (es : List MatchEntry). take len (drop start es)) same
 
 -- a list that is seen has a span, and its length is the span's
-pub in_spans : (spans : List Stretch) (entries : List MatchEntry) (now : List MatchList) (l : ℕ) → map (list_at entries) spans ≡ now → l < length now → l < length spans
-in_spans spans entries now l seen inside =
+pub list_has_span : (spans : List Stretch) (entries : List MatchEntry) (now : List MatchList) (l : ℕ) → map (list_at entries) spans ≡ now → l < length now → l < length spans
+list_has_span spans entries now l seen inside =
     let long = length-map spans (list_at entries) in
     let same = ap length seen in
     omega (arith, long, same, inside)
@@ -127,10 +127,10 @@ list_length spans entries l s packed at =
     let part = length-take s.len (drop s.start entries) in
     omega (arith, fits, within, rest, part)
 
-pub push_low : (spans : List Stretch) (entries : List MatchEntry) (now : List MatchList) (l : ℕ) (s : Stretch) → ArePacked spans entries → slice_get spans l ≡ Some s → map (list_at entries) spans ≡ now → ((w : MatchList) → slice_get now l ≡ Some w → length w.entries < w.room) → s.start + s.len < s.end
-push_low spans entries now l s packed at seen room =
+pub push_place_fits : (spans : List Stretch) (entries : List MatchEntry) (now : List MatchList) (l : ℕ) (s : Stretch) → ArePacked spans entries → slice_get spans l ≡ Some s → map (list_at entries) spans ≡ now → ((w : MatchList) → slice_get now l ≡ Some w → length w.entries < w.room) → s.start + s.len < s.end
+push_place_fits spans entries now l s packed at seen room =
     let long = list_length spans entries l s packed at in
-    let its = room (list_at entries s) (ap (λ (ws : List MatchList). slice_get ws l) (sym seen) ∙ its_list spans entries packed l s at) in
+    let its = room (list_at entries s) (ap (λ (ws : List MatchList). slice_get ws l) (sym seen) ∙ list_of_number spans entries packed l s at) in
     omega (arith, long, its)
 
 -- where the room of a span ends
@@ -161,15 +161,15 @@ set-stretches (t ∷ ts) end (suc l) s z at same =
     first (u ∷ us) (suc l) e = refl
 
 -- a span is added that begins where all ended
-pub more-stretches : (spans : List Span) (s : Span) (end : ℕ) → stretches (spans ++ s ∷ []) end ≡ stretches spans s.start ++ stretch s end ∷ []
-more-stretches [] s end = refl
-more-stretches (t ∷ []) s end = refl
-more-stretches (t ∷ u ∷ us) s end =
-    ap (λ (vs : List Stretch). stretch t u.start ∷ vs) (more-stretches (u ∷ us) s end)
+pub stretches-with_new : (spans : List Span) (s : Span) (end : ℕ) → stretches (spans ++ s ∷ []) end ≡ stretches spans s.start ++ stretch s end ∷ []
+stretches-with_new [] s end = refl
+stretches-with_new (t ∷ []) s end = refl
+stretches-with_new (t ∷ u ∷ us) s end =
+    ap (λ (vs : List Stretch). stretch t u.start ∷ vs) (stretches-with_new (u ∷ us) s end)
 
 pub span_within : (spans : List Span) (entries : List MatchEntry) (now : List MatchList) (l : ℕ) → map (list_at entries) (stretches spans (length entries)) ≡ now → l < length now → l < length spans
 span_within spans entries now l seen inside =
-    let within = in_spans (stretches spans (length entries)) entries now l seen inside in
+    let within = list_has_span (stretches spans (length entries)) entries now l seen inside in
     omega (arith, within, length-stretches spans (length entries))
 
 -- the span that is read

@@ -32,8 +32,8 @@ same_pattern_true p q e =
     λ i. record { rank = rank i; from = from i; tag = tag i }
 
 -- patterns are equal by their order exactly where they are the same
-pub alike_patterns : (p q : Pattern) → is_eq (pattern_cmp p q) ≡ same_pattern p q
-alike_patterns p q =
+pub pattern_cmp_is_eq : (p q : Pattern) → is_eq (pattern_cmp p q) ≡ same_pattern p q
+pattern_cmp_is_eq p q =
     sym (tied_then (nat_cmp p.rank q.rank) _) ∙ ap₂ (λ (s t : Bool). s && t) (nat_cmp_is_eq p.rank q.rank) (sym (tied_then (option_cmp nat_cmp p.from q.from) _) ∙ ap₂ (λ (s t : Bool). s && t) (option_cmp_is_eq p.from q.from) (option_cmp_is_eq p.tag q.tag))
 
 pub same_pattern_itself : (p : Pattern) → same_pattern p p ≡ true
@@ -52,8 +52,8 @@ position_past p xs d fails =
     cond-false _ (Some (position_or_len p xs)) None (le-ltb (position_or_len p xs) (length xs) (omega (arith, at)))
 
 -- a pattern that takes any is not among those that each name one
-pub unnamed : (field : Pattern → Option ℕ) (keys : List Pattern) (p : Pattern) → list_all (λ q. is_some (field q)) keys ≡ true → is_some (field p) ≡ false → None ≡ number keys p
-unnamed field keys p all none =
+pub pattern_of_any_unnumbered : (field : Pattern → Option ℕ) (keys : List Pattern) (p : Pattern) → list_all (λ q. is_some (field q)) keys ≡ true → is_some (field p) ≡ false → None ≡ number keys p
+pattern_of_any_unnumbered field keys p all none =
     sym (position_past (same_pattern p) keys p (λ k l. false_from_ne_true (same_pattern p (get_or keys k p)) (λ e. differ k l (same_pattern_true p (get_or keys k p) e))))
   where
     differ : (k : ℕ) → k < length keys → p ≡ get_or keys k p → ⊥
@@ -62,8 +62,8 @@ unnamed field keys p all none =
         both_ways (is_some (field p)) none (ap (λ q. is_some (field q)) same ∙ named)
 
 -- nor is one of a kind that none of them is of
-pub not_wild : (wild : Wild) (keys : List Pattern) (p : Pattern) → list_any (is_wild wild) keys ≡ false → is_wild wild p ≡ true → None ≡ number keys p
-not_wild wild keys p none is =
+pub wild_pattern_unnumbered : (wild : Wild) (keys : List Pattern) (p : Pattern) → list_any (is_wild wild) keys ≡ false → is_wild wild p ≡ true → None ≡ number keys p
+wild_pattern_unnumbered wild keys p none is =
     sym (position_past (same_pattern p) keys p (λ k l. false_from_ne_true (same_pattern p (get_or keys k p)) (λ e. differ k l (same_pattern_true p (get_or keys k p) e))))
   where
     differ : (k : ℕ) → k < length keys → p ≡ get_or keys k p → ⊥
@@ -88,8 +88,8 @@ pub number_at : (keys : List Pattern) (p : Pattern) (i : ℕ) → number keys p 
 number_at keys p i e = same_pattern_true p (get_or keys i p) (position-Some (same_pattern p) keys i p e).1
 
 -- a pattern that is there has a number
-pub number_there : (keys : List Pattern) (p : Pattern) (k : ℕ) (q : Pattern) → slice_get keys k ≡ Some q → same_pattern p q ≡ true → (i : ℕ) × (number keys p ≡ Some i)
-number_there keys p k q there same = go (position (same_pattern p) keys) refl
+pub listed_pattern_has_number : (keys : List Pattern) (p : Pattern) (k : ℕ) (q : Pattern) → slice_get keys k ≡ Some q → same_pattern p q ≡ true → (i : ℕ) × (number keys p ≡ Some i)
+listed_pattern_has_number keys p k q there same = go (position (same_pattern p) keys) refl
   where
     go : (o : Option ℕ) → position (same_pattern p) keys ≡ o → (i : ℕ) × (number keys p ≡ Some i)
     go (Some i) e = (i, e)
@@ -100,8 +100,8 @@ number_there keys p k q there same = go (position (same_pattern p) keys) refl
         absurd (both_ways (same_pattern p q) (ap (same_pattern p) (sym (get_or_from_slice_get keys k q q there)) ∙ fails) same)
 
 module _ (keys : List Pattern) (p : Pattern) (i : ℕ) (its : number keys p ≡ Some i) where
-  number_alike : (q : Pattern) → same_number (Some i) (number keys q) ≡ same_pattern p q
-  number_alike q = go (same_pattern p q) refl (number keys q) refl
+  same_number_is_same_pattern : (q : Pattern) → same_number (Some i) (number keys q) ≡ same_pattern p q
+  same_number_is_same_pattern q = go (same_pattern p q) refl (number keys q) refl
     where
       go : (b : Bool) → same_pattern p q ≡ b → (o : Option ℕ) → number keys q ≡ o → same_number (Some i) o ≡ b
       go true e o f =
@@ -121,18 +121,18 @@ module _ (keys : List Pattern) (p : Pattern) (i : ℕ) (its : number keys p ≡ 
   -- it is among the numbers of patterns where it is among them
   pub any_number : (qs : List Pattern) → list_any (same_number (Some i)) (map (number keys) qs) ≡ list_any (same_pattern p) qs
   any_number [] = refl
-  any_number (q ∷ qs) = ap₂ (λ (s t : Bool). s || t) (number_alike q) (any_number qs)
+  any_number (q ∷ qs) = ap₂ (λ (s t : Bool). s || t) (same_number_is_same_pattern q) (any_number qs)
 
 -- a pattern fits a message exactly where it is one of the message's four
-flip : (m n : ℕ) → (m == n) ≡ (n == m)
-flip m n = go (n == m) refl
+eqb_swapped : (m n : ℕ) → (m == n) ≡ (n == m)
+eqb_swapped m n = go (n == m) refl
   where
     go : (b : Bool) → (n == m) ≡ b → (m == n) ≡ b
     go true e = eq-eqb m n (sym (eqb-true n m e))
     go false e = false_from_ne_true (m == n) (λ t. both_ways (n == m) e (eq-eqb n m (sym (eqb-true m n t))))
 
-four : (rank : ℕ) (from tag : Option ℕ) (source to with_tag : ℕ) → ((to == rank) && accepts from source && accepts tag with_tag) ≡ list_any (same_pattern (record { rank = rank; from = from; tag = tag })) (patterns_for source to with_tag)
-four rank from tag source to with_tag = ap (λ (s : Bool). s && accepts from source && accepts tag with_tag) (flip to rank) ∙ go (rank == to) from tag
+accepts_one_of_four : (rank : ℕ) (from tag : Option ℕ) (source to with_tag : ℕ) → ((to == rank) && accepts from source && accepts tag with_tag) ≡ list_any (same_pattern (record { rank = rank; from = from; tag = tag })) (patterns_for source to with_tag)
+accepts_one_of_four rank from tag source to with_tag = ap (λ (s : Bool). s && accepts from source && accepts tag with_tag) (eqb_swapped to rank) ∙ go (rank == to) from tag
   where
     none_none : (s : Bool) → (s && true && true) ≡ ((s && (false && false)) || ((s && (false && true)) || ((s && (true && false)) || ((s && (true && true)) || false))))
     none_none true = refl
@@ -171,7 +171,7 @@ fits_list plans keys x m i r e =
 
     at : (k : Option Kind) → fits_kinds x (Some (Recv r.room r.from r.tag)) m k ≡ list_any (same_number (Some i)) (numbers_for keys m k)
     at (Some (Send bytes to tag)) =
-        four x.rank r.from r.tag m.rank to tag ∙ sym (any_number keys (record { rank = x.rank; from = r.from; tag = r.tag }) i its (patterns_for m.rank to tag))
+        accepts_one_of_four x.rank r.from r.tag m.rank to tag ∙ sym (any_number keys (record { rank = x.rank; from = r.from; tag = r.tag }) i its (patterns_for m.rank to tag))
     at (Some (Calc nanos)) = refl
     at (Some (Recv room from tag)) = refl
     at None = refl
@@ -182,8 +182,8 @@ fits_any plans keys x m r its =
     ap (λ (o : Option ℕ). list_any (same_number o) (lists_for plans keys m)) its.is ∙ sym (fits_list plans keys x m its.list r its.is)
 
 -- the numbers of a message's lists: none twice, and each that of a list
-pub four_once : (keys : List Pattern) (source to tag : ℕ) → AreOnce (map (number keys) (patterns_for source to tag))
-four_once keys source to tag k i e = go k e
+pub four_numbers_differ : (keys : List Pattern) (source to tag : ℕ) → AreOnce (map (number keys) (patterns_for source to tag))
+four_numbers_differ keys source to tag k i e = go k e
   where
     go : (k : ℕ) → slice_get (map (number keys) (patterns_for source to tag)) k ≡ Some (Some i) → list_any (same_number (Some i)) (take k (map (number keys) (patterns_for source to tag))) ≡ false
     go zero e = refl
@@ -205,8 +205,8 @@ four_once keys source to tag k i e = go k e
         fourth false = refl
     go (suc (suc (suc (suc k)))) e = absurd (none-some (Some i) e)
 
-pub four_within : (keys : List Pattern) (source to tag : ℕ) → AreWithin (map (number keys) (patterns_for source to tag)) (length keys)
-four_within keys source to tag k i e = go k e
+pub four_numbers_within : (keys : List Pattern) (source to tag : ℕ) → AreWithin (map (number keys) (patterns_for source to tag)) (length keys)
+four_numbers_within keys source to tag k i e = go k e
   where
     go : (k : ℕ) → slice_get (map (number keys) (patterns_for source to tag)) k ≡ Some (Some i) → i < length keys
     go zero e = number_within keys (record { rank = to; from = Some source; tag = Some tag }) i (same_Some (number keys (record { rank = to; from = Some source; tag = Some tag })) (Some i) e)
@@ -220,10 +220,10 @@ pub send_lists : (plans : List Plan) (keys : List Pattern) (m : OpId) (s : IsSen
 send_lists plans keys m s = ap (numbers_for keys m) s.kind
 
 pub lists_once : (plans : List Plan) (keys : List Pattern) (m : OpId) → IsSend plans m → AreOnce (lists_for plans keys m)
-lists_once plans keys m s = subst AreOnce (sym (send_lists plans keys m s)) (four_once keys m.rank s.to s.tag)
+lists_once plans keys m s = subst AreOnce (sym (send_lists plans keys m s)) (four_numbers_differ keys m.rank s.to s.tag)
 
 pub lists_within : (plans : List Plan) (keys : List Pattern) (m : OpId) → IsSend plans m → AreWithin (lists_for plans keys m) (length keys)
-lists_within plans keys m s = subst (λ (ns : List (Option ℕ)). AreWithin ns (length keys)) (sym (send_lists plans keys m s)) (four_within keys m.rank s.to s.tag)
+lists_within plans keys m s = subst (λ (ns : List (Option ℕ)). AreWithin ns (length keys)) (sym (send_lists plans keys m s)) (four_numbers_within keys m.rank s.to s.tag)
 
 -- the patterns of the first n operations are among these
 abbrev pub AreCollected : List Plan → List OpId → ℕ → List Pattern → Type 0
@@ -250,7 +250,7 @@ listed_all plans n keys there all x r =
     let p : Pattern = record { rank = x.rank; from = r.from; tag = r.tag } in
     let is : pattern_of x (kind_at plans x) ≡ Some p = ap (pattern_of x) r.kind in
     let at = at_place keys p (there p place.0 x (omega (arith, all, slice_get_within (operations plans) place.0 x place.1)) place.1 is) in
-    let its = number_there keys p at.0 p at.1 (same_pattern_itself p) in
+    let its = listed_pattern_has_number keys p at.0 p at.1 (same_pattern_itself p) in
     record { list = its.0; is = ap (list_number keys) is ∙ its.1; within = number_within keys p its.0 its.1 }
   where
     at_place : {X : Type 0} (xs : List X) (x : X) → Contains xs x → (k : ℕ) × (slice_get xs k ≡ Some x)

@@ -12,11 +12,11 @@ use Rattle.goal_graph.proofs.ForCallers.{place_injective, is_act_class, happened
 use Rattle.sim_match.specs.PostsAndArrivals.{is_post_or_arrival, is_post_or_arrival_class, send_for, receive_for}
 
 -- one more post or arrival, and one more of another action
-pub filtered_more : (a : Act) (h : List Act) → is_post_or_arrival a ≡ true → filter is_post_or_arrival (a ∷ h) ≡ a ∷ filter is_post_or_arrival h
-filtered_more a h e = cond-true (is_post_or_arrival a) (a ∷ filter is_post_or_arrival h) (filter is_post_or_arrival h) e
+pub filtered_with_newest : (a : Act) (h : List Act) → is_post_or_arrival a ≡ true → filter is_post_or_arrival (a ∷ h) ≡ a ∷ filter is_post_or_arrival h
+filtered_with_newest a h e = cond-true (is_post_or_arrival a) (a ∷ filter is_post_or_arrival h) (filter is_post_or_arrival h) e
 
-pub filtered_same : (a : Act) (h : List Act) → is_post_or_arrival a ≡ false → filter is_post_or_arrival (a ∷ h) ≡ filter is_post_or_arrival h
-filtered_same a h e = cond-false (is_post_or_arrival a) (a ∷ filter is_post_or_arrival h) (filter is_post_or_arrival h) e
+pub filtered_without_newest : (a : Act) (h : List Act) → is_post_or_arrival a ≡ false → filter is_post_or_arrival (a ∷ h) ≡ filter is_post_or_arrival h
+filtered_without_newest a h e = cond-false (is_post_or_arrival a) (a ∷ filter is_post_or_arrival h) (filter is_post_or_arrival h) e
 
 -- a test that only posts and arrivals pass
 pub oldest_filtered : (test : Act → Bool) → ((a : Act) → test a ≡ true → is_post_or_arrival a ≡ true) → (h : List Act) → oldest test (filter is_post_or_arrival h) ≡ oldest test h
@@ -30,10 +30,10 @@ oldest_filtered test within (a ∷ h) = go (oldest_filtered test within h) (case
 
     go : oldest test (filter is_post_or_arrival h) ≡ oldest test h → ((is_post_or_arrival a ≡ true) ⊎ (is_post_or_arrival a ≡ false)) → oldest test (filter is_post_or_arrival (a ∷ h)) ≡ option_or (oldest test h) (if test a then Some a.op else None)
     go rest (inl t) =
-        ap (oldest test) (filtered_more a h t) ∙ ap (λ (o : Option OpId). option_or o (if test a then Some a.op else None)) rest
+        ap (oldest test) (filtered_with_newest a h t) ∙ ap (λ (o : Option OpId). option_or o (if test a then Some a.op else None)) rest
     go rest (inr f) =
         let fails = false_from_ne_true (test a) (λ p. both_ways (is_post_or_arrival a) f (within a p)) in
-        ap (oldest test) (filtered_same a h f) ∙ rest ∙ none (oldest test h) ∙ ap (λ (b : Bool). option_or (oldest test h) (if b then Some a.op else None)) (sym fails)
+        ap (oldest test) (filtered_without_newest a h f) ∙ rest ∙ none (oldest test h) ∙ ap (λ (b : Bool). option_or (oldest test h) (if b then Some a.op else None)) (sym fails)
 
 module _ (plans : List Plan) where
   pub open_receive_filtered : (ps : List Pair) (m : OpId) (a : Act) → is_open_receive plans ps m a ≡ true → is_post_or_arrival a ≡ true
@@ -73,9 +73,9 @@ module _ (plans : List Plan) where
     where
       go : pairs plans (filter is_post_or_arrival h) ≡ pairs plans h → ((is_post_or_arrival a ≡ true) ⊎ (is_post_or_arrival a ≡ false)) → pairs plans (filter is_post_or_arrival (a ∷ h)) ≡ add_pair (pairs plans h) (new_pair plans (pairs plans h) h a.class a.op)
       go rest (inl t) =
-          ap (pairs plans) (filtered_more a h t) ∙ ap (λ (ps : List Pair). add_pair ps (new_pair plans ps (filter is_post_or_arrival h) a.class a.op)) rest ∙ ap (add_pair (pairs plans h)) (new_pair_same (pairs plans h) h a.class a.op)
+          ap (pairs plans) (filtered_with_newest a h t) ∙ ap (λ (ps : List Pair). add_pair ps (new_pair plans ps (filter is_post_or_arrival h) a.class a.op)) rest ∙ ap (add_pair (pairs plans h)) (new_pair_same (pairs plans h) h a.class a.op)
       go rest (inr f) =
-          ap (pairs plans) (filtered_same a h f) ∙ rest ∙ ap (add_pair (pairs plans h)) (sym (other_makes_none (pairs plans h) h a.class a.op f))
+          ap (pairs plans) (filtered_without_newest a h f) ∙ rest ∙ ap (add_pair (pairs plans h)) (sym (other_makes_none (pairs plans h) h a.class a.op f))
 
   -- and so do the pair that one more action makes, and the answers to a post and an arrival
   pub new_pair_filtered : (h : List Act) (class : Class) (x : OpId) → new_pair plans (pairs plans (filter is_post_or_arrival h)) (filter is_post_or_arrival h) class x ≡ new_pair plans (pairs plans h) h class x
@@ -96,7 +96,7 @@ happened_filtered class x (a ∷ h) e = go (happened_filtered class x h e) (case
   where
     go : happened class x (filter is_post_or_arrival h) ≡ happened class x h → ((is_post_or_arrival a ≡ true) ⊎ (is_post_or_arrival a ≡ false)) → happened class x (filter is_post_or_arrival (a ∷ h)) ≡ happened class x (a ∷ h)
     go rest (inl t) =
-        ap (happened class x) (filtered_more a h t) ∙ ap (λ (b : Bool). b || is_act class x a) rest
+        ap (happened class x) (filtered_with_newest a h t) ∙ ap (λ (b : Bool). b || is_act class x a) rest
     go rest (inr f) =
         let other = false_from_ne_true (is_act class x a) (λ p. both_ways (is_post_or_arrival a) f (ap is_post_or_arrival_class (is_act_class class x a p) ∙ e)) in
-        ap (happened class x) (filtered_same a h f) ∙ rest ∙ sym (happened_unless_newest class x a h other)
+        ap (happened class x) (filtered_without_newest a h f) ∙ rest ∙ sym (happened_unless_newest class x a h other)

@@ -26,38 +26,38 @@ use Rattle.sim_match.specs.declared.capacities.Side.{Side}
 use Rattle.sim_match.specs.declared.capacities.Side.TheVariants.{Receives, Sends}
 use Rattle.sim_match.specs.declared.queues.Queue.{Queue}
 use Rattle.sim_match.specs.Queues.{class_of_side, come, taken_by, waits_as, AreInLine, AreQueued, AreLeft, AreQueues, AreToCome, is_waiting, waiting}
-use Rattle.sim_match.proofs.Ops.{ops_same, ops_other, ops_happened, oldest_found, action_suits, suited_receive, suited_send}
+use Rattle.sim_match.proofs.Ops.{ops_after_its_class, ops_after_other_class, ops_happened, oldest_found, action_suits, suited_receive, suited_send}
 use Rattle.sim_match.proofs.Pairs.{in_pair, paired_more, pairs_with}
 use Rattle.sim_match.proofs.Kept.{actions_of-post, actions_of-arrival}
 use Rattle.sim_match.proofs.Written.{slice_get_written, slice_get_elsewhere}
-use Rattle.sim_match.proofs.Lines.{last_of, line_alone, line_more, line_still}
-use Rattle.sim_match.proofs.Finding.{find_alike, find_none, filter_last, filter_last_passes}
+use Rattle.sim_match.proofs.Lines.{last_of_line, line_of_one, line_with_new_last, line_after_outside_write}
+use Rattle.sim_match.proofs.Finding.{find_by_equal_tests, find_none, filter_last_fails, filter_last_passes}
 use Rattle.sim_match.proofs.PatternLemmas.{fits_any}
 use Rattle.sim_match.proofs.Numbering.{own_within, own_of_receive, lists_where_named}
 
 -- two tests that agree on a list keep the same of it
-filter_alike : {X : Type 0} (p q : X → Bool) (xs : List X) → All (λ x. p x ≡ q x) xs → filter p xs ≡ filter q xs
-filter_alike p q [] agree = refl
-filter_alike {X} p q (x ∷ xs) agree =
-    ap (λ (b : Bool). cond b (x ∷ filter p xs) (filter p xs)) (All-head (λ x. p x ≡ q x) x xs agree) ∙ ap (λ (ys : List X). cond (q x) (x ∷ ys) ys) (filter_alike p q xs (All-tail (λ x. p x ≡ q x) x xs agree))
+filter_by_equal_tests : {X : Type 0} (p q : X → Bool) (xs : List X) → All (λ x. p x ≡ q x) xs → filter p xs ≡ filter q xs
+filter_by_equal_tests p q [] agree = refl
+filter_by_equal_tests {X} p q (x ∷ xs) agree =
+    ap (λ (b : Bool). cond b (x ∷ filter p xs) (filter p xs)) (All-head (λ x. p x ≡ q x) x xs agree) ∙ ap (λ (ys : List X). cond (q x) (x ∷ ys) ys) (filter_by_equal_tests p q xs (All-tail (λ x. p x ≡ q x) x xs agree))
 
 -- the first of a list
-abbrev first : {X : Type 0} → List X → Option X
-first [] = None
-first (x ∷ xs) = Some x
+abbrev head_of : {X : Type 0} → List X → Option X
+head_of [] = None
+head_of (x ∷ xs) = Some x
 
-find_first : {X : Type 0} (p : X → Bool) (xs : List X) → find p xs ≡ first (filter p xs)
+find_first : {X : Type 0} (p : X → Bool) (xs : List X) → find p xs ≡ head_of (filter p xs)
 find_first p [] = refl
 find_first {X} p (x ∷ xs) = go (p x) (find_first p xs)
   where
-    go : (b : Bool) → find p xs ≡ first (filter p xs) → cond b (Some x) (find p xs) ≡ first (cond b (x ∷ filter p xs) (filter p xs))
+    go : (b : Bool) → find p xs ≡ head_of (filter p xs) → cond b (Some x) (find p xs) ≡ head_of (cond b (x ∷ filter p xs) (filter p xs))
     go true rest = refl
     go false rest = rest
 
 -- a test that differs at the first that passes alone leaves the rest
-rest_left : (p q : OpId → Bool) (y : OpId) → q y ≡ false → (xs rest : List OpId) → All (λ z. same_op y z ≡ false → q z ≡ p z) xs → AllPairs (λ (x z : OpId). x ≢ z) xs → filter p xs ≡ y ∷ rest → filter q xs ≡ rest
-rest_left p q y out [] rest agree apart is = absurd (none-some y (ap first is))
-rest_left p q y out (x ∷ xs) rest agree apart is = go (rest_left p q y out xs rest agree_tail apart_tail) (p x) refl is (cases_op y x)
+filter_without_first : (p q : OpId → Bool) (y : OpId) → q y ≡ false → (xs rest : List OpId) → All (λ z. same_op y z ≡ false → q z ≡ p z) xs → AllPairs (λ (x z : OpId). x ≢ z) xs → filter p xs ≡ y ∷ rest → filter q xs ≡ rest
+filter_without_first p q y out [] rest agree apart is = absurd (none-some y (ap head_of is))
+filter_without_first p q y out (x ∷ xs) rest agree apart is = go (filter_without_first p q y out xs rest agree_tail apart_tail) (p x) refl is (cases_op y x)
   where
     agree_tail : All (λ z. same_op y z ≡ false → q z ≡ p z) xs
     agree_tail = All-tail (λ z. same_op y z ≡ false → q z ≡ p z) x xs agree
@@ -70,9 +70,9 @@ rest_left p q y out (x ∷ xs) rest agree apart is = go (rest_left p q y out xs 
 
     go : (filter p xs ≡ y ∷ rest → filter q xs ≡ rest) → (b : Bool) → p x ≡ b → cond b (x ∷ filter p xs) (filter p xs) ≡ y ∷ rest → ((y ≡ x) ⊎ (same_op y x ≡ false)) → cond (q x) (x ∷ filter q xs) (filter q xs) ≡ rest
     go after true e is c =
-        let same : x ≡ y = same_Some x y (ap first is) in
+        let same : x ≡ y = same_Some x y (ap head_of is) in
         let fails : q x ≡ false = ap q same ∙ out in
-        cond-false (q x) (x ∷ filter q xs) (filter q xs) fails ∙ filter_alike q p xs (λ k d b. All-head-at k d b same) ∙ ap tail is
+        cond-false (q x) (x ∷ filter q xs) (filter q xs) fails ∙ filter_by_equal_tests q p xs (λ k d b. All-head-at k d b same) ∙ ap tail is
       where
         tail : List OpId → List OpId
         tail [] = []
@@ -129,8 +129,8 @@ ops_differ plans (a ∷ h) c are = elim (cases_Bool (place a.class == place c)) 
   | inl t ↦
       let same : a.class ≡ c = place_injective a.class c (eqb-true _ _ t) in
       let fresh : happened c a.op h ≡ false = subst (λ (d : Class). happened d a.op h ≡ false) same are.1.fresh in
-      subst (AllPairs (λ (x z : OpId). x ≢ z)) (sym (ops_same c a h t)) (all_pairs_push (λ (x z : OpId). x ≢ z) (ops_of c h) a.op (ops_differ plans h c are.0) (λ k d b e. both_ways _ (ops_apart plans h are.0 c a.op fresh k d b) (same_op_from a.op _ (sym e))))
-  | inr f ↦ subst (AllPairs (λ (x z : OpId). x ≢ z)) (sym (ops_other c a h f)) (ops_differ plans h c are.0)
+      subst (AllPairs (λ (x z : OpId). x ≢ z)) (sym (ops_after_its_class c a h t)) (all_pairs_push (λ (x z : OpId). x ≢ z) (ops_of c h) a.op (ops_differ plans h c are.0) (λ k d b e. both_ways _ (ops_apart plans h are.0 c a.op fresh k d b) (same_op_from a.op _ (sym e))))
+  | inr f ↦ subst (AllPairs (λ (x z : OpId). x ≢ z)) (sym (ops_after_other_class c a h f)) (ops_differ plans h c are.0)
 ]
 
 module _ (plans : List Plan) (keys : List Pattern) (h : List Act) where
@@ -139,61 +139,61 @@ module _ (plans : List Plan) (keys : List Pattern) (h : List Act) where
 
   -- x comes, of the one class, and takes none
   module _ (c d : Class) (x : OpId) (mine : (place c == place c) ≡ true) (other : (place c == place d) ≡ false) (none : new_pair plans (pairs plans h) h c x ≡ None) where
-    still : (l : ℕ) (z : OpId) → is_waiting plans keys (act c x ∷ h) l z ≡ is_waiting plans keys h l z
-    still l z = ap (λ (ps : List Pair). not (is_paired ps z) && same_number (own_list plans keys z) (Some l)) (pairs_same plans (act c x) h none)
+    waiting_unchanged_by_coming : (l : ℕ) (z : OpId) → is_waiting plans keys (act c x ∷ h) l z ≡ is_waiting plans keys h l z
+    waiting_unchanged_by_coming l z = ap (λ (ps : List Pair). not (is_paired ps z) && same_number (own_list plans keys z) (Some l)) (pairs_same plans (act c x) h none)
 
-    pub others_stay : (l : ℕ) → waiting plans keys (act c x ∷ h) d l ≡ waiting plans keys h d l
-    others_stay l =
-        ap (filter (is_waiting plans keys (act c x ∷ h) l)) (ops_other d (act c x) h other) ∙ filter_alike (is_waiting plans keys (act c x ∷ h) l) (is_waiting plans keys h l) (ops_of d h) (λ k e b. still l _)
+    pub other_side_waits_unchanged : (l : ℕ) → waiting plans keys (act c x ∷ h) d l ≡ waiting plans keys h d l
+    other_side_waits_unchanged l =
+        ap (filter (is_waiting plans keys (act c x ∷ h) l)) (ops_after_other_class d (act c x) h other) ∙ filter_by_equal_tests (is_waiting plans keys (act c x ∷ h) l) (is_waiting plans keys h l) (ops_of d h) (λ k e b. waiting_unchanged_by_coming l _)
 
-    mine_then : (l : ℕ) → waiting plans keys (act c x ∷ h) c l ≡ filter (is_waiting plans keys h l) (ops_of c h ++ x ∷ [])
-    mine_then l =
-        ap (filter (is_waiting plans keys (act c x ∷ h) l)) (ops_same c (act c x) h mine) ∙ filter_alike (is_waiting plans keys (act c x ∷ h) l) (is_waiting plans keys h l) (ops_of c h ++ x ∷ []) (λ k e b. still l _)
+    side_waits_with_new : (l : ℕ) → waiting plans keys (act c x ∷ h) c l ≡ filter (is_waiting plans keys h l) (ops_of c h ++ x ∷ [])
+    side_waits_with_new l =
+        ap (filter (is_waiting plans keys (act c x ∷ h) l)) (ops_after_its_class c (act c x) h mine) ∙ filter_by_equal_tests (is_waiting plans keys (act c x ∷ h) l) (is_waiting plans keys h l) (ops_of c h ++ x ∷ []) (λ k e b. waiting_unchanged_by_coming l _)
 
-    pub mine_elsewhere : (l : ℕ) → same_number (own_list plans keys x) (Some l) ≡ false → waiting plans keys (act c x ∷ h) c l ≡ waiting plans keys h c l
-    mine_elsewhere l n =
-        mine_then l ∙ filter_last (is_waiting plans keys h l) (ops_of c h) x (ap (λ (b : Bool). not (is_paired (pairs plans h) x) && b) n ∙ and_none (not (is_paired (pairs plans h) x)))
+    pub side_waits_unchanged_in_other_list : (l : ℕ) → same_number (own_list plans keys x) (Some l) ≡ false → waiting plans keys (act c x ∷ h) c l ≡ waiting plans keys h c l
+    side_waits_unchanged_in_other_list l n =
+        side_waits_with_new l ∙ filter_last_fails (is_waiting plans keys h l) (ops_of c h) x (ap (λ (b : Bool). not (is_paired (pairs plans h) x) && b) n ∙ and_none (not (is_paired (pairs plans h) x)))
 
-    pub mine_more : (l : ℕ) → is_paired (pairs plans h) x ≡ false → same_number (own_list plans keys x) (Some l) ≡ true → waiting plans keys (act c x ∷ h) c l ≡ waiting plans keys h c l ++ x ∷ []
-    mine_more l free own =
-        mine_then l ∙ filter_last_passes (is_waiting plans keys h l) (ops_of c h) x (ap₂ (λ (s t : Bool). not s && t) free own)
+    pub side_waits_with_new_last : (l : ℕ) → is_paired (pairs plans h) x ≡ false → same_number (own_list plans keys x) (Some l) ≡ true → waiting plans keys (act c x ∷ h) c l ≡ waiting plans keys h c l ++ x ∷ []
+    side_waits_with_new_last l free own =
+        side_waits_with_new l ∙ filter_last_passes (is_waiting plans keys h l) (ops_of c h) x (ap₂ (λ (s t : Bool). not s && t) free own)
 
   -- x comes, and takes y
   module _ (c d : Class) (x y : OpId) (mine : (place c == place c) ≡ true) (other : (place c == place d) ≡ false) (p : Pair) (some : new_pair plans (pairs plans h) h c x ≡ Some p) (both : (z : OpId) → in_pair p z ≡ (same_op x z || same_op y z)) where
-    waits_then : (l : ℕ) (z : OpId) → is_waiting plans keys (act c x ∷ h) l z ≡ (not (is_paired (pairs plans h) z || (same_op x z || same_op y z)) && same_number (own_list plans keys z) (Some l))
-    waits_then l z =
+    waits_without_pair : (l : ℕ) (z : OpId) → is_waiting plans keys (act c x ∷ h) l z ≡ (not (is_paired (pairs plans h) z || (same_op x z || same_op y z)) && same_number (own_list plans keys z) (Some l))
+    waits_without_pair l z =
         ap (λ (b : Bool). not b && same_number (own_list plans keys z) (Some l)) (ap (λ (ps : List Pair). is_paired ps z) (pairs_with plans (act c x) h p some) ∙ paired_more p (pairs plans h) z ∙ ap (λ (b : Bool). is_paired (pairs plans h) z || b) (both z))
 
-    still_waits : (l : ℕ) (z : OpId) → same_op x z ≡ false → same_op y z ≡ false → is_waiting plans keys (act c x ∷ h) l z ≡ is_waiting plans keys h l z
-    still_waits l z m n =
-        waits_then l z ∙ ap₂ (λ (s t : Bool). not (is_paired (pairs plans h) z || (s || t)) && same_number (own_list plans keys z) (Some l)) m n ∙ ap (λ (b : Bool). not b && same_number (own_list plans keys z) (Some l)) (or_none (is_paired (pairs plans h) z))
+    waits_outside_pair : (l : ℕ) (z : OpId) → same_op x z ≡ false → same_op y z ≡ false → is_waiting plans keys (act c x ∷ h) l z ≡ is_waiting plans keys h l z
+    waits_outside_pair l z m n =
+        waits_without_pair l z ∙ ap₂ (λ (s t : Bool). not (is_paired (pairs plans h) z || (s || t)) && same_number (own_list plans keys z) (Some l)) m n ∙ ap (λ (b : Bool). not b && same_number (own_list plans keys z) (Some l)) (or_none (is_paired (pairs plans h) z))
 
-    gone : (l : ℕ) (z : OpId) → (same_op x z || same_op y z) ≡ true → is_waiting plans keys (act c x ∷ h) l z ≡ false
-    gone l z t =
-        waits_then l z ∙ ap (λ (b : Bool). not (is_paired (pairs plans h) z || b) && same_number (own_list plans keys z) (Some l)) t ∙ ap (λ (b : Bool). not b && same_number (own_list plans keys z) (Some l)) (or_true (is_paired (pairs plans h) z))
+    pair_no_longer_waits : (l : ℕ) (z : OpId) → (same_op x z || same_op y z) ≡ true → is_waiting plans keys (act c x ∷ h) l z ≡ false
+    pair_no_longer_waits l z t =
+        waits_without_pair l z ∙ ap (λ (b : Bool). not (is_paired (pairs plans h) z || b) && same_number (own_list plans keys z) (Some l)) t ∙ ap (λ (b : Bool). not b && same_number (own_list plans keys z) (Some l)) (or_true (is_paired (pairs plans h) z))
 
-    pub mine_stay : (l : ℕ) → All (λ (z : OpId). same_op x z ≡ false) (ops_of c h) → All (λ (z : OpId). same_op y z ≡ false) (ops_of c h) → waiting plans keys (act c x ∷ h) c l ≡ waiting plans keys h c l
-    mine_stay l fresh differ =
-        ap (filter (is_waiting plans keys (act c x ∷ h) l)) (ops_same c (act c x) h mine) ∙ filter_last (is_waiting plans keys (act c x ∷ h) l) (ops_of c h) x (gone l x (ap (λ (b : Bool). b || same_op y x) (same_op_itself x))) ∙ filter_alike (is_waiting plans keys (act c x ∷ h) l) (is_waiting plans keys h l) (ops_of c h) (λ k e b. still_waits l _ (fresh k e b) (differ k e b))
+    pub side_waits_unchanged_by_pair : (l : ℕ) → All (λ (z : OpId). same_op x z ≡ false) (ops_of c h) → All (λ (z : OpId). same_op y z ≡ false) (ops_of c h) → waiting plans keys (act c x ∷ h) c l ≡ waiting plans keys h c l
+    side_waits_unchanged_by_pair l fresh differ =
+        ap (filter (is_waiting plans keys (act c x ∷ h) l)) (ops_after_its_class c (act c x) h mine) ∙ filter_last_fails (is_waiting plans keys (act c x ∷ h) l) (ops_of c h) x (pair_no_longer_waits l x (ap (λ (b : Bool). b || same_op y x) (same_op_itself x))) ∙ filter_by_equal_tests (is_waiting plans keys (act c x ∷ h) l) (is_waiting plans keys h l) (ops_of c h) (λ k e b. waits_outside_pair l _ (fresh k e b) (differ k e b))
 
-    pub others_elsewhere : (l : ℕ) → All (λ (z : OpId). same_op x z ≡ false) (ops_of d h) → same_number (own_list plans keys y) (Some l) ≡ false → waiting plans keys (act c x ∷ h) d l ≡ waiting plans keys h d l
-    others_elsewhere l fresh n =
-        ap (filter (is_waiting plans keys (act c x ∷ h) l)) (ops_other d (act c x) h other) ∙ filter_alike (is_waiting plans keys (act c x ∷ h) l) (is_waiting plans keys h l) (ops_of d h) (λ k e b. same_at _ (fresh k e b))
+    pub other_list_waits_unchanged_by_pair : (l : ℕ) → All (λ (z : OpId). same_op x z ≡ false) (ops_of d h) → same_number (own_list plans keys y) (Some l) ≡ false → waiting plans keys (act c x ∷ h) d l ≡ waiting plans keys h d l
+    other_list_waits_unchanged_by_pair l fresh n =
+        ap (filter (is_waiting plans keys (act c x ∷ h) l)) (ops_after_other_class d (act c x) h other) ∙ filter_by_equal_tests (is_waiting plans keys (act c x ∷ h) l) (is_waiting plans keys h l) (ops_of d h) (λ k e b. same_at _ (fresh k e b))
       where
         same_at : (z : OpId) → same_op x z ≡ false → is_waiting plans keys (act c x ∷ h) l z ≡ is_waiting plans keys h l z
         same_at z f = elim (cases_op y z) [
           | inl same ↦
               let out : same_number (own_list plans keys z) (Some l) ≡ false = subst (λ (w : OpId). same_number (own_list plans keys w) (Some l) ≡ false) same n in
               fails (is_paired (pairs plans (act c x ∷ h)) z) _ out ∙ sym (fails (is_paired (pairs plans h) z) _ out)
-          | inr m ↦ still_waits l z f m
+          | inr m ↦ waits_outside_pair l z f m
         ]
           where
             fails : (s t : Bool) → t ≡ false → (not s && t) ≡ false
             fails s t e = ap (λ (b : Bool). not s && b) e ∙ and_none (not s)
 
-    pub others_left : (l : ℕ) (rest : List OpId) → ArePostsAndArrivals plans h → All (λ (z : OpId). same_op x z ≡ false) (ops_of d h) → waiting plans keys h d l ≡ y ∷ rest → waiting plans keys (act c x ∷ h) d l ≡ rest
-    others_left l rest are fresh is =
-        ap (filter (is_waiting plans keys (act c x ∷ h) l)) (ops_other d (act c x) h other) ∙ rest_left (is_waiting plans keys h l) (is_waiting plans keys (act c x ∷ h) l) y (gone l y (ap (λ (b : Bool). same_op x y || b) (same_op_itself y) ∙ or_true (same_op x y))) (ops_of d h) rest (λ k e b n. still_waits l _ (fresh k e b) n) (ops_differ plans h d are) is
+    pub other_side_without_first : (l : ℕ) (rest : List OpId) → ArePostsAndArrivals plans h → All (λ (z : OpId). same_op x z ≡ false) (ops_of d h) → waiting plans keys h d l ≡ y ∷ rest → waiting plans keys (act c x ∷ h) d l ≡ rest
+    other_side_without_first l rest are fresh is =
+        ap (filter (is_waiting plans keys (act c x ∷ h) l)) (ops_after_other_class d (act c x) h other) ∙ filter_without_first (is_waiting plans keys h l) (is_waiting plans keys (act c x ∷ h) l) y (pair_no_longer_waits l y (ap (λ (b : Bool). same_op x y || b) (same_op_itself y) ∙ or_true (same_op x y))) (ops_of d h) rest (λ k e b n. waits_outside_pair l _ (fresh k e b) n) (ops_differ plans h d are) is
 
 abbrev pub other_side : Side → Side
 other_side Receives = Sends
@@ -217,29 +217,29 @@ other_sides Receives Sends e = refl
 other_sides Sends Receives e = refl
 other_sides Sends Sends e = absurd (both_ways true e refl)
 
-mine_is : (s : Side) → (place (class_of_side s) == place (class_of_side s)) ≡ true
-mine_is Receives = refl
-mine_is Sends = refl
+class_of_side_itself : (s : Side) → (place (class_of_side s) == place (class_of_side s)) ≡ true
+class_of_side_itself Receives = refl
+class_of_side_itself Sends = refl
 
-other_is : (s : Side) → (place (class_of_side s) == place (class_of_side (other_side s))) ≡ false
-other_is Receives = refl
-other_is Sends = refl
+class_of_side_of_other : (s : Side) → (place (class_of_side s) == place (class_of_side (other_side s))) ≡ false
+class_of_side_of_other Receives = refl
+class_of_side_of_other Sends = refl
 
-pub waits_itself : (s : Side) → waits_as (Some s) s ≡ true
-waits_itself Receives = refl
-waits_itself Sends = refl
+pub waits_as_own_side : (s : Side) → waits_as (Some s) s ≡ true
+waits_as_own_side Receives = refl
+waits_as_own_side Sends = refl
 
-pub waits_not : (s : Side) → waits_as (Some s) (other_side s) ≡ false
-waits_not Receives = refl
-waits_not Sends = refl
+pub waits_not_as_other_side : (s : Side) → waits_as (Some s) (other_side s) ≡ false
+waits_not_as_other_side Receives = refl
+waits_not_as_other_side Sends = refl
 
-other_waits : (s : Side) → waits_as (Some (other_side s)) (other_side s) ≡ true
-other_waits Receives = refl
-other_waits Sends = refl
+other_waits_as_itself : (s : Side) → waits_as (Some (other_side s)) (other_side s) ≡ true
+other_waits_as_itself Receives = refl
+other_waits_as_itself Sends = refl
 
-other_waits_not : (s : Side) → waits_as (Some (other_side s)) s ≡ false
-other_waits_not Receives = refl
-other_waits_not Sends = refl
+other_waits_not_as_side : (s : Side) → waits_as (Some (other_side s)) s ≡ false
+other_waits_not_as_side Receives = refl
+other_waits_not_as_side Sends = refl
 
 -- the pair of x, of that side, and y
 abbrev pair_with : Side → OpId → OpId → Pair
@@ -256,13 +256,13 @@ in_pair_with : (s : Side) (x y z : OpId) → in_pair (pair_with s x y) z ≡ (sa
 in_pair_with Receives x y z = or_swapped (same_op y z) (same_op x z)
 in_pair_with Sends x y z = refl
 
-of_four : (o p : Option ℕ) → (same_number o p || (same_number o None || (same_number o None || (same_number o None || false)))) ≡ same_number o p
-of_four None p = refl
-of_four (Some i) p = or_none (same_number (Some i) p)
+only_first_number_matters : (o p : Option ℕ) → (same_number o p || (same_number o None || (same_number o None || (same_number o None || false)))) ≡ same_number o p
+only_first_number_matters None p = refl
+only_first_number_matters (Some i) p = or_none (same_number (Some i) p)
 
-one_number : (o : Option ℕ) (k l : ℕ) → same_number o (Some k) ≡ true → same_number o (Some l) ≡ true → k ≡ l
-one_number None k l e f = absurd (both_ways false refl e)
-one_number (Some i) k l e f = sym (eqb-true i k e) ∙ eqb-true i l f
+same_number_unique : (o : Option ℕ) (k l : ℕ) → same_number o (Some k) ≡ true → same_number o (Some l) ≡ true → k ≡ l
+same_number_unique None k l e f = absurd (both_ways false refl e)
+same_number_unique (Some i) k l e f = sym (eqb-true i k e) ∙ eqb-true i l f
 
 -- what is of one side is no operation of the other
 sides_apart : (plans : List Plan) (s : Side) (y z : OpId) → has_class (kind_at plans y) (class_of_side (other_side s)) ≡ true → has_class (kind_at plans z) (class_of_side s) ≡ true → same_op y z ≡ false
@@ -271,33 +271,33 @@ sides_apart plans Receives y z m r =
 sides_apart plans Sends y z r m =
     false_from_ne_true (same_op y z) (λ t. not_send_receive plans z (suited_send plans z m) (subst (IsReceive plans) (same_op_true y z t) (suited_receive plans y r)))
 
-not_yet : (plans : List Plan) (h : List Act) (s : Side) (x : OpId) → IsNew plans h (come s x) → is_paired (pairs plans h) x ≡ false
-not_yet plans h Receives x new =
+new_action_unpaired : (plans : List Plan) (h : List Act) (s : Side) (x : OpId) → IsNew plans h (come s x) → is_paired (pairs plans h) x ≡ false
+new_action_unpaired plans h Receives x new =
     ap (λ (o : Option OpId). is_some o) (not_posted plans h x (suited_receive plans x new.suited) new.fresh)
-not_yet plans h Sends x new =
+new_action_unpaired plans h Sends x new =
     ap (λ (o : Option OpId). is_some o) (not_arrived plans h x (suited_send plans x new.suited) new.fresh)
 
 module _ (plans : List Plan) (keys : List Pattern) (named : AreNamed keys) (listed : AreListed plans keys) where
   -- a receive fits the sends of its list
   fits_own : (x m : OpId) → IsReceive plans x → IsSend plans m → fits plans x m ≡ same_number (own_list plans keys x) (own_list plans keys m)
   fits_own x m r s =
-      sym (fits_any plans keys x m r (listed x r)) ∙ ap (list_any (same_number (list_of plans keys x))) (lists_where_named plans keys m s named) ∙ of_four (list_of plans keys x) (own_list plans keys m) ∙ ap (λ (o : Option ℕ). same_number o (own_list plans keys m)) (sym (own_of_receive plans keys x r))
+      sym (fits_any plans keys x m r (listed x r)) ∙ ap (list_any (same_number (list_of plans keys x))) (lists_where_named plans keys m s named) ∙ only_first_number_matters (list_of plans keys x) (own_list plans keys m) ∙ ap (λ (o : Option ℕ). same_number o (own_list plans keys m)) (sym (own_of_receive plans keys x r))
 
   module _ (h : List Act) (are : ArePostsAndArrivals plans h) where
     -- the first that waits is what is taken
-    pub makes : (s : Side) (x : OpId) (l : ℕ) → has_class (kind_at plans x) (class_of_side s) ≡ true → own_list plans keys x ≡ Some l → new_pair plans (pairs plans h) h (class_of_side s) x ≡ option_map (pair_with s x) (first (waiting plans keys h (class_of_side (other_side s)) l))
-    makes Receives x l suited own =
-        ap (option_map (λ (m : OpId). pair_of m x)) (oldest_found Arrive (λ (z : OpId). not (is_paired (pairs plans h) z)) (fits plans x) h ∙ find_alike (λ (z : OpId). not (is_paired (pairs plans h) z) && fits plans x z) (is_waiting plans keys h l) (ops_of Arrive h) (λ k d b. ap (λ (t : Bool). not (is_paired (pairs plans h) (get_or (ops_of Arrive h) k d)) && t) (fits_own x (get_or (ops_of Arrive h) k d) (suited_receive plans x suited) (suited_send plans _ (ops_suit plans h are Arrive k d b)) ∙ ap (λ (o : Option ℕ). same_number o (own_list plans keys (get_or (ops_of Arrive h) k d))) own ∙ same_number_swapped (Some l) _)) ∙ find_first (is_waiting plans keys h l) (ops_of Arrive h))
-    makes Sends x l suited own =
-        ap (option_map (λ (z : OpId). pair_of x z)) (oldest_found Post (λ (z : OpId). not (is_paired (pairs plans h) z)) (λ (z : OpId). fits plans z x) h ∙ find_alike (λ (z : OpId). not (is_paired (pairs plans h) z) && fits plans z x) (is_waiting plans keys h l) (ops_of Post h) (λ k d b. ap (λ (t : Bool). not (is_paired (pairs plans h) (get_or (ops_of Post h) k d)) && t) (fits_own (get_or (ops_of Post h) k d) x (suited_receive plans _ (ops_suit plans h are Post k d b)) (suited_send plans x suited) ∙ ap (same_number (own_list plans keys (get_or (ops_of Post h) k d))) own)) ∙ find_first (is_waiting plans keys h l) (ops_of Post h))
+    pub pair_made_with_first_waiting : (s : Side) (x : OpId) (l : ℕ) → has_class (kind_at plans x) (class_of_side s) ≡ true → own_list plans keys x ≡ Some l → new_pair plans (pairs plans h) h (class_of_side s) x ≡ option_map (pair_with s x) (head_of (waiting plans keys h (class_of_side (other_side s)) l))
+    pair_made_with_first_waiting Receives x l suited own =
+        ap (option_map (λ (m : OpId). pair_of m x)) (oldest_found Arrive (λ (z : OpId). not (is_paired (pairs plans h) z)) (fits plans x) h ∙ find_by_equal_tests (λ (z : OpId). not (is_paired (pairs plans h) z) && fits plans x z) (is_waiting plans keys h l) (ops_of Arrive h) (λ k d b. ap (λ (t : Bool). not (is_paired (pairs plans h) (get_or (ops_of Arrive h) k d)) && t) (fits_own x (get_or (ops_of Arrive h) k d) (suited_receive plans x suited) (suited_send plans _ (ops_suit plans h are Arrive k d b)) ∙ ap (λ (o : Option ℕ). same_number o (own_list plans keys (get_or (ops_of Arrive h) k d))) own ∙ same_number_swapped (Some l) _)) ∙ find_first (is_waiting plans keys h l) (ops_of Arrive h))
+    pair_made_with_first_waiting Sends x l suited own =
+        ap (option_map (λ (z : OpId). pair_of x z)) (oldest_found Post (λ (z : OpId). not (is_paired (pairs plans h) z)) (λ (z : OpId). fits plans z x) h ∙ find_by_equal_tests (λ (z : OpId). not (is_paired (pairs plans h) z) && fits plans z x) (is_waiting plans keys h l) (ops_of Post h) (λ k d b. ap (λ (t : Bool). not (is_paired (pairs plans h) (get_or (ops_of Post h) k d)) && t) (fits_own (get_or (ops_of Post h) k d) x (suited_receive plans _ (ops_suit plans h are Post k d b)) (suited_send plans x suited) ∙ ap (same_number (own_list plans keys (get_or (ops_of Post h) k d))) own)) ∙ find_first (is_waiting plans keys h l) (ops_of Post h))
 
-    takes : (s : Side) (x : OpId) (o : Option OpId) → new_pair plans (pairs plans h) h (class_of_side s) x ≡ option_map (pair_with s x) o → o ≡ taken_by s plans h x
-    takes Receives x o e = its o ∙ sym (ap (option_map (λ (p : Pair). p.send)) e)
+    made_pair_is_taken : (s : Side) (x : OpId) (o : Option OpId) → new_pair plans (pairs plans h) h (class_of_side s) x ≡ option_map (pair_with s x) o → o ≡ taken_by s plans h x
+    made_pair_is_taken Receives x o e = its o ∙ sym (ap (option_map (λ (p : Pair). p.send)) e)
       where
         its : (o : Option OpId) → o ≡ option_map (λ (p : Pair). p.send) (option_map (λ (m : OpId). pair_of m x) o)
         its None = refl
         its (Some m) = refl
-    takes Sends x o e = its o ∙ sym (ap (option_map (λ (p : Pair). p.recv)) e)
+    made_pair_is_taken Sends x o e = its o ∙ sym (ap (option_map (λ (p : Pair). p.recv)) e)
       where
         its : (o : Option OpId) → o ≡ option_map (λ (p : Pair). p.recv) (option_map (λ (z : OpId). pair_of x z) o)
         its None = refl
@@ -309,30 +309,30 @@ module _ (plans : List Plan) (keys : List Pattern) (named : AreNamed keys) (list
         ap (option_map (λ (z : OpId). pair_of m z)) (oldest_found Post (λ (z : OpId). not (is_paired (pairs plans h) z)) (λ (z : OpId). fits plans z m) h ∙ find_none (λ (z : OpId). not (is_paired (pairs plans h) z) && fits plans z m) (ops_of Post h) (λ k d b. ap (λ (t : Bool). not (is_paired (pairs plans h) (get_or (ops_of Post h) k d)) && t) (fits_own (get_or (ops_of Post h) k d) m (suited_receive plans _ (ops_suit plans h are Post k d b)) s ∙ ap (same_number (own_list plans keys (get_or (ops_of Post h) k d))) none ∙ no_number _) ∙ and_none (not (is_paired (pairs plans h) (get_or (ops_of Post h) k d)))))
 
     -- what waits of a list is of it
-    own_of : (c : Class) (l : ℕ) → All (λ (z : OpId). same_number (own_list plans keys z) (Some l) ≡ true) (waiting plans keys h c l)
-    own_of c l = All-weaker (λ (z : OpId). is_waiting plans keys h l z ≡ true) (λ (z : OpId). same_number (own_list plans keys z) (Some l) ≡ true) (λ z t. (and_parts (not (is_paired (pairs plans h) z)) _ t).1) (waiting plans keys h c l) (filter_passes (is_waiting plans keys h l) (ops_of c h))
+    waiting_own_list : (c : Class) (l : ℕ) → All (λ (z : OpId). same_number (own_list plans keys z) (Some l) ≡ true) (waiting plans keys h c l)
+    waiting_own_list c l = All-weaker (λ (z : OpId). is_waiting plans keys h l z ≡ true) (λ (z : OpId). same_number (own_list plans keys z) (Some l) ≡ true) (λ z t. (and_parts (not (is_paired (pairs plans h) z)) _ t).1) (waiting plans keys h c l) (filter_passes (is_waiting plans keys h l) (ops_of c h))
 
     waiting_suits : (c : Class) (l : ℕ) → All (λ (z : OpId). has_class (kind_at plans z) c ≡ true) (waiting plans keys h c l)
     waiting_suits c l = All-filter (is_waiting plans keys h l) (λ (z : OpId). has_class (kind_at plans z) c ≡ true) (ops_of c h) (ops_suit plans h are c)
 
     -- of another list
-    other_list : (c : Class) (k l : ℕ) (z : OpId) → (k ≡ l → ⊥) → same_number (own_list plans keys z) (Some l) ≡ true → All (λ (y : OpId). y ≢ z) (waiting plans keys h c k)
-    other_list c k l z n own = All-weaker (λ (y : OpId). same_number (own_list plans keys y) (Some k) ≡ true) (λ (y : OpId). y ≢ z) (λ y its same. n (one_number (own_list plans keys z) k l (subst (λ (w : OpId). same_number (own_list plans keys w) (Some k) ≡ true) same its) own)) (waiting plans keys h c k) (own_of c k)
+    other_list_waits_differ : (c : Class) (k l : ℕ) (z : OpId) → (k ≡ l → ⊥) → same_number (own_list plans keys z) (Some l) ≡ true → All (λ (y : OpId). y ≢ z) (waiting plans keys h c k)
+    other_list_waits_differ c k l z n own = All-weaker (λ (y : OpId). same_number (own_list plans keys y) (Some k) ≡ true) (λ (y : OpId). y ≢ z) (λ y its same. n (same_number_unique (own_list plans keys z) k l (subst (λ (w : OpId). same_number (own_list plans keys w) (Some k) ≡ true) same its) own)) (waiting plans keys h c k) (waiting_own_list c k)
 
-    not_among : (c : Class) (l : ℕ) (x : OpId) → happened c x h ≡ false → All (λ (y : OpId). y ≢ x) (waiting plans keys h c l)
-    not_among c l x fresh = All-filter (is_waiting plans keys h l) (λ (y : OpId). y ≢ x) (ops_of c h) (All-weaker (λ (y : OpId). same_op x y ≡ false) (λ (y : OpId). y ≢ x) (λ y f same. both_ways (same_op x y) f (same_op_from x y (sym same))) (ops_of c h) (ops_apart plans h are c x fresh))
+    not_happened_not_waiting : (c : Class) (l : ℕ) (x : OpId) → happened c x h ≡ false → All (λ (y : OpId). y ≢ x) (waiting plans keys h c l)
+    not_happened_not_waiting c l x fresh = All-filter (is_waiting plans keys h l) (λ (y : OpId). y ≢ x) (ops_of c h) (All-weaker (λ (y : OpId). same_op x y ≡ false) (λ (y : OpId). y ≢ x) (λ y f same. both_ways (same_op x y) f (same_op_from x y (sym same))) (ops_of c h) (ops_apart plans h are c x fresh))
 
     module _ (queues : List Queue) (next : List ℕ) (q : AreQueues plans keys queues next h) where
       abbrev ops : List OpId
       ops = operations plans
 
-      queued_as : (some : List ℕ) (queue : Queue) (b t : Bool) (xs ys : List OpId) → b ≡ t → xs ≡ ys → AreQueued ops some queue t ys → AreQueued ops some queue b xs
-      queued_as some queue b t xs ys same is queued =
+      queued_of_equal : (some : List ℕ) (queue : Queue) (b t : Bool) (xs ys : List OpId) → b ≡ t → xs ≡ ys → AreQueued ops some queue t ys → AreQueued ops some queue b xs
+      queued_of_equal some queue b t xs ys same is queued =
           subst (λ (s : Bool). AreQueued ops some queue s xs) (sym same) (subst (AreQueued ops some queue t) (sym is) queued)
 
-      queued_still : (queue : Queue) (b : Bool) (xs : List OpId) (z : OpId) (k j : ℕ) → slice_get ops k ≡ Some z → All (λ (y : OpId). y ≢ z) xs → AreQueued ops next queue b xs → AreQueued ops (slice_set next k j) queue b xs
-      queued_still queue true xs z k j at all queued = line_still ops next queue xs z k j at all queued
-      queued_still queue false xs z k j at all queued = queued
+      queued_after_outside_write : (queue : Queue) (b : Bool) (xs : List OpId) (z : OpId) (k j : ℕ) → slice_get ops k ≡ Some z → All (λ (y : OpId). y ≢ z) xs → AreQueued ops next queue b xs → AreQueued ops (slice_set next k j) queue b xs
+      queued_after_outside_write queue true xs z k j at all queued = line_after_outside_write ops next queue xs z k j at all queued
+      queued_after_outside_write queue false xs z k j at all queued = queued
 
       -- an action more leaves less to come
       pub still_to_come : (a : Act) → AreToCome plans keys next h → AreToCome plans keys next (a ∷ h)
@@ -341,15 +341,15 @@ module _ (plans : List Plan) (keys : List Pattern) (named : AreNamed keys) (list
       }
 
       -- nobody comes: a send without a list
-      pub come_nowhere : (m : OpId) → IsSend plans m → own_list plans keys m ≡ None → AreQueues plans keys queues next (come Sends m ∷ h) × (None ≡ receive_for plans h m)
-      come_nowhere m s none =
+      pub send_without_list_comes : (m : OpId) → IsSend plans m → own_list plans keys m ≡ None → AreQueues plans keys queues next (come Sends m ∷ h) × (None ≡ receive_for plans h m)
+      send_without_list_comes m s none =
           let alone = meets_none m s none in (
             record {
               one_each = q.one_each;
               links = q.links;
-              each = λ k u e. both_sides (λ (t : Side). AreQueued ops next u (waits_as u.waits t) (waiting plans keys (come Sends m ∷ h) (class_of_side t) k)) Sends (queued_as next u _ _ _ _ refl (mine_elsewhere plans keys h Arrive Post m refl refl alone k (ap (λ (o : Option ℕ). same_number o (Some k)) none)) (q.each k u e Sends)) (queued_as next u _ _ _ _ refl (others_stay plans keys h Arrive Post m refl refl alone k) (q.each k u e Receives));
+              each = λ k u e. both_sides (λ (t : Side). AreQueued ops next u (waits_as u.waits t) (waiting plans keys (come Sends m ∷ h) (class_of_side t) k)) Sends (queued_of_equal next u _ _ _ _ refl (side_waits_unchanged_in_other_list plans keys h Arrive Post m refl refl alone k (ap (λ (o : Option ℕ). same_number o (Some k)) none)) (q.each k u e Sends)) (queued_of_equal next u _ _ _ _ refl (other_side_waits_unchanged plans keys h Arrive Post m refl refl alone k) (q.each k u e Receives));
             },
-            takes Sends m None alone,
+            made_pair_is_taken Sends m None alone,
           )
 
       -- x comes to its list
@@ -358,25 +358,25 @@ module _ (plans : List Plan) (keys : List Pattern) (named : AreNamed keys) (list
         come_within = let within = own_within plans keys x l own in omega (arith, within, q.one_each)
 
         -- so there are patterns, and links
-        linked : length ops ≤ length next
-        linked = let within = own_within plans keys x l own in q.links (omega (arith, within))
+        ops_within_links : length ops ≤ length next
+        ops_within_links = let within = own_within plans keys x l own in q.links (omega (arith, within))
 
-        here : same_number (own_list plans keys x) (Some l) ≡ true
-        here = ap (λ (o : Option ℕ). same_number o (Some l)) own ∙ eq-eqb l l refl
+        in_its_own_list : same_number (own_list plans keys x) (Some l) ≡ true
+        in_its_own_list = ap (λ (o : Option ℕ). same_number o (Some l)) own ∙ eq-eqb l l refl
 
-        elsewhere : (k : ℕ) → (k ≡ l → ⊥) → same_number (own_list plans keys x) (Some k) ≡ false
-        elsewhere k n =
+        in_no_other_own_list : (k : ℕ) → (k ≡ l → ⊥) → same_number (own_list plans keys x) (Some k) ≡ false
+        in_no_other_own_list k n =
             ap (λ (o : Option ℕ). same_number o (Some k)) own ∙ ne_eqb l k (λ e. n (sym e))
 
         module _ (queue : Queue) (at : slice_get queues l ≡ Some queue) where
-          of_side : (t : Side) (b : Bool) → waits_as queue.waits t ≡ b → AreQueued ops next queue b (waiting plans keys h (class_of_side t) l)
-          of_side t b is = subst (λ (b : Bool). AreQueued ops next queue b (waiting plans keys h (class_of_side t) l)) is (q.each l queue at t)
+          queued_of_side : (t : Side) (b : Bool) → waits_as queue.waits t ≡ b → AreQueued ops next queue b (waiting plans keys h (class_of_side t) l)
+          queued_of_side t b is = subst (λ (b : Bool). AreQueued ops next queue b (waiting plans keys h (class_of_side t) l)) is (q.each l queue at t)
 
           pub last_within : waits_as queue.waits s ≡ true → queue.last < length next
           last_within some =
-              let end = last_of ops next queue (waiting plans keys h (class_of_side s) l) (of_side s true some) in
+              let end = last_of_line ops next queue (waiting plans keys h (class_of_side s) l) (queued_of_side s true some) in
               let within = slice_get_within ops queue.last end.0 end.1 in
-              omega (arith, within, linked)
+              omega (arith, within, ops_within_links)
 
           -- at the place of the last, which has come, no number of one to come is kept
           pub behind_to_come : (j : ℕ) → waits_as queue.waits s ≡ true → AreToCome plans keys next h → AreToCome plans keys (slice_set next queue.last j) (come s x ∷ h)
@@ -387,7 +387,7 @@ module _ (plans : List Plan) (keys : List Pattern) (named : AreNamed keys) (list
           }
             where
               end : (y : OpId) × (slice_get ops queue.last ≡ Some y) × Contains (waiting plans keys h (class_of_side s) l) y
-              end = last_of ops next queue (waiting plans keys h (class_of_side s) l) (of_side s true some)
+              end = last_of_line ops next queue (waiting plans keys h (class_of_side s) l) (queued_of_side s true some)
 
               has_come : happened (class_of_side s) end.0 h ≡ true
               has_come = All-contains (λ (z : OpId). happened (class_of_side s) z h ≡ true) (waiting plans keys h (class_of_side s) l) end.0 (All-filter (is_waiting plans keys h l) (λ (z : OpId). happened (class_of_side s) z h ≡ true) (ops_of (class_of_side s) h) (ops_happened (class_of_side s) h)) end.2
@@ -399,8 +399,8 @@ module _ (plans : List Plan) (keys : List Pattern) (named : AreNamed keys) (list
               apart z same = both_sides (λ (t : Side). has_class (kind_at plans z) (class_of_side t) ≡ true → happened (class_of_side t) z h ≡ false → ⊥) s (λ suits fresh. both_ways (happened (class_of_side s) z h) fresh (subst (λ (y : OpId). happened (class_of_side s) y h ≡ true) same has_come)) (λ suits fresh. both_ways (same_op z end.0) (sides_apart plans s z end.0 suits its_side) (same_op_from z end.0 (sym same)))
 
           -- each queue after a write of that one
-          each_after : (after : List ℕ) (a : Act) (u : Queue) → ((t : Side) → AreQueued ops after u (waits_as u.waits t) (waiting plans keys (a ∷ h) (class_of_side t) l)) → ((k : ℕ) (v : Queue) → (k ≡ l → ⊥) → slice_get queues k ≡ Some v → (t : Side) → AreQueued ops after v (waits_as v.waits t) (waiting plans keys (a ∷ h) (class_of_side t) k)) → (k : ℕ) (v : Queue) → slice_get (slice_set queues l u) k ≡ Some v → (t : Side) → AreQueued ops after v (waits_as v.waits t) (waiting plans keys (a ∷ h) (class_of_side t) k)
-          each_after after a u its others k v e t = elim (cases_eq k l) [
+          queues_after_write : (after : List ℕ) (a : Act) (u : Queue) → ((t : Side) → AreQueued ops after u (waits_as u.waits t) (waiting plans keys (a ∷ h) (class_of_side t) l)) → ((k : ℕ) (v : Queue) → (k ≡ l → ⊥) → slice_get queues k ≡ Some v → (t : Side) → AreQueued ops after v (waits_as v.waits t) (waiting plans keys (a ∷ h) (class_of_side t) k)) → (k : ℕ) (v : Queue) → slice_get (slice_set queues l u) k ≡ Some v → (t : Side) → AreQueued ops after v (waits_as v.waits t) (waiting plans keys (a ∷ h) (class_of_side t) k)
+          queues_after_write after a u its others k v e t = elim (cases_eq k l) [
             | inl same ↦
                 let is : u ≡ v = slice_get_written queues l u v (subst (λ (k : ℕ). slice_get (slice_set queues l u) k ≡ Some v) same e) in
                 subst (λ (k : ℕ). AreQueued ops after v (waits_as v.waits t) (waiting plans keys (a ∷ h) (class_of_side t) k)) (sym same) (subst (λ (w : Queue). AreQueued ops after w (waits_as w.waits t) (waiting plans keys (a ∷ h) (class_of_side t) l)) is (its t))
@@ -409,89 +409,89 @@ module _ (plans : List Plan) (keys : List Pattern) (named : AreNamed keys) (list
 
           -- none of the other side waits there, so x waits
           module _ (nobody : waits_as queue.waits (other_side s) ≡ false) where
-            alone : new_pair plans (pairs plans h) h (class_of_side s) x ≡ None
-            alone =
-                makes s x l new.suited own ∙ ap (λ (xs : List OpId). option_map (pair_with s x) (first xs)) (of_side (other_side s) false nobody)
+            coming_makes_no_pair : new_pair plans (pairs plans h) h (class_of_side s) x ≡ None
+            coming_makes_no_pair =
+                pair_made_with_first_waiting s x l new.suited own ∙ ap (λ (xs : List OpId). option_map (pair_with s x) (head_of xs)) (queued_of_side (other_side s) false nobody)
 
             pub none_taken : None ≡ taken_by s plans h x
-            none_taken = takes s x None alone
+            none_taken = made_pair_is_taken s x None coming_makes_no_pair
 
             -- who waits there then
-            then_here : (after : List ℕ) (u : Queue) → u.waits ≡ Some s → AreInLine ops after u (waiting plans keys h (class_of_side s) l ++ x ∷ []) → (t : Side) → AreQueued ops after u (waits_as u.waits t) (waiting plans keys (come s x ∷ h) (class_of_side t) l)
-            then_here after u waits line = both_sides (λ (t : Side). AreQueued ops after u (waits_as u.waits t) (waiting plans keys (come s x ∷ h) (class_of_side t) l)) s (queued_as after u _ true _ _ (ap (λ (o : Option Side). waits_as o s) waits ∙ waits_itself s) (mine_more plans keys h (class_of_side s) (class_of_side (other_side s)) x (mine_is s) (other_is s) alone l (not_yet plans h s x new) here) line) (queued_as after u _ false _ _ (ap (λ (o : Option Side). waits_as o (other_side s)) waits ∙ waits_not s) (others_stay plans keys h (class_of_side s) (class_of_side (other_side s)) x (mine_is s) (other_is s) alone l) (of_side (other_side s) false nobody))
+            its_list_after_wait : (after : List ℕ) (u : Queue) → u.waits ≡ Some s → AreInLine ops after u (waiting plans keys h (class_of_side s) l ++ x ∷ []) → (t : Side) → AreQueued ops after u (waits_as u.waits t) (waiting plans keys (come s x ∷ h) (class_of_side t) l)
+            its_list_after_wait after u waits line = both_sides (λ (t : Side). AreQueued ops after u (waits_as u.waits t) (waiting plans keys (come s x ∷ h) (class_of_side t) l)) s (queued_of_equal after u _ true _ _ (ap (λ (o : Option Side). waits_as o s) waits ∙ waits_as_own_side s) (side_waits_with_new_last plans keys h (class_of_side s) (class_of_side (other_side s)) x (class_of_side_itself s) (class_of_side_of_other s) coming_makes_no_pair l (new_action_unpaired plans h s x new) in_its_own_list) line) (queued_of_equal after u _ false _ _ (ap (λ (o : Option Side). waits_as o (other_side s)) waits ∙ waits_not_as_other_side s) (other_side_waits_unchanged plans keys h (class_of_side s) (class_of_side (other_side s)) x (class_of_side_itself s) (class_of_side_of_other s) coming_makes_no_pair l) (queued_of_side (other_side s) false nobody))
 
-            then_elsewhere : (after : List ℕ) (k : ℕ) (v : Queue) → (k ≡ l → ⊥) → ((t : Side) → AreQueued ops after v (waits_as v.waits t) (waiting plans keys h (class_of_side t) k)) → (t : Side) → AreQueued ops after v (waits_as v.waits t) (waiting plans keys (come s x ∷ h) (class_of_side t) k)
-            then_elsewhere after k v n before = both_sides (λ (t : Side). AreQueued ops after v (waits_as v.waits t) (waiting plans keys (come s x ∷ h) (class_of_side t) k)) s (queued_as after v _ _ _ _ refl (mine_elsewhere plans keys h (class_of_side s) (class_of_side (other_side s)) x (mine_is s) (other_is s) alone k (elsewhere k n)) (before s)) (queued_as after v _ _ _ _ refl (others_stay plans keys h (class_of_side s) (class_of_side (other_side s)) x (mine_is s) (other_is s) alone k) (before (other_side s)))
+            other_list_after_wait : (after : List ℕ) (k : ℕ) (v : Queue) → (k ≡ l → ⊥) → ((t : Side) → AreQueued ops after v (waits_as v.waits t) (waiting plans keys h (class_of_side t) k)) → (t : Side) → AreQueued ops after v (waits_as v.waits t) (waiting plans keys (come s x ∷ h) (class_of_side t) k)
+            other_list_after_wait after k v n before = both_sides (λ (t : Side). AreQueued ops after v (waits_as v.waits t) (waiting plans keys (come s x ∷ h) (class_of_side t) k)) s (queued_of_equal after v _ _ _ _ refl (side_waits_unchanged_in_other_list plans keys h (class_of_side s) (class_of_side (other_side s)) x (class_of_side_itself s) (class_of_side_of_other s) coming_makes_no_pair k (in_no_other_own_list k n)) (before s)) (queued_of_equal after v _ _ _ _ refl (other_side_waits_unchanged plans keys h (class_of_side s) (class_of_side (other_side s)) x (class_of_side_itself s) (class_of_side_of_other s) coming_makes_no_pair k) (before (other_side s)))
 
             -- as the only one
-            pub come_alone : (u : Queue) → waits_as queue.waits s ≡ false → u.waits ≡ Some s → u.first ≡ x → slice_get ops u.last ≡ Some x → AreQueues plans keys (slice_set queues l u) next (come s x ∷ h)
-            come_alone u empty waits same last = record {
+            pub comes_into_empty_queue : (u : Queue) → waits_as queue.waits s ≡ false → u.waits ≡ Some s → u.first ≡ x → slice_get ops u.last ≡ Some x → AreQueues plans keys (slice_set queues l u) next (come s x ∷ h)
+            comes_into_empty_queue u empty waits same last = record {
               one_each = length-set queues l u ∙ q.one_each;
               links = q.links;
-              each = each_after next (come s x) u (then_here next u waits (subst (λ (xs : List OpId). AreInLine ops next u (xs ++ x ∷ [])) (sym (of_side s false empty)) (line_alone ops next u x same last))) (λ k v n e. then_elsewhere next k v n (q.each k v e));
+              each = queues_after_write next (come s x) u (its_list_after_wait next u waits (subst (λ (xs : List OpId). AreInLine ops next u (xs ++ x ∷ [])) (sym (queued_of_side s false empty)) (line_of_one ops next u x same last))) (λ k v n e. other_list_after_wait next k v n (q.each k v e));
             }
 
             -- or behind those that wait
-            pub come_behind : (u : Queue) → waits_as queue.waits s ≡ true → u.waits ≡ Some s → u.first ≡ queue.first → slice_get ops u.last ≡ Some x → AreQueues plans keys (slice_set queues l u) (slice_set next queue.last u.last) (come s x ∷ h)
-            come_behind u some waits same last =
-                let line = of_side s true some in
-                let end = last_of ops next queue (waiting plans keys h (class_of_side s) l) line in
-                let its = All-contains (λ (z : OpId). same_number (own_list plans keys z) (Some l) ≡ true) (waiting plans keys h (class_of_side s) l) end.0 (own_of (class_of_side s) l) end.2 in
+            pub comes_last_in_queue : (u : Queue) → waits_as queue.waits s ≡ true → u.waits ≡ Some s → u.first ≡ queue.first → slice_get ops u.last ≡ Some x → AreQueues plans keys (slice_set queues l u) (slice_set next queue.last u.last) (come s x ∷ h)
+            comes_last_in_queue u some waits same last =
+                let line = queued_of_side s true some in
+                let end = last_of_line ops next queue (waiting plans keys h (class_of_side s) l) line in
+                let its = All-contains (λ (z : OpId). same_number (own_list plans keys z) (Some l) ≡ true) (waiting plans keys h (class_of_side s) l) end.0 (waiting_own_list (class_of_side s) l) end.2 in
                 record {
                   one_each = length-set queues l u ∙ q.one_each;
-                  links = λ some. let long = length-set next queue.last u.last in omega (arith, long, linked);
-                  each = each_after (slice_set next queue.last u.last) (come s x) u (then_here (slice_set next queue.last u.last) u waits (line_more ops next queue u (waiting plans keys h (class_of_side s) l) x line same last (not_among (class_of_side s) l x new.fresh) linked)) (λ k v n e. then_elsewhere (slice_set next queue.last u.last) k v n (λ t. queued_still v (waits_as v.waits t) (waiting plans keys h (class_of_side t) k) end.0 queue.last u.last end.1 (other_list (class_of_side t) k l end.0 n its) (q.each k v e t)));
+                  links = λ some. let long = length-set next queue.last u.last in omega (arith, long, ops_within_links);
+                  each = queues_after_write (slice_set next queue.last u.last) (come s x) u (its_list_after_wait (slice_set next queue.last u.last) u waits (line_with_new_last ops next queue u (waiting plans keys h (class_of_side s) l) x line same last (not_happened_not_waiting (class_of_side s) l x new.fresh) ops_within_links)) (λ k v n e. other_list_after_wait (slice_set next queue.last u.last) k v n (λ t. queued_after_outside_write v (waits_as v.waits t) (waiting plans keys h (class_of_side t) k) end.0 queue.last u.last end.1 (other_list_waits_differ (class_of_side t) k l end.0 n its) (q.each k v e t)));
                 }
 
           -- one of the other side waits there, so x takes it
           module _ (waits : queue.waits ≡ Some (other_side s)) where
-            line_there : AreInLine ops next queue (waiting plans keys h (class_of_side (other_side s)) l)
-            line_there = of_side (other_side s) true (ap (λ (o : Option Side). waits_as o (other_side s)) waits ∙ other_waits s)
+            other_side_in_line : AreInLine ops next queue (waiting plans keys h (class_of_side (other_side s)) l)
+            other_side_in_line = queued_of_side (other_side s) true (ap (λ (o : Option Side). waits_as o (other_side s)) waits ∙ other_waits_as_itself s)
 
             pub in_line : (xs : List OpId) × AreInLine ops next queue xs
-            in_line = (waiting plans keys h (class_of_side (other_side s)) l, line_there)
+            in_line = (waiting plans keys h (class_of_side (other_side s)) l, other_side_in_line)
 
-            mine_none : waiting plans keys h (class_of_side s) l ≡ []
-            mine_none = of_side s false (ap (λ (o : Option Side). waits_as o s) waits ∙ other_waits_not s)
+            own_side_waits_none : waiting plans keys h (class_of_side s) l ≡ []
+            own_side_waits_none = queued_of_side s false (ap (λ (o : Option Side). waits_as o s) waits ∙ other_waits_not_as_side s)
 
             module _ (y : OpId) (rest : List OpId) (is : waiting plans keys h (class_of_side (other_side s)) l ≡ y ∷ rest) where
-              made : new_pair plans (pairs plans h) h (class_of_side s) x ≡ Some (pair_with s x y)
-              made =
-                  makes s x l new.suited own ∙ ap (λ (xs : List OpId). option_map (pair_with s x) (first xs)) is
+              pair_made_with_first : new_pair plans (pairs plans h) h (class_of_side s) x ≡ Some (pair_with s x y)
+              pair_made_with_first =
+                  pair_made_with_first_waiting s x l new.suited own ∙ ap (λ (xs : List OpId). option_map (pair_with s x) (head_of xs)) is
 
-              y_of : same_number (own_list plans keys y) (Some l) ≡ true
-              y_of = All-head (λ (z : OpId). same_number (own_list plans keys z) (Some l) ≡ true) y rest (subst (All (λ (z : OpId). same_number (own_list plans keys z) (Some l) ≡ true)) is (own_of (class_of_side (other_side s)) l))
+              first_is_of_list : same_number (own_list plans keys y) (Some l) ≡ true
+              first_is_of_list = All-head (λ (z : OpId). same_number (own_list plans keys z) (Some l) ≡ true) y rest (subst (All (λ (z : OpId). same_number (own_list plans keys z) (Some l) ≡ true)) is (waiting_own_list (class_of_side (other_side s)) l))
 
-              y_suits : has_class (kind_at plans y) (class_of_side (other_side s)) ≡ true
-              y_suits = All-head (λ (z : OpId). has_class (kind_at plans z) (class_of_side (other_side s)) ≡ true) y rest (subst (All (λ (z : OpId). has_class (kind_at plans z) (class_of_side (other_side s)) ≡ true)) is (waiting_suits (class_of_side (other_side s)) l))
+              first_suits_other_side : has_class (kind_at plans y) (class_of_side (other_side s)) ≡ true
+              first_suits_other_side = All-head (λ (z : OpId). has_class (kind_at plans z) (class_of_side (other_side s)) ≡ true) y rest (subst (All (λ (z : OpId). has_class (kind_at plans z) (class_of_side (other_side s)) ≡ true)) is (waiting_suits (class_of_side (other_side s)) l))
 
-              y_apart : All (λ (z : OpId). same_op y z ≡ false) (ops_of (class_of_side s) h)
-              y_apart = All-weaker (λ (z : OpId). has_class (kind_at plans z) (class_of_side s) ≡ true) (λ (z : OpId). same_op y z ≡ false) (λ z suits. sides_apart plans s y z y_suits suits) (ops_of (class_of_side s) h) (ops_suit plans h are (class_of_side s))
+              first_not_of_own_side : All (λ (z : OpId). same_op y z ≡ false) (ops_of (class_of_side s) h)
+              first_not_of_own_side = All-weaker (λ (z : OpId). has_class (kind_at plans z) (class_of_side s) ≡ true) (λ (z : OpId). same_op y z ≡ false) (λ z suits. sides_apart plans s y z first_suits_other_side suits) (ops_of (class_of_side s) h) (ops_suit plans h are (class_of_side s))
 
-              x_apart : All (λ (z : OpId). same_op x z ≡ false) (ops_of (class_of_side (other_side s)) h)
-              x_apart = All-weaker (λ (z : OpId). has_class (kind_at plans z) (class_of_side (other_side s)) ≡ true) (λ (z : OpId). same_op x z ≡ false) (λ z suits. same_op_swapped z x (sides_apart plans s z x suits new.suited)) (ops_of (class_of_side (other_side s)) h) (ops_suit plans h are (class_of_side (other_side s)))
+              coming_not_of_other_side : All (λ (z : OpId). same_op x z ≡ false) (ops_of (class_of_side (other_side s)) h)
+              coming_not_of_other_side = All-weaker (λ (z : OpId). has_class (kind_at plans z) (class_of_side (other_side s)) ≡ true) (λ (z : OpId). same_op x z ≡ false) (λ z suits. same_op_swapped z x (sides_apart plans s z x suits new.suited)) (ops_of (class_of_side (other_side s)) h) (ops_suit plans h are (class_of_side (other_side s)))
 
-              y_elsewhere : (k : ℕ) → (k ≡ l → ⊥) → same_number (own_list plans keys y) (Some k) ≡ false
-              y_elsewhere k n =
-                  false_from_ne_true (same_number (own_list plans keys y) (Some k)) (λ t. n (one_number (own_list plans keys y) k l t y_of))
+              first_in_no_other_list : (k : ℕ) → (k ≡ l → ⊥) → same_number (own_list plans keys y) (Some k) ≡ false
+              first_in_no_other_list k n =
+                  false_from_ne_true (same_number (own_list plans keys y) (Some k)) (λ t. n (same_number_unique (own_list plans keys y) k l t first_is_of_list))
 
-              mine_still : (k : ℕ) → waiting plans keys (come s x ∷ h) (class_of_side s) k ≡ waiting plans keys h (class_of_side s) k
-              mine_still k =
-                  mine_stay plans keys h (class_of_side s) (class_of_side (other_side s)) x y (mine_is s) (other_is s) (pair_with s x y) made (in_pair_with s x y) k (ops_apart plans h are (class_of_side s) x new.fresh) y_apart
+              own_side_unchanged_by_meeting : (k : ℕ) → waiting plans keys (come s x ∷ h) (class_of_side s) k ≡ waiting plans keys h (class_of_side s) k
+              own_side_unchanged_by_meeting k =
+                  side_waits_unchanged_by_pair plans keys h (class_of_side s) (class_of_side (other_side s)) x y (class_of_side_itself s) (class_of_side_of_other s) (pair_with s x y) pair_made_with_first (in_pair_with s x y) k (ops_apart plans h are (class_of_side s) x new.fresh) first_not_of_own_side
 
-              rest_there : waiting plans keys (come s x ∷ h) (class_of_side (other_side s)) l ≡ rest
-              rest_there =
-                  others_left plans keys h (class_of_side s) (class_of_side (other_side s)) x y (mine_is s) (other_is s) (pair_with s x y) made (in_pair_with s x y) l rest are x_apart is
+              rest_waits_after_meeting : waiting plans keys (come s x ∷ h) (class_of_side (other_side s)) l ≡ rest
+              rest_waits_after_meeting =
+                  other_side_without_first plans keys h (class_of_side s) (class_of_side (other_side s)) x y (class_of_side_itself s) (class_of_side_of_other s) (pair_with s x y) pair_made_with_first (in_pair_with s x y) l rest are coming_not_of_other_side is
 
-              after_here : (u : Queue) → (rest_is : List OpId) → rest ≡ rest_is → AreLeft ops next queue u rest_is → (t : Side) → AreQueued ops next u (waits_as u.waits t) (waiting plans keys (come s x ∷ h) (class_of_side t) l)
-              after_here u [] e left = both_sides (λ (t : Side). AreQueued ops next u (waits_as u.waits t) (waiting plans keys (come s x ∷ h) (class_of_side t) l)) s (queued_as next u _ false _ _ (ap (λ (o : Option Side). waits_as o s) left) (mine_still l) mine_none) (queued_as next u _ false _ _ (ap (λ (o : Option Side). waits_as o (other_side s)) left) rest_there e)
-              after_here u (z ∷ zs) e left = both_sides (λ (t : Side). AreQueued ops next u (waits_as u.waits t) (waiting plans keys (come s x ∷ h) (class_of_side t) l)) s (queued_as next u _ false _ _ (ap (λ (o : Option Side). waits_as o s) (left.0 ∙ waits) ∙ other_waits_not s) (mine_still l) mine_none) (queued_as next u _ true _ _ (ap (λ (o : Option Side). waits_as o (other_side s)) (left.0 ∙ waits) ∙ other_waits s) (rest_there ∙ e) left.1)
+              its_queue_after_meeting : (u : Queue) → (rest_is : List OpId) → rest ≡ rest_is → AreLeft ops next queue u rest_is → (t : Side) → AreQueued ops next u (waits_as u.waits t) (waiting plans keys (come s x ∷ h) (class_of_side t) l)
+              its_queue_after_meeting u [] e left = both_sides (λ (t : Side). AreQueued ops next u (waits_as u.waits t) (waiting plans keys (come s x ∷ h) (class_of_side t) l)) s (queued_of_equal next u _ false _ _ (ap (λ (o : Option Side). waits_as o s) left) (own_side_unchanged_by_meeting l) own_side_waits_none) (queued_of_equal next u _ false _ _ (ap (λ (o : Option Side). waits_as o (other_side s)) left) rest_waits_after_meeting e)
+              its_queue_after_meeting u (z ∷ zs) e left = both_sides (λ (t : Side). AreQueued ops next u (waits_as u.waits t) (waiting plans keys (come s x ∷ h) (class_of_side t) l)) s (queued_of_equal next u _ false _ _ (ap (λ (o : Option Side). waits_as o s) (left.0 ∙ waits) ∙ other_waits_not_as_side s) (own_side_unchanged_by_meeting l) own_side_waits_none) (queued_of_equal next u _ true _ _ (ap (λ (o : Option Side). waits_as o (other_side s)) (left.0 ∙ waits) ∙ other_waits_as_itself s) (rest_waits_after_meeting ∙ e) left.1)
 
-              after_elsewhere : (k : ℕ) (v : Queue) → (k ≡ l → ⊥) → slice_get queues k ≡ Some v → (t : Side) → AreQueued ops next v (waits_as v.waits t) (waiting plans keys (come s x ∷ h) (class_of_side t) k)
-              after_elsewhere k v n e = both_sides (λ (t : Side). AreQueued ops next v (waits_as v.waits t) (waiting plans keys (come s x ∷ h) (class_of_side t) k)) s (queued_as next v _ _ _ _ refl (mine_still k) (q.each k v e s)) (queued_as next v _ _ _ _ refl (others_elsewhere plans keys h (class_of_side s) (class_of_side (other_side s)) x y (mine_is s) (other_is s) (pair_with s x y) made (in_pair_with s x y) k x_apart (y_elsewhere k n)) (q.each k v e (other_side s)))
+              other_queue_after_meeting : (k : ℕ) (v : Queue) → (k ≡ l → ⊥) → slice_get queues k ≡ Some v → (t : Side) → AreQueued ops next v (waits_as v.waits t) (waiting plans keys (come s x ∷ h) (class_of_side t) k)
+              other_queue_after_meeting k v n e = both_sides (λ (t : Side). AreQueued ops next v (waits_as v.waits t) (waiting plans keys (come s x ∷ h) (class_of_side t) k)) s (queued_of_equal next v _ _ _ _ refl (own_side_unchanged_by_meeting k) (q.each k v e s)) (queued_of_equal next v _ _ _ _ refl (other_list_waits_unchanged_by_pair plans keys h (class_of_side s) (class_of_side (other_side s)) x y (class_of_side_itself s) (class_of_side_of_other s) (pair_with s x y) pair_made_with_first (in_pair_with s x y) k coming_not_of_other_side (first_in_no_other_list k n)) (q.each k v e (other_side s)))
 
-            pub come_meets : (u : Queue) → ((y : OpId) (rest : List OpId) → AreInLine ops next queue (y ∷ rest) → AreLeft ops next queue u rest) → AreQueues plans keys (slice_set queues l u) next (come s x ∷ h) × (Some queue.first ≡ taken_by s plans h x)
-            come_meets u left = go (waiting plans keys h (class_of_side (other_side s)) l) refl line_there
+            pub comes_and_takes_first : (u : Queue) → ((y : OpId) (rest : List OpId) → AreInLine ops next queue (y ∷ rest) → AreLeft ops next queue u rest) → AreQueues plans keys (slice_set queues l u) next (come s x ∷ h) × (Some queue.first ≡ taken_by s plans h x)
+            comes_and_takes_first u left = go (waiting plans keys h (class_of_side (other_side s)) l) refl other_side_in_line
               where
                 go : (xs : List OpId) → waiting plans keys h (class_of_side (other_side s)) l ≡ xs → AreInLine ops next queue xs → AreQueues plans keys (slice_set queues l u) next (come s x ∷ h) × (Some queue.first ≡ taken_by s plans h x)
                 go [] is line = absurd line
@@ -499,9 +499,9 @@ module _ (plans : List Plan) (keys : List Pattern) (named : AreNamed keys) (list
                   record {
                     one_each = length-set queues l u ∙ q.one_each;
                     links = q.links;
-                    each = each_after next (come s x) u (after_here y rest is u rest refl (left y rest line)) (after_elsewhere y rest is);
+                    each = queues_after_write next (come s x) u (its_queue_after_meeting y rest is u rest refl (left y rest line)) (other_queue_after_meeting y rest is);
                   },
-                  ap (λ (z : OpId). Some z) line.0 ∙ takes s x (Some y) (made y rest is),
+                  ap (λ (z : OpId). Some z) line.0 ∙ made_pair_is_taken s x (Some y) (pair_made_with_first y rest is),
                 )
 
 -- what comes is the next action
@@ -518,8 +518,8 @@ unfolding ops_of
 ops_none c = refl
 
 -- before all posts and arrivals nobody waits
-pub queues_begin : (plans : List Plan) (keys : List Pattern) (none : Queue) (queues : List Queue) (next : List ℕ) → none.waits ≡ None → queues ≡ replicate (length keys) none → (0 < length keys → length (operations plans) ≤ length next) → AreQueues plans keys queues next []
-queues_begin plans keys none queues next empty are long = record {
+pub queues_before_all : (plans : List Plan) (keys : List Pattern) (none : Queue) (queues : List Queue) (next : List ℕ) → none.waits ≡ None → queues ≡ replicate (length keys) none → (0 < length keys → length (operations plans) ≤ length next) → AreQueues plans keys queues next []
+queues_before_all plans keys none queues next empty are long = record {
   one_each = ap length are ∙ length-replicate (length keys) none;
   links = long;
   each = λ l u e t.

@@ -9,10 +9,10 @@ sides_length [] ss many = refl
 sides_length (r ∷ rs) [] many = absurd (omega (arith, many))
 sides_length (r ∷ rs) (s ∷ ss) many = ap suc (sides_length rs ss (omega (arith, many)))
 
-pub there_is : {X : Type 0} (xs : List X) (l : ℕ) → l < length xs → (x : X) × (slice_get xs l ≡ Some x)
-there_is [] l b = absurd (omega arith)
-there_is (x ∷ xs) zero b = (x, refl)
-there_is (x ∷ xs) (suc l) b = there_is xs l (omega arith)
+pub element_within : {X : Type 0} (xs : List X) (l : ℕ) → l < length xs → (x : X) × (slice_get xs l ≡ Some x)
+element_within [] l b = absurd (omega arith)
+element_within (x ∷ xs) zero b = (x, refl)
+element_within (x ∷ xs) (suc l) b = element_within xs l (omega arith)
 
 sides_get : (rs ss : List MatchList) (l : ℕ) (r s : MatchList) → slice_get rs l ≡ Some r → slice_get ss l ≡ Some s → slice_get (side_by_side rs ss) l ≡ Some (record { receives = r; sends = s })
 sides_get [] ss l r s e f = absurd (none-some r e)

@@ -15,8 +15,8 @@ use Rattle.goal_graph.proofs.ForCallers.{paired_stays, find_agree, same_op_itsel
 use Rattle.sim_match.specs.declared.match_list.MatchEntry.{MatchEntry}
 use Rattle.sim_match.specs.MatchLists.{entries_of}
 use Rattle.sim_match.specs.Matcher.{unmet_of}
-use Rattle.sim_match.proofs.Entries.{entries_same, entries_other, entries_none}
-use Rattle.sim_match.proofs.Finding.{find_filter, filter_last}
+use Rattle.sim_match.proofs.Entries.{entries_after_its_class, entries_after_other_class, entries_none}
+use Rattle.sim_match.proofs.Finding.{find_filter, filter_last_fails}
 use Rattle.sim_match.proofs.Pairs.{paired_more, pairs_with}
 
 -- those that pass a test, from those that pass a weaker one
@@ -48,17 +48,17 @@ or_true true = refl
 or_true false = refl
 
 -- an arrival pairs its own send
-its_send : (plans : List Plan) (ps : List Pair) (h : List Act) (class : Class) (m : OpId) → (place class == place Arrive) ≡ true → (p : Pair) → new_pair plans ps h class m ≡ Some p → same_op p.send m ≡ true
-its_send plans ps h Arrive m arrives p e = go (oldest (is_open_receive plans ps m) h) e
+arrival_pairs_its_send : (plans : List Plan) (ps : List Pair) (h : List Act) (class : Class) (m : OpId) → (place class == place Arrive) ≡ true → (p : Pair) → new_pair plans ps h class m ≡ Some p → same_op p.send m ≡ true
+arrival_pairs_its_send plans ps h Arrive m arrives p e = go (oldest (is_open_receive plans ps m) h) e
   where
     go : (o : Option OpId) → option_map (λ (x : OpId). pair_of m x) o ≡ Some p → same_op p.send m ≡ true
     go None e = absurd (none-some p e)
     go (Some x) e =
         ap (λ (q : Pair). same_op q.send m) (sym (same_Some (pair_of m x) p e)) ∙ same_op_itself m
-its_send plans ps h Serve m arrives p e = absurd (none-some p e)
-its_send plans ps h Data m arrives p e = absurd (none-some p e)
-its_send plans ps h Begin m arrives p e = absurd (none-some p e)
-its_send plans ps h Post m arrives p e = absurd (both_ways (place Post == place Arrive) refl arrives)
+arrival_pairs_its_send plans ps h Serve m arrives p e = absurd (none-some p e)
+arrival_pairs_its_send plans ps h Data m arrives p e = absurd (none-some p e)
+arrival_pairs_its_send plans ps h Begin m arrives p e = absurd (none-some p e)
+arrival_pairs_its_send plans ps h Post m arrives p e = absurd (both_ways (place Post == place Arrive) refl arrives)
 
 module _ (plans : List Plan) where
   pub unmet_none : unmet_of plans [] ≡ []
@@ -89,7 +89,7 @@ module _ (plans : List Plan) where
         go : (o : Option Pair) → makes ≡ o → is_none o ≡ false → is_paired (pairs plans (a ∷ h)) a.op ≡ true
         go None e f = absurd (both_ways true f refl)
         go (Some p) e f =
-            ap (λ (ps : List Pair). is_paired ps a.op) (pairs_with plans a h p e) ∙ paired_more p (pairs plans h) a.op ∙ ap (λ (b : Bool). is_paired (pairs plans h) a.op || (b || same_op p.recv a.op)) (its_send plans (pairs plans h) h a.class a.op arrives p e) ∙ or_true (is_paired (pairs plans h) a.op)
+            ap (λ (ps : List Pair). is_paired ps a.op) (pairs_with plans a h p e) ∙ paired_more p (pairs plans h) a.op ∙ ap (λ (b : Bool). is_paired (pairs plans h) a.op || (b || same_op p.recv a.op)) (arrival_pairs_its_send plans (pairs plans h) h a.class a.op arrives p e) ∙ or_true (is_paired (pairs plans h) a.op)
 
   -- what is true of each arrival is true of each of these
   pub unmet_all : (P : MatchEntry → Type 0) (h : List Act) → All P (entries_of Arrive h) → All P (unmet_of plans h)
@@ -98,18 +98,18 @@ module _ (plans : List Plan) where
     where
       go : (s n : Bool) → is_of Arrive a ≡ s → is_none (makes a h) ≡ n → (All P (entries_of Arrive h) → All P (unmet_of plans h)) → All P (unmet_of plans (a ∷ h))
       go false n e f rest =
-          All-same P _ _ (unmet_other a h e) (rest (All-same P _ _ (sym (entries_other Arrive a h e)) all))
+          All-same P _ _ (unmet_other a h e) (rest (All-same P _ _ (sym (entries_after_other_class Arrive a h e)) all))
       go true true e f rest =
-          let each = All-same P _ _ (sym (entries_same Arrive a h e)) all in
+          let each = All-same P _ _ (sym (entries_after_its_class Arrive a h e)) all in
           All-same P _ _ (unmet_arrival a h e ∙ ap (λ (b : Bool). unmet_of plans h ++ (if b then last a h ∷ [] else [])) f) (All-push P (unmet_of plans h) (last a h) (rest (all_left P (entries_of Arrive h) (last a h ∷ []) each)) (all_last P (entries_of Arrive h) (last a h) each))
       go true false e f rest =
-          let each = All-same P _ _ (sym (entries_same Arrive a h e)) all in
+          let each = All-same P _ _ (sym (entries_after_its_class Arrive a h e)) all in
           All-same P _ _ (unmet_arrival a h e ∙ ap (λ (b : Bool). unmet_of plans h ++ (if b then last a h ∷ [] else [])) f ∙ append-nil (unmet_of plans h)) (rest (all_left P (entries_of Arrive h) (last a h ∷ []) each))
 
   -- they are no more than the actions
-  pub unmet_short : (h : List Act) → length (unmet_of plans h) ≤ length h
-  unmet_short [] = omega (arith, ap length unmet_none)
-  unmet_short (a ∷ h) = go (is_of Arrive a) (is_none (makes a h)) refl refl (unmet_short h)
+  pub unmet_within_actions : (h : List Act) → length (unmet_of plans h) ≤ length h
+  unmet_within_actions [] = omega (arith, ap length unmet_none)
+  unmet_within_actions (a ∷ h) = go (is_of Arrive a) (is_none (makes a h)) refl refl (unmet_within_actions h)
     where
       go : (s n : Bool) → is_of Arrive a ≡ s → is_none (makes a h) ≡ n → length (unmet_of plans h) ≤ length h → length (unmet_of plans (a ∷ h)) ≤ length (a ∷ h)
       go false n e f short = omega (arith, short, ap length (unmet_other a h e))
@@ -125,22 +125,22 @@ module _ (plans : List Plan) where
     where
       go : (s n : Bool) → is_of Arrive a ≡ s → is_none (makes a h) ≡ n → length (filter p (unmet_of plans h)) ≤ length (filter p (entries_of Arrive h)) → length (filter p (unmet_of plans (a ∷ h))) ≤ length (filter p (entries_of Arrive (a ∷ h)))
       go false n e f fewer =
-          omega (arith, fewer, ap (λ (es : List MatchEntry). length (filter p es)) (unmet_other a h e), ap (λ (es : List MatchEntry). length (filter p es)) (entries_other Arrive a h e))
+          omega (arith, fewer, ap (λ (es : List MatchEntry). length (filter p es)) (unmet_other a h e), ap (λ (es : List MatchEntry). length (filter p es)) (entries_after_other_class Arrive a h e))
       go true true e f fewer =
           let here = ap (λ (es : List MatchEntry). length (filter p es)) (unmet_arrival a h e ∙ ap (λ (b : Bool). unmet_of plans h ++ (if b then last a h ∷ [] else [])) f) ∙ ap length (filter-append p (unmet_of plans h) (last a h ∷ [])) ∙ length-append (filter p (unmet_of plans h)) (filter p (last a h ∷ [])) in
-          let there = ap (λ (es : List MatchEntry). length (filter p es)) (entries_same Arrive a h e) ∙ ap length (filter-append p (entries_of Arrive h) (last a h ∷ [])) ∙ length-append (filter p (entries_of Arrive h)) (filter p (last a h ∷ [])) in
+          let there = ap (λ (es : List MatchEntry). length (filter p es)) (entries_after_its_class Arrive a h e) ∙ ap length (filter-append p (entries_of Arrive h) (last a h ∷ [])) ∙ length-append (filter p (entries_of Arrive h)) (filter p (last a h ∷ [])) in
           omega (arith, fewer, here, there)
       go true false e f fewer =
           let here = ap (λ (es : List MatchEntry). length (filter p es)) (unmet_arrival a h e ∙ ap (λ (b : Bool). unmet_of plans h ++ (if b then last a h ∷ [] else [])) f ∙ append-nil (unmet_of plans h)) in
-          let there = ap (λ (es : List MatchEntry). length (filter p es)) (entries_same Arrive a h e) ∙ ap length (filter-append p (entries_of Arrive h) (last a h ∷ [])) ∙ length-append (filter p (entries_of Arrive h)) (filter p (last a h ∷ [])) in
+          let there = ap (λ (es : List MatchEntry). length (filter p es)) (entries_after_its_class Arrive a h e) ∙ ap length (filter-append p (entries_of Arrive h) (last a h ∷ [])) ∙ length-append (filter p (entries_of Arrive h)) (filter p (last a h ∷ [])) in
           omega (arith, fewer, here, there)
 
   abbrev waits : List Act → MatchEntry → Bool
   waits h e = not (is_paired (pairs plans h) e.op)
 
   -- what waits later has waited before
-  waited : (a : Act) (h : List Act) (e : MatchEntry) → waits (a ∷ h) e ≡ true → waits h e ≡ true
-  waited a h e now = go (is_paired (pairs plans h) e.op) refl
+  waited_before : (a : Act) (h : List Act) (e : MatchEntry) → waits (a ∷ h) e ≡ true → waits h e ≡ true
+  waited_before a h e now = go (is_paired (pairs plans h) e.op) refl
     where
       go : (b : Bool) → is_paired (pairs plans h) e.op ≡ b → not b ≡ true
       go false f = refl
@@ -152,15 +152,15 @@ module _ (plans : List Plan) where
     where
       before : filter (waits h) (unmet_of plans h) ≡ filter (waits h) (entries_of Arrive h) → filter (waits (a ∷ h)) (unmet_of plans h) ≡ filter (waits (a ∷ h)) (entries_of Arrive h)
       before rest =
-          sym (filter_narrow (waits (a ∷ h)) (waits h) (unmet_of plans h) (waited a h)) ∙ ap (filter (waits (a ∷ h))) rest ∙ filter_narrow (waits (a ∷ h)) (waits h) (entries_of Arrive h) (waited a h)
+          sym (filter_narrow (waits (a ∷ h)) (waits h) (unmet_of plans h) (waited_before a h)) ∙ ap (filter (waits (a ∷ h))) rest ∙ filter_narrow (waits (a ∷ h)) (waits h) (entries_of Arrive h) (waited_before a h)
 
       go : (s n : Bool) → is_of Arrive a ≡ s → is_none (makes a h) ≡ n → filter (waits (a ∷ h)) (unmet_of plans h) ≡ filter (waits (a ∷ h)) (entries_of Arrive h) → filter (waits (a ∷ h)) (unmet_of plans (a ∷ h)) ≡ filter (waits (a ∷ h)) (entries_of Arrive (a ∷ h))
       go false n e f same =
-          ap (filter (waits (a ∷ h))) (unmet_other a h e) ∙ same ∙ ap (filter (waits (a ∷ h))) (sym (entries_other Arrive a h e))
+          ap (filter (waits (a ∷ h))) (unmet_other a h e) ∙ same ∙ ap (filter (waits (a ∷ h))) (sym (entries_after_other_class Arrive a h e))
       go true true e f same =
-          ap (filter (waits (a ∷ h))) (unmet_arrival a h e ∙ ap (λ (b : Bool). unmet_of plans h ++ (if b then last a h ∷ [] else [])) f) ∙ filter-append (waits (a ∷ h)) (unmet_of plans h) (last a h ∷ []) ∙ ap (λ (es : List MatchEntry). es ++ filter (waits (a ∷ h)) (last a h ∷ [])) same ∙ sym (filter-append (waits (a ∷ h)) (entries_of Arrive h) (last a h ∷ [])) ∙ ap (filter (waits (a ∷ h))) (sym (entries_same Arrive a h e))
+          ap (filter (waits (a ∷ h))) (unmet_arrival a h e ∙ ap (λ (b : Bool). unmet_of plans h ++ (if b then last a h ∷ [] else [])) f) ∙ filter-append (waits (a ∷ h)) (unmet_of plans h) (last a h ∷ []) ∙ ap (λ (es : List MatchEntry). es ++ filter (waits (a ∷ h)) (last a h ∷ [])) same ∙ sym (filter-append (waits (a ∷ h)) (entries_of Arrive h) (last a h ∷ [])) ∙ ap (filter (waits (a ∷ h))) (sym (entries_after_its_class Arrive a h e))
       go true false e f same =
-          ap (filter (waits (a ∷ h))) (unmet_arrival a h e ∙ ap (λ (b : Bool). unmet_of plans h ++ (if b then last a h ∷ [] else [])) f ∙ append-nil (unmet_of plans h)) ∙ same ∙ sym (filter_last (waits (a ∷ h)) (entries_of Arrive h) (last a h) (ap not (arrival_paired a h e f))) ∙ ap (filter (waits (a ∷ h))) (sym (entries_same Arrive a h e))
+          ap (filter (waits (a ∷ h))) (unmet_arrival a h e ∙ ap (λ (b : Bool). unmet_of plans h ++ (if b then last a h ∷ [] else [])) f ∙ append-nil (unmet_of plans h)) ∙ same ∙ sym (filter_last_fails (waits (a ∷ h)) (entries_of Arrive h) (last a h) (ap not (arrival_paired a h e f))) ∙ ap (filter (waits (a ∷ h))) (sym (entries_after_its_class Arrive a h e))
 
   -- the first of them that waits and passes a test is the first such arrival
   pub unmet_found : (h : List Act) (q : MatchEntry → Bool) → find (λ (e : MatchEntry). waits h e && q e) (unmet_of plans h) ≡ find (λ (e : MatchEntry). waits h e && q e) (entries_of Arrive h)

@@ -8,10 +8,10 @@ slice_get_written [] i y z e = absurd (none-some z e)
 slice_get_written (x ∷ xs) zero y z e = same_Some y z e
 slice_get_written (x ∷ xs) (suc i) y z e = slice_get_written xs i y z e
 
-pub slice_get_there : {X : Type 0} (xs : List X) (i : ℕ) (y : X) → i < length xs → slice_get (slice_set xs i y) i ≡ Some y
-slice_get_there [] i y b = absurd (omega arith)
-slice_get_there (x ∷ xs) zero y b = refl
-slice_get_there (x ∷ xs) (suc i) y b = slice_get_there xs i y (omega arith)
+pub slice_get_written_place : {X : Type 0} (xs : List X) (i : ℕ) (y : X) → i < length xs → slice_get (slice_set xs i y) i ≡ Some y
+slice_get_written_place [] i y b = absurd (omega arith)
+slice_get_written_place (x ∷ xs) zero y b = refl
+slice_get_written_place (x ∷ xs) (suc i) y b = slice_get_written_place xs i y (omega arith)
 
 pub slice_get_elsewhere : {X : Type 0} (xs : List X) (i k : ℕ) (y : X) → (k ≡ i → ⊥) → slice_get (slice_set xs i y) k ≡ slice_get xs k
 slice_get_elsewhere [] i k y n = refl

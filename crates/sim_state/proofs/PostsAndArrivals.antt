@@ -9,7 +9,7 @@ use Rattle.goal_graph.proofs.ForCallers.{allowed_fresh}
 use Rattle.sim_params.specs.Costs.{CostModel, is_eager}
 use Rattle.sim_params.specs.Times.{Possible}
 use Rattle.sim_match.specs.PostsAndArrivals.{PostsAndArrivals, is_post_or_arrival_class, with_post, with_arrival}
-use Rattle.sim_match.proofs.ForCallers.{filtered_more, filtered_same, happened_filtered}
+use Rattle.sim_match.proofs.ForCallers.{filtered_with_newest, filtered_without_newest, happened_filtered}
 use Rattle.sim_state.specs.Represents.{KnowsPostsAndArrivals}
 
 module _ (plans : List Plan) (costs : CostModel) (h : List Timed) (a : Timed) (m : PostsAndArrivals) (before : KnowsPostsAndArrivals plans costs h m) where
@@ -18,14 +18,14 @@ module _ (plans : List Plan) (costs : CostModel) (h : List Timed) (a : Timed) (m
   unfolding plain
   other_action e = record {
     same_plans = before.same_plans;
-    events = before.events ∙ sym (filtered_same (plain_act a) (plain h) e);
+    events = before.events ∙ sym (filtered_without_newest (plain_act a) (plain h) e);
   }
 
   known_more : (n : PostsAndArrivals) → n.plans ≡ m.plans → n.actions ≡ plain_act a ∷ m.actions → is_post_or_arrival_class a.class ≡ true → KnowsPostsAndArrivals plans costs (a ∷ h) n
   unfolding plain
   known_more n e f t = record {
     same_plans = e ∙ before.same_plans;
-    events = f ∙ ap (λ (l : List Act). plain_act a ∷ l) before.events ∙ sym (filtered_more (plain_act a) (plain h) t);
+    events = f ∙ ap (λ (l : List Act). plain_act a ∷ l) before.events ∙ sym (filtered_with_newest (plain_act a) (plain h) t);
   }
 
   -- a post, and an arrival

@@ -16,7 +16,7 @@ use Rattle.sim_match.specs.declared.pattern.Pattern.{Pattern}
 use Rattle.sim_stuck.specs.declared.partner.Firsts.{Firsts}
 use Rattle.goal_graph.specs.Keys.{op_cmp}
 use Rattle.sim_match.specs.Patterns.{pattern_cmp}
-use Rattle.sim_match.proofs.ForCallers.{alike_patterns}
+use Rattle.sim_match.proofs.ForCallers.{pattern_cmp_is_eq}
 use Rattle.sim_stuck.specs.Patterns.{is_for, is_by, least, AreFirsts}
 use Rattle.sim_stuck.proofs.PatternFacts.{four, exact_of, any_tag_of, any_source_of, any_of}
 use Rattle.goal_graph.proofs.ForCallers.{find_all, find_agree}
@@ -114,7 +114,7 @@ module _ (plans : List Plan) (ids : List OpId) (firsts : Firsts) (are : AreFirst
       at y (Some (Calc nanos)) = refl
       at y (Some (Send other target with_tag)) = refl
       at y (Some (Recv room from wanted)) =
-          ap₂ (λ (b c : Bool). b || c) (ap₂ (λ (b c : Bool). b || c) (alike_patterns q e) (alike_patterns q t)) (ap₂ (λ (b c : Bool). b || c) (alike_patterns q s) (alike_patterns q a)) ∙ sym (four q x.rank to tag)
+          ap₂ (λ (b c : Bool). b || c) (ap₂ (λ (b c : Bool). b || c) (pattern_cmp_is_eq q e) (pattern_cmp_is_eq q t)) (ap₂ (λ (b c : Bool). b || c) (pattern_cmp_is_eq q s) (pattern_cmp_is_eq q a)) ∙ sym (four q x.rank to tag)
         where
           q : Pattern
           q = record { rank = y.rank; from = from; tag = wanted }

@@ -4,7 +4,7 @@ use Rattle.std.specs.Ordering.{is_eq}
 use Rattle.goal_graph.specs.Matching.{accepts}
 use Rattle.sim_match.specs.declared.pattern.Pattern.{Pattern}
 use Rattle.sim_match.specs.Patterns.{pattern_cmp, same_pattern}
-use Rattle.sim_match.proofs.ForCallers.{alike_patterns}
+use Rattle.sim_match.proofs.ForCallers.{pattern_cmp_is_eq}
 use Rattle.goal_graph.proofs.ForCallers.{eqb-swapped}
 use Rattle.goal_graph.specs.Choices.{same_choice}
 
@@ -59,7 +59,7 @@ choice_swapped (Some k) (Some n) = eqb-swapped k n
 
 alike_turned : (p q : Pattern) → is_eq (pattern_cmp p q) ≡ same_pattern q p
 alike_turned p q =
-    alike_patterns p q ∙ ap₂ (λ (s t : Bool). s && t) (eqb-swapped p.rank q.rank) (ap₂ (λ (s t : Bool). s && t) (choice_swapped p.from q.from) (choice_swapped p.tag q.tag))
+    pattern_cmp_is_eq p q ∙ ap₂ (λ (s t : Bool). s && t) (eqb-swapped p.rank q.rank) (ap₂ (λ (s t : Bool). s && t) (choice_swapped p.from q.from) (choice_swapped p.tag q.tag))
 
 put_once : {X : Type 0} (a b c d : Bool) (x y : X) → cond d x (cond c x (cond b x (cond a x y))) ≡ cond ((a || b) || (c || d)) x y
 put_once a b c true x y = ap (λ (t : Bool). cond t x y) (sym (last a b c))

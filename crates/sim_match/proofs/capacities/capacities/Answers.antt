@@ -5,7 +5,7 @@ use Rattle.goal_graph.specs.declared.plan.Kind.{Kind}
 use Rattle.goal_graph.specs.Schedule.{IsSend}
 use Rattle.sim_match.specs.Capacities.{AreCapacities}
 use Rattle.sim_match.proofs.PatternLemmas.{lists_once, lists_within}
-use Rattle.sim_match.proofs.CapacityLemmas.{receives_fit, receive_more, its_lists, sends_fit, send_more, calc_more}
+use Rattle.sim_match.proofs.CapacityLemmas.{receives_fit, capacities_after_receive, its_lists, sends_fit, capacities_after_send, capacities_after_calc}
 use Rattle.sim_match.proofs.capacities.capacities.Goals as goal
 use Rattle.sim_match.proofs.capacities.capacities.Goals.{in-Recv, in-Send, in-Calc}
 use Rattle.goal_graph.proofs.ForCallers.{borrowed_whole_restored, kind_of_found_op}
@@ -57,13 +57,13 @@ count_send-requires-clause-small c = λ l r e.
 
 pub loop-id-preserved : goal.loop-id-preserved
 loop-id-preserved c = λ n. elim c.match-op.branch [
-  | in-Recv w ↦ rw w.capacities-is (receive_more _ _ c.operations-id-items.result.now c.loop-id.id-index (record { rank = 0; op = 0 }) (omega arith) _ (c.loop-id.invariant n) _ c.op.ensures.op _ _ _ w.in-Recv.is _ (w.list_of_receive-list.ensures.list n) (omega (arith, w.list_of_receive-list.ensures.within, n.count)) _ w.index_mut-capacity.ensures.value)
+  | in-Recv w ↦ rw w.capacities-is (capacities_after_receive _ _ c.operations-id-items.result.now c.loop-id.id-index (record { rank = 0; op = 0 }) (omega arith) _ (c.loop-id.invariant n) _ c.op.ensures.op _ _ _ w.in-Recv.is _ (w.list_of_receive-list.ensures.list n) (omega (arith, w.list_of_receive-list.ensures.within, n.count)) _ w.index_mut-capacity.ensures.value)
   | in-Send w ↦
       let its = w.lists_of_send.ensures n ∙ its_lists _ _ c.operations-id-items.result.now c.loop-id.id-index (record { rank = 0; op = 0 }) (omega arith) _ (c.loop-id.invariant n) _ c.op.ensures.op _ _ _ w.in-Send.is in
       let counted = rw (its, w.deref_mut.ensures.value) at w.count_send.ensures in
       let back = borrowed_whole_restored c.loop-id.capacities.len w.count_send.new.capacities c.loop-id.capacities.items counted.one_each (omega (arith, c.loop-id.capacities.ok.0)) in
-      rw (w.capacities-is, back) (send_more _ _ c.operations-id-items.result.now c.loop-id.id-index (record { rank = 0; op = 0 }) (omega arith) _ (c.loop-id.invariant n) _ c.op.ensures.op _ _ _ w.in-Send.is w.count_send.new.capacities counted)
-  | in-Calc w ↦ rw w.capacities-is (calc_more _ _ c.operations-id-items.result.now c.loop-id.id-index (record { rank = 0; op = 0 }) (omega arith) _ (c.loop-id.invariant n) _ c.op.ensures.op _ w.in-Calc.is)
+      rw (w.capacities-is, back) (capacities_after_send _ _ c.operations-id-items.result.now c.loop-id.id-index (record { rank = 0; op = 0 }) (omega arith) _ (c.loop-id.invariant n) _ c.op.ensures.op _ _ _ w.in-Send.is w.count_send.new.capacities counted)
+  | in-Calc w ↦ rw w.capacities-is (capacities_after_calc _ _ c.operations-id-items.result.now c.loop-id.id-index (record { rank = 0; op = 0 }) (omega arith) _ (c.loop-id.invariant n) _ c.op.ensures.op _ w.in-Calc.is)
 ]
 
 pub op-requires : goal.op-requires

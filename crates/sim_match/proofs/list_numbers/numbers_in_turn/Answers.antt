@@ -6,7 +6,7 @@ use Rattle.goal_graph.specs.Schedule.{kind_at}
 use Rattle.sim_match.specs.Patterns.{own_pattern, own_list}
 use Rattle.sim_match.specs.ListNumbers.{coded}
 use Rattle.sim_match.specs.ListOrder.{HaveNumbers}
-use Rattle.sim_match.proofs.InTurn.{each_again, coded_again, own_place}
+use Rattle.sim_match.proofs.InTurn.{have_numbers_after_growth, coded_lists_unchanged_by_growth, own_place}
 use Rattle.sim_match.proofs.list_numbers.numbers_in_turn.Goals as goal
 
 pub loop-id-init : goal.loop-id-init
@@ -32,8 +32,8 @@ loop-id-preserved c =
     let keys = c.give.new.self.keys.items in
     let place = sym c.own_list-place.ensures in
     let more = take_more ops c.loop-id.id-index (record { rank = 0; op = 0 }) (omega arith) in
-    let each = each_again c.args.patterns.now c.loop-id.order c.give.new.self before.given c.give.ensures.given c.give.ensures.grows c.args.sched.now _ before.each in
-    let coded = coded_again c.args.patterns.now c.loop-id.order c.give.new.self before.given c.give.ensures.given c.give.ensures.grows c.args.sched.now _ before.each in
+    let each = have_numbers_after_growth c.args.patterns.now c.loop-id.order c.give.new.self before.given c.give.ensures.given c.give.ensures.grows c.args.sched.now _ before.each in
+    let coded = coded_lists_unchanged_by_growth c.args.patterns.now c.loop-id.order c.give.new.self before.given c.give.ensures.given c.give.ensures.grows c.args.sched.now _ before.each in
     let has = c.give.ensures.has p place ∙ ap is_some c.own_list-place.ensures in
     let number = c.give.ensures.number p place in
     record {

@@ -3,12 +3,12 @@ use Rattle.std.proofs.lemmas.List.{map_push, take_all, take_more}
 use Rattle.goal_graph.specs.declared.action.OpId.{OpId}
 use Rattle.sim_match.specs.Patterns.{is_wild, wild_list}
 use Rattle.sim_match.specs.ListNumbers.{coded}
-use Rattle.sim_match.proofs.InTurn.{wild_place, wild_kept, none_in_turn}
+use Rattle.sim_match.proofs.InTurn.{wild_place, wild_kept, none_given_passes}
 use Rattle.sim_match.proofs.list_numbers.wild_numbers.Goals as goal
 
 pub returns-then-not-have : goal.returns-then-not-have
 returns-then-not-have c =
-    none_in_turn c.args.patterns.now c.args.order.now c.requires (is_wild c.args.wild) (sym c.have.ensures ∙ c.if-not-have.true)
+    none_given_passes c.args.patterns.now c.args.order.now c.requires (is_wild c.args.wild) (sym c.have.ensures ∙ c.if-not-have.true)
 
 pub number-requires : goal.number-requires
 number-requires c =

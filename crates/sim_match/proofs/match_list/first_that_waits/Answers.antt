@@ -3,7 +3,7 @@ use Rattle.std.proofs.lemmas.List.Elements.{All-more}
 use Rattle.goal_graph.specs.Schedule.{operations}
 use Rattle.sim_match.specs.declared.match_list.MatchEntry.{MatchEntry}
 use Rattle.sim_match.specs.MatchLists.{is_marked, IsFirst}
-use Rattle.sim_match.proofs.MatchListLemmas.{first_there, first_none, read_any}
+use Rattle.sim_match.proofs.MatchListLemmas.{first_unmarked_found, no_unmarked_left, get_or_default_irrelevant}
 use Rattle.sim_match.proofs.match_list.first_that_waits.Goals as goal
 
 pub loop-at-init : goal.loop-at-init
@@ -34,7 +34,7 @@ returns-then-not-is_marked-clause-less c = omega (arith, c.is_marked.ensures.loo
 pub returns-then-not-is_marked-clause-first : goal.returns-then-not-is_marked-clause-first
 returns-then-not-is_marked-clause-first c = λ room.
     let inside : c.loop-at.at < length c.args.entries.now = omega arith in
-    first_there (is_marked (operations c.args.sched.now) c.args.marks.now) c.args.entries.now c.loop-at.at c.args.head room c.loop-at.invariant.skipped _ inside (read_any c.args.entries.now c.loop-at.at _ inside) (sym c.is_marked.ensures.tells ∙ c.if-not-is_marked.true)
+    first_unmarked_found (is_marked (operations c.args.sched.now) c.args.marks.now) c.args.entries.now c.loop-at.at c.args.head room c.loop-at.invariant.skipped _ inside (get_or_default_irrelevant c.args.entries.now c.loop-at.at _ inside) (sym c.is_marked.ensures.tells ∙ c.if-not-is_marked.true)
 
 pub loop-at-preserved : goal.loop-at-preserved
 loop-at-preserved c =
@@ -50,7 +50,7 @@ pub returns-clause-first : goal.returns-clause-first
 returns-clause-first c = λ room.
     let low = c.loop-at.auto.at-end (omega (arith, (c.requires.ready 0).within)) in
     let at_end : c.loop-at.at ≡ length c.args.entries.now = omega (arith, c.loop-at-test.false, low) in
-    subst (λ (n : ℕ). IsFirst (is_marked (operations c.args.sched.now) c.args.marks.now) (record { entries = c.args.entries.now; head = c.args.head; room = room }) (record { entries = c.args.entries.now; head = n; room = room }) None) at_end (first_none (is_marked (operations c.args.sched.now) c.args.marks.now) c.args.entries.now c.loop-at.at c.args.head room c.loop-at.invariant.skipped at_end)
+    subst (λ (n : ℕ). IsFirst (is_marked (operations c.args.sched.now) c.args.marks.now) (record { entries = c.args.entries.now; head = c.args.head; room = room }) (record { entries = c.args.entries.now; head = n; room = room }) None) at_end (no_unmarked_left (is_marked (operations c.args.sched.now) c.args.marks.now) c.args.entries.now c.loop-at.at c.args.head room c.loop-at.invariant.skipped at_end)
 
 pub returns-clause-looks : goal.returns-clause-looks
 returns-clause-looks c =

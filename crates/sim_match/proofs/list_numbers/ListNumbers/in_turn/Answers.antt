@@ -1,5 +1,5 @@
 use Rattle.std.proofs.Common.{arith}
-use Rattle.sim_match.proofs.InTurn.{listed_in_turn}
+use Rattle.sim_match.proofs.InTurn.{listed_by_given_numbers}
 use Rattle.sim_match.proofs.list_numbers.ListNumbers.in_turn.Goals as goal
 
 pub returns : goal.returns
@@ -8,7 +8,7 @@ returns c =
     let own = c.in_ok-own.ensures in
     record {
       keys = order.keys.items;
-      listed = listed_in_turn c.args.sched.now c.args.patterns.now order.keys.items own.each c.requires;
+      listed = listed_by_given_numbers c.args.sched.now c.args.patterns.now order.keys.items own.each c.requires;
       few = omega (arith, own.few, own.given.count);
       own = λ some. own.numbers;
       count = own.given.count;

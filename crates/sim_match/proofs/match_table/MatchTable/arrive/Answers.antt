@@ -1,7 +1,7 @@
 use Rattle.std.proofs.Common.{ℕ, ◌+◌, [], ◌∷◌, arith, sym, ap, ◌∙◌}
 use Rattle.sim_match.specs.Matcher.{stood}
 use Rattle.std.proofs.lemmas.List.{length-append}
-use Rattle.sim_match.proofs.Kept.{length-actions_of, actions_of-arrival, arrival_counted, arrival_exists, arrival_met_exists, arrival_answers, arrival_stands, arrival_keeps}
+use Rattle.sim_match.proofs.Kept.{length-actions_of, actions_of-arrival, arrival_counted, arrival_exists, arrival_met_exists, arrival_answers, unmet_after_arrival, arrival_keeps}
 use Rattle.sim_match.proofs.Numbering.{same_numbers}
 use Rattle.sim_match.proofs.match_table.MatchTable.arrive.Goals as goal
 use Rattle.goal_graph.proofs.ForCallers.{borrowed_whole_restored}
@@ -31,7 +31,7 @@ returns-clause-kept g c =
       covered = c.join-met.ensures.covered;
       bounded = rw (c.push.ensures, c.join-met.ensures.events) (omega (arith, length-append c.args.self.now.events.items (c.args.send ∷ []), c.requires.kept.bounded, c.join-met.ensures.bounded));
       count = rw (c.push.ensures, c.join-met.ensures.events) (omega (arith, length-append c.args.self.now.events.items (c.args.send ∷ []), c.requires.kept.count, c.join-met.ensures.count));
-      standing = rw (c.push.ensures, c.join-met.ensures.events, actions_of-arrival _ _ c.args.send c.requires.send) (c.join-met.ensures.standing ∙ ap (λ (n : ℕ). n + stood c.join-met.result) c.requires.kept.standing ∙ sym (arrival_stands _ _ _ _ _ c.requires.kept.mirrors c.args.send c.requires.send c.requires.fresh _ _ (c.join-met.ensures.joined c.requires.kept)));
+      standing = rw (c.push.ensures, c.join-met.ensures.events, actions_of-arrival _ _ c.args.send c.requires.send) (c.join-met.ensures.standing ∙ ap (λ (n : ℕ). n + stood c.join-met.result) c.requires.kept.standing ∙ sym (unmet_after_arrival _ _ _ _ _ c.requires.kept.mirrors c.args.send c.requires.send c.requires.fresh _ _ (c.join-met.ensures.joined c.requires.kept)));
       as_many = c.join-met.ensures.as_many;
       numbered = same_numbers _ _ _ c.join-met.ensures.numbers c.requires.kept.numbered;
       mirrors = rw (back, c.push.ensures, c.join-met.ensures.events, actions_of-arrival _ _ c.args.send c.requires.send) kept;

@@ -3,7 +3,7 @@ use Rattle.std.proofs.lemmas.List.{length-map}
 use Rattle.sim_match.specs.declared.capacities.Side.TheVariants.{Receives, Sends}
 use Rattle.sim_match.specs.Capacities.{empty_list}
 use Rattle.goal_graph.specs.Schedule.{operations}
-use Rattle.sim_match.proofs.Begun.{begins}
+use Rattle.sim_match.proofs.Begun.{new_table_mirrors}
 use Rattle.sim_match.proofs.Unseen.{unseen_empty}
 use Rattle.sim_match.proofs.Unmet.{unmet_none}
 use Rattle.sim_match.proofs.match_table.MatchTable.new.Goals as goal
@@ -11,7 +11,7 @@ use Rattle.sim_match.proofs.match_table.MatchTable.new.Goals as goal
 pub returns-clause-kept : goal.returns-clause-kept
 returns-clause-kept c =
     let unmarked : c.in_ok-marks.marks.items ≡ replicate (length (operations c.args.sched.now)) false = rw c.count-count.ensures.count at (c.in_ok-marks.ensures.items_if_clones_equal (search rules)) in
-    let kept = begins _ _ _ _ c.known.ensures.accepted c.requires.listed (c.in_ok-capacities.ensures c.requires) unmarked in
+    let kept = new_table_mirrors _ _ _ _ c.known.ensures.accepted c.requires.listed (c.in_ok-capacities.ensures c.requires) unmarked in
     let receives = ap length (rw c.deref.ensures.value at c.in_ok-receives.ensures) ∙ length-map c.in_ok-capacities.capacities.items (empty_list Receives) in
     let sends = ap length (rw c.deref-2.ensures.value at c.in_ok-sends.ensures) ∙ length-map c.in_ok-capacities.capacities.items (empty_list Sends) in
     record {

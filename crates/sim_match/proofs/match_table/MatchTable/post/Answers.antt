@@ -2,9 +2,9 @@ use Rattle.std.proofs.Common.{ℕ, ◌≡◌, [], ◌∷◌, length, arith, sym,
 use Rattle.std.proofs.lemmas.List.{length-set, length-append}
 use Rattle.sim_match.specs.MatchLists.{pushed}
 use Rattle.sim_match.specs.Matcher.{actions_of, side_by_side}
-use Rattle.sim_match.proofs.Kept.{length-actions_of, actions_of-post, standing_post, post_none, post_counted, post_exists, post_within, post_ready, post_room, post_met_exists, post_answers, post_keeps}
-use Rattle.sim_match.proofs.Unseen.{unseen_read, still_covered}
-use Rattle.sim_match.proofs.Sides.{sides_length, sides_read, sides_set, there_is}
+use Rattle.sim_match.proofs.Kept.{length-actions_of, actions_of-post, unmet_after_post, no_unmet_no_waiting_sends, post_counted, post_exists, post_within, post_ready, post_room, post_met_exists, post_answers, post_keeps}
+use Rattle.sim_match.proofs.Unseen.{unseen_read, join_and_search_covered}
+use Rattle.sim_match.proofs.Sides.{sides_length, sides_read, sides_set, element_within}
 use Rattle.sim_match.proofs.match_table.MatchTable.post.Goals as goal
 use Rattle.goal_graph.proofs.ForCallers.{borrowed_whole_restored}
 
@@ -38,8 +38,8 @@ pub push-requires-clause-room : goal.push-requires-clause-room
 push-requires-clause-room g c = λ w e.
     let within = post_within _ _ _ _ _ c.requires.kept.mirrors c.args.recv c.requires.receive c.requires.fresh c.list_of_receive-list.result (c.list_of_receive-list.ensures.list c.requires.kept.numbered) in
     let long = sides_length c.args.self.now.receives c.args.self.now.sends c.requires.kept.as_many in
-    let r = there_is c.args.self.now.receives c.list_of_receive-list.result (omega (arith, within, long)) in
-    let s = there_is c.args.self.now.sends c.list_of_receive-list.result (omega (arith, within, long, c.requires.kept.as_many)) in
+    let r = element_within c.args.self.now.receives c.list_of_receive-list.result (omega (arith, within, long)) in
+    let s = element_within c.args.self.now.sends c.list_of_receive-list.result (omega (arith, within, long, c.requires.kept.as_many)) in
     post_room _ _ _ _ _ c.requires.kept.mirrors c.args.recv c.requires.receive c.requires.fresh c.list_of_receive-list.result (c.list_of_receive-list.ensures.list c.requires.kept.numbered) (record { receives = w; sends = s.0 }) (sides_read c.args.self.now.receives c.args.self.now.sends c.list_of_receive-list.result w s.0 e s.1)
 
 pub first_standing-met-requires-clause-within : goal.first_standing-met-requires-clause-within
@@ -52,16 +52,16 @@ pub first_standing-met-requires-clause-ready : goal.first_standing-met-requires-
 first_standing-met-requires-clause-ready g c = λ w e.
     let within = post_within _ _ _ _ _ c.requires.kept.mirrors c.args.recv c.requires.receive c.requires.fresh c.list_of_receive-list.result (c.list_of_receive-list.ensures.list c.requires.kept.numbered) in
     let long = sides_length c.args.self.now.receives c.args.self.now.sends c.requires.kept.as_many in
-    let r = there_is c.args.self.now.receives c.list_of_receive-list.result (omega (arith, within, long)) in
-    let s = there_is c.args.self.now.sends c.list_of_receive-list.result (omega (arith, within, long, c.requires.kept.as_many)) in
+    let r = element_within c.args.self.now.receives c.list_of_receive-list.result (omega (arith, within, long)) in
+    let s = element_within c.args.self.now.sends c.list_of_receive-list.result (omega (arith, within, long, c.requires.kept.as_many)) in
     rw c.deref.ensures.value (post_ready _ _ _ _ _ c.requires.kept.mirrors c.args.recv c.requires.receive c.requires.fresh c.list_of_receive-list.result (c.list_of_receive-list.ensures.list c.requires.kept.numbered) (record { receives = r.0; sends = w }) (sides_read c.args.self.now.receives c.args.self.now.sends c.list_of_receive-list.result r.0 w r.1 e))
 
 pub first_standing-met-requires-clause-none : goal.first_standing-met-requires-clause-none
 first_standing-met-requires-clause-none g c = λ w e none.
     let within = post_within _ _ _ _ _ c.requires.kept.mirrors c.args.recv c.requires.receive c.requires.fresh c.list_of_receive-list.result (c.list_of_receive-list.ensures.list c.requires.kept.numbered) in
     let long = sides_length c.args.self.now.receives c.args.self.now.sends c.requires.kept.as_many in
-    let r = there_is c.args.self.now.receives c.list_of_receive-list.result (omega (arith, within, long)) in
-    post_none _ _ _ _ _ c.requires.kept.mirrors c.args.recv c.requires.receive c.requires.fresh c.list_of_receive-list.result (c.list_of_receive-list.ensures.list c.requires.kept.numbered) (record { receives = r.0; sends = w }) (sides_read c.args.self.now.receives c.args.self.now.sends c.list_of_receive-list.result r.0 w r.1 e) (sym c.requires.kept.standing ∙ none)
+    let r = element_within c.args.self.now.receives c.list_of_receive-list.result (omega (arith, within, long)) in
+    no_unmet_no_waiting_sends _ _ _ _ _ c.requires.kept.mirrors c.args.recv c.requires.receive c.requires.fresh c.list_of_receive-list.result (c.list_of_receive-list.ensures.list c.requires.kept.numbered) (record { receives = r.0; sends = w }) (sides_read c.args.self.now.receives c.args.self.now.sends c.list_of_receive-list.result r.0 w r.1 e) (sym c.requires.kept.standing ∙ none)
 
 pub pair-requires-clause-op : goal.pair-requires-clause-op
 pair-requires-clause-op g c =
@@ -71,8 +71,8 @@ pub pair-requires-clause-other : goal.pair-requires-clause-other
 pair-requires-clause-other g c =
     let within = post_within _ _ _ _ _ c.requires.kept.mirrors c.args.recv c.requires.receive c.requires.fresh c.list_of_receive-list.result (c.list_of_receive-list.ensures.list c.requires.kept.numbered) in
     let long = sides_length c.args.self.now.receives c.args.self.now.sends c.requires.kept.as_many in
-    let r = there_is c.args.self.now.receives c.list_of_receive-list.result (omega (arith, within, long)) in
-    let s = there_is c.args.self.now.sends c.list_of_receive-list.result (omega (arith, within, long, c.requires.kept.as_many)) in
+    let r = element_within c.args.self.now.receives c.list_of_receive-list.result (omega (arith, within, long)) in
+    let s = element_within c.args.self.now.sends c.list_of_receive-list.result (omega (arith, within, long, c.requires.kept.as_many)) in
     let at : c.args.self.now.count ≡ length (actions_of c.args.sched.now c.args.self.now.events.items) = omega (arith, c.requires.kept.count, length-actions_of c.args.sched.now c.args.self.now.events.items) in
     let first = c.first_standing-met.ensures.first s.0 s.1 in
     let grown = ap (λ (n : ℕ). pushed r.0 (record { op = c.args.recv; at = n })) at in
@@ -82,8 +82,8 @@ pub returns-clause-kept : goal.returns-clause-kept
 returns-clause-kept g c =
     let within = post_within _ _ _ _ _ c.requires.kept.mirrors c.args.recv c.requires.receive c.requires.fresh c.list_of_receive-list.result (c.list_of_receive-list.ensures.list c.requires.kept.numbered) in
     let long = sides_length c.args.self.now.receives c.args.self.now.sends c.requires.kept.as_many in
-    let r = there_is c.args.self.now.receives c.list_of_receive-list.result (omega (arith, within, long)) in
-    let s = there_is c.args.self.now.sends c.list_of_receive-list.result (omega (arith, within, long, c.requires.kept.as_many)) in
+    let r = element_within c.args.self.now.receives c.list_of_receive-list.result (omega (arith, within, long)) in
+    let s = element_within c.args.self.now.sends c.list_of_receive-list.result (omega (arith, within, long, c.requires.kept.as_many)) in
     let at : c.args.self.now.count ≡ length (actions_of c.args.sched.now c.args.self.now.events.items) = omega (arith, c.requires.kept.count, length-actions_of c.args.sched.now c.args.self.now.events.items) in
     let first = c.first_standing-met.ensures.first s.0 s.1 in
     let grown = ap (λ (n : ℕ). pushed r.0 (record { op = c.args.recv; at = n })) at in
@@ -95,14 +95,14 @@ returns-clause-kept g c =
     let more = ap length (c.push.ensures r.0 r.1) ∙ length-set c.args.self.now.receives c.list_of_receive-list.result _ in
     let less = ap length first.1 ∙ length-set c.args.self.now.sends c.list_of_receive-list.result _ in
     let ready = post_ready _ _ _ _ _ c.requires.kept.mirrors c.args.recv c.requires.receive c.requires.fresh c.list_of_receive-list.result (c.list_of_receive-list.ensures.list c.requires.kept.numbered) (record { receives = r.0; sends = s.0 }) (sides_read c.args.self.now.receives c.args.self.now.sends c.list_of_receive-list.result r.0 s.0 r.1 s.1) in
-    let covered = still_covered c.args.self.now.receives c.args.self.now.sends c.list_of_receive-list.result r.0 s.0 (record { op = c.args.recv; at = c.args.self.now.count }) first.0 c.args.self.now.credit c.count-2.new.self c.first_standing-met.new.credit r.1 s.1 ready.within first.2.within c.requires.kept.covered (omega (arith, c.count.ensures.more, c.count-2.ensures.more)) first.3 in
+    let covered = join_and_search_covered c.args.self.now.receives c.args.self.now.sends c.list_of_receive-list.result r.0 s.0 (record { op = c.args.recv; at = c.args.self.now.count }) first.0 c.args.self.now.credit c.count-2.new.self c.first_standing-met.new.credit r.1 s.1 ready.within first.2.within c.requires.kept.covered (omega (arith, c.count.ensures.more, c.count-2.ensures.more)) first.3 in
     let longer = length-append c.args.self.now.events.items (c.args.recv ∷ []) in
     record {
       few = c.requires.kept.few;
       covered = rw (c.push.ensures r.0 r.1, first.1) covered;
       bounded = rw c.push-2.ensures (omega (arith, longer, c.requires.kept.bounded, c.count.ensures.more, c.count-2.ensures.more, c.first_standing-met.ensures.less));
       count = rw c.push-2.ensures (omega (arith, longer, c.requires.kept.count));
-      standing = rw (c.push-2.ensures, actions_of-post _ _ c.args.recv c.requires.receive) (c.requires.kept.standing ∙ sym (standing_post _ _ c.args.recv));
+      standing = rw (c.push-2.ensures, actions_of-post _ _ c.args.recv c.requires.receive) (c.requires.kept.standing ∙ sym (unmet_after_post _ _ c.args.recv));
       numbered = c.requires.kept.numbered;
       as_many = omega (arith, more, less, c.requires.kept.as_many);
       mirrors = rw (sides, back, c.push-2.ensures, actions_of-post _ _ c.args.recv c.requires.receive) kept;
@@ -112,8 +112,8 @@ pub returns-clause-taken : goal.returns-clause-taken
 returns-clause-taken g c =
     let within = post_within _ _ _ _ _ c.requires.kept.mirrors c.args.recv c.requires.receive c.requires.fresh c.list_of_receive-list.result (c.list_of_receive-list.ensures.list c.requires.kept.numbered) in
     let long = sides_length c.args.self.now.receives c.args.self.now.sends c.requires.kept.as_many in
-    let r = there_is c.args.self.now.receives c.list_of_receive-list.result (omega (arith, within, long)) in
-    let s = there_is c.args.self.now.sends c.list_of_receive-list.result (omega (arith, within, long, c.requires.kept.as_many)) in
+    let r = element_within c.args.self.now.receives c.list_of_receive-list.result (omega (arith, within, long)) in
+    let s = element_within c.args.self.now.sends c.list_of_receive-list.result (omega (arith, within, long, c.requires.kept.as_many)) in
     let at : c.args.self.now.count ≡ length (actions_of c.args.sched.now c.args.self.now.events.items) = omega (arith, c.requires.kept.count, length-actions_of c.args.sched.now c.args.self.now.events.items) in
     let first = c.first_standing-met.ensures.first s.0 s.1 in
     let grown = ap (λ (n : ℕ). pushed r.0 (record { op = c.args.recv; at = n })) at in
