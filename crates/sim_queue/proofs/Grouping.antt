@@ -9,8 +9,8 @@ use Rattle.sim_queue.specs.declared.home.PlaceInGroup.{PlaceInGroup}
 use Rattle.sim_queue.specs.Map.{key_at, IsLeast, IsSoleLeast, IsEmptyMap}
 use Rattle.sim_queue.specs.Groups.{IsHoused, IsEmptyGroup, IsLeastOf, IsSoleLeastOf, heap_at, key_of_home, group_of_home, grouped}
 
-pub same_home : (a b : PlaceInGroup) → a.group ≡ b.group → a.place ≡ b.place → a ≡ b
-same_home a b e f i = record { group = e i; place = f i }
+pub home_from_parts : (a b : PlaceInGroup) → a.group ≡ b.group → a.place ≡ b.place → a ≡ b
+home_from_parts a b e f i = record { group = e i; place = f i }
 
 module _ {K : Type 0} (homes : List PlaceInGroup) (heaps : List (List (Option K))) (housed : IsHoused homes heaps) where
   -- the home of a slot, as the code reads it
@@ -43,46 +43,46 @@ module _ {K : Type 0} (homes : List PlaceInGroup) (heaps : List (List (Option K)
 
   -- The key of one slot is changed.
   module _ (slot : ℕ) (home : PlaceInGroup) (at : slice_get homes slot ≡ Some home) (value : Option K) (heap new : List (Option K)) (is_heap : heap ≡ heap_at heaps home.group) (is_new : new ≡ set heap home.place value) where
-    abbrev after : List (List (Option K))
-    after = set heaps home.group new
+    abbrev heaps_after_change : List (List (Option K))
+    heaps_after_change = set heaps home.group new
 
     group_in : home.group < length heaps
     group_in = housed.group_in slot home at
 
-    heap_now : heap_at after home.group ≡ set (heap_at heaps home.group) home.place value
-    heap_now = get_or-set_same heaps home.group new [] group_in ∙ is_new ∙ ap (λ h. set h home.place value) is_heap
+    changed_heap : heap_at heaps_after_change home.group ≡ set (heap_at heaps home.group) home.place value
+    changed_heap = get_or-set_same heaps home.group new [] group_in ∙ is_new ∙ ap (λ h. set h home.place value) is_heap
 
-    heap_other : (group : ℕ) → group ≢ home.group → heap_at after group ≡ heap_at heaps group
-    heap_other group n = get_or-set_other heaps home.group group new [] n
+    other_heap_unchanged : (group : ℕ) → group ≢ home.group → heap_at heaps_after_change group ≡ heap_at heaps group
+    other_heap_unchanged group n = get_or-set_other heaps home.group group new [] n
 
-    lengths : (group : ℕ) → length (heap_at after group) ≡ length (heap_at heaps group)
-    lengths group = go (cases_eq group home.group)
+    heap_lengths_unchanged : (group : ℕ) → length (heap_at heaps_after_change group) ≡ length (heap_at heaps group)
+    heap_lengths_unchanged group = go (cases_eq group home.group)
       where
-        go : (group ≡ home.group) ⊎ (group ≢ home.group) → length (heap_at after group) ≡ length (heap_at heaps group)
-        go (inl e) = rw e (ap length heap_now ∙ length-set (heap_at heaps home.group) home.place value)
-        go (inr n) = ap length (heap_other group n)
+        go : (group ≡ home.group) ⊎ (group ≢ home.group) → length (heap_at heaps_after_change group) ≡ length (heap_at heaps group)
+        go (inl e) = rw e (ap length changed_heap ∙ length-set (heap_at heaps home.group) home.place value)
+        go (inr n) = ap length (other_heap_unchanged group n)
 
-    key_here : key_of_home after home ≡ value
-    key_here =
-        ap (λ h. key_at h home.place) heap_now ∙ get_or-set_same (heap_at heaps home.group) home.place value None (housed.place_in slot home at)
+    key_of_changed_home : key_of_home heaps_after_change home ≡ value
+    key_of_changed_home =
+        ap (λ h. key_at h home.place) changed_heap ∙ get_or-set_same (heap_at heaps home.group) home.place value None (housed.place_in slot home at)
 
-    key_there : (other : PlaceInGroup) → ¬ (other ≡ home) → key_of_home after other ≡ key_of_home heaps other
-    key_there other n = go (cases_eq other.group home.group) (cases_eq other.place home.place)
+    key_of_other_home : (other : PlaceInGroup) → ¬ (other ≡ home) → key_of_home heaps_after_change other ≡ key_of_home heaps other
+    key_of_other_home other n = go (cases_eq other.group home.group) (cases_eq other.place home.place)
       where
-        go : (other.group ≡ home.group) ⊎ (other.group ≢ home.group) → (other.place ≡ home.place) ⊎ (other.place ≢ home.place) → key_of_home after other ≡ key_of_home heaps other
-        go (inr d) p = ap (λ h. key_at h other.place) (heap_other other.group d)
-        go (inl e) (inl f) = absurd (n (same_home other home e f))
+        go : (other.group ≡ home.group) ⊎ (other.group ≢ home.group) → (other.place ≡ home.place) ⊎ (other.place ≢ home.place) → key_of_home heaps_after_change other ≡ key_of_home heaps other
+        go (inr d) p = ap (λ h. key_at h other.place) (other_heap_unchanged other.group d)
+        go (inl e) (inl f) = absurd (n (home_from_parts other home e f))
         go (inl e) (inr d) =
-            let now : key_at (heap_at after other.group) other.place ≡ key_at (set (heap_at heaps home.group) home.place value) other.place = ap (λ g. key_at (heap_at after g) other.place) e ∙ ap (λ h. key_at h other.place) heap_now in
+            let now : key_at (heap_at heaps_after_change other.group) other.place ≡ key_at (set (heap_at heaps home.group) home.place value) other.place = ap (λ g. key_at (heap_at heaps_after_change g) other.place) e ∙ ap (λ h. key_at h other.place) changed_heap in
             now ∙ get_or-set_other (heap_at heaps home.group) home.place other.place value None d ∙ ap (λ g. key_at (heap_at heaps g) other.place) (sym e)
 
-    keys_now : map (key_of_home after) homes ≡ set (map (key_of_home heaps) homes) slot value
-    keys_now = same_lists (map (key_of_home after) homes) (set (map (key_of_home heaps) homes) slot value) (length-map homes (key_of_home after) ∙ sym (length-map homes (key_of_home heaps)) ∙ sym (length-set (map (key_of_home heaps) homes) slot value)) (λ k d l. each k d (rw (length-map homes (key_of_home after)) at l))
+    keys_after_change : map (key_of_home heaps_after_change) homes ≡ set (map (key_of_home heaps) homes) slot value
+    keys_after_change = same_lists (map (key_of_home heaps_after_change) homes) (set (map (key_of_home heaps) homes) slot value) (length-map homes (key_of_home heaps_after_change) ∙ sym (length-map homes (key_of_home heaps)) ∙ sym (length-set (map (key_of_home heaps) homes) slot value)) (λ k d l. each k d (rw (length-map homes (key_of_home heaps_after_change)) at l))
       where
         slot_in : slot < length homes
         slot_in = slice_get_within homes slot home at
 
-        each : (k : ℕ) (d : Option K) → k < length homes → get_or (map (key_of_home after) homes) k d ≡ get_or (set (map (key_of_home heaps) homes) slot value) k d
+        each : (k : ℕ) (d : Option K) → k < length homes → get_or (map (key_of_home heaps_after_change) homes) k d ≡ get_or (set (map (key_of_home heaps) homes) slot value) k d
         each k d l = go (cases_eq k slot)
           where
             other : PlaceInGroup
@@ -91,37 +91,37 @@ module _ {K : Type 0} (homes : List PlaceInGroup) (heaps : List (List (Option K)
             old : get_or (map (key_of_home heaps) homes) k d ≡ key_of_home heaps (get_or homes k home)
             old = get_or-map (key_of_home heaps) homes k home d l
 
-            now : get_or (map (key_of_home after) homes) k d ≡ key_of_home after (get_or homes k home)
-            now = get_or-map (key_of_home after) homes k home d l
+            now : get_or (map (key_of_home heaps_after_change) homes) k d ≡ key_of_home heaps_after_change (get_or homes k home)
+            now = get_or-map (key_of_home heaps_after_change) homes k home d l
 
-            go : (k ≡ slot) ⊎ (k ≢ slot) → get_or (map (key_of_home after) homes) k d ≡ get_or (set (map (key_of_home heaps) homes) slot value) k d
+            go : (k ≡ slot) ⊎ (k ≢ slot) → get_or (map (key_of_home heaps_after_change) homes) k d ≡ get_or (set (map (key_of_home heaps) homes) slot value) k d
             go (inl e) =
                 let same : get_or homes k home ≡ home = ap (λ i. get_or homes i home) e ∙ get_or_from_slice_get homes slot home home at in
                 let there : get_or (set (map (key_of_home heaps) homes) slot value) k d ≡ value = ap (λ i. get_or (set (map (key_of_home heaps) homes) slot value) i d) e ∙ get_or-set_same (map (key_of_home heaps) homes) slot value d (rw (length-map homes (key_of_home heaps)) slot_in) in
-                now ∙ ap (key_of_home after) same ∙ key_here ∙ sym there
+                now ∙ ap (key_of_home heaps_after_change) same ∙ key_of_changed_home ∙ sym there
             go (inr n) =
                 let differ : ¬ (get_or homes k home ≡ home) = λ e. n (housed.apart k slot home (slice_get-get_or homes k home l ∙ ap Some e) at) in
-                now ∙ key_there (get_or homes k home) differ ∙ sym old ∙ sym (get_or-set_other (map (key_of_home heaps) homes) slot k value d n)
+                now ∙ key_of_other_home (get_or homes k home) differ ∙ sym old ∙ sym (get_or-set_other (map (key_of_home heaps) homes) slot k value d n)
 
-    pub changed : grouped homes after ≡ record { keys = set (grouped homes heaps).keys slot value; groups = (grouped homes heaps).groups }
-    changed i = record { keys = keys_now i; groups = map group_of_home homes }
+    pub grouped_after_change : grouped homes heaps_after_change ≡ record { keys = set (grouped homes heaps).keys slot value; groups = (grouped homes heaps).groups }
+    grouped_after_change i = record { keys = keys_after_change i; groups = map group_of_home homes }
 
-    pub still_housed : IsHoused homes after
-    still_housed = record {
+    pub housed_after_change : IsHoused homes heaps_after_change
+    housed_after_change = record {
       few = housed.few;
       group_in = λ s h e. rw (length-set heaps home.group new) (housed.group_in s h e);
-      place_in = λ s h e. rw (lengths h.group) (housed.place_in s h e);
-      sized = λ group. rw (lengths group) (housed.sized group);
+      place_in = λ s h e. rw (heap_lengths_unchanged h.group) (housed.place_in s h e);
+      sized = λ group. rw (heap_lengths_unchanged group) (housed.sized group);
       apart = housed.apart;
       inhabited = λ group place key e. inside group place key e (cases_eq group home.group) (cases_eq place home.place);
     }
       where
-        inside : (group place : ℕ) (key : K) → key_at (heap_at after group) place ≡ Some key → (group ≡ home.group) ⊎ (group ≢ home.group) → (place ≡ home.place) ⊎ (place ≢ home.place) → (s : ℕ) × (slice_get homes s ≡ Some (record { group = group; place = place }))
-        inside group place key e (inl f) (inl p) = (slot, at ∙ ap Some (same_home home (record { group = group; place = place }) (sym f) (sym p)))
+        inside : (group place : ℕ) (key : K) → key_at (heap_at heaps_after_change group) place ≡ Some key → (group ≡ home.group) ⊎ (group ≢ home.group) → (place ≡ home.place) ⊎ (place ≢ home.place) → (s : ℕ) × (slice_get homes s ≡ Some (record { group = group; place = place }))
+        inside group place key e (inl f) (inl p) = (slot, at ∙ ap Some (home_from_parts home (record { group = group; place = place }) (sym f) (sym p)))
         inside group place key e (inl f) (inr d) =
-            housed.inhabited group place key (sym (key_there (record { group = group; place = place }) (λ s. d (ap (λ (h : PlaceInGroup). h.place) s))) ∙ e)
+            housed.inhabited group place key (sym (key_of_other_home (record { group = group; place = place }) (λ s. d (ap (λ (h : PlaceInGroup). h.place) s))) ∙ e)
         inside group place key e (inr d) p =
-            housed.inhabited group place key (sym (key_there (record { group = group; place = place }) (λ s. d (ap (λ (h : PlaceInGroup). h.group) s))) ∙ e)
+            housed.inhabited group place key (sym (key_of_other_home (record { group = group; place = place }) (λ s. d (ap (λ (h : PlaceInGroup). h.group) s))) ∙ e)
 
   -- if the heap of a group is empty, no slot of it has a key
   pub empty_group : (group : ℕ) → IsEmptyMap (heap_at heaps group) → IsEmptyGroup (grouped homes heaps) group
@@ -129,8 +129,8 @@ module _ {K : Type 0} (homes : List PlaceInGroup) (heaps : List (List (Option K)
       let home = home_of_member slot group member in
       key_at_home slot home.0 home.1 ∙ ap (λ g. key_at (heap_at heaps g) home.0.place) home.2 ∙ empty home.0.place
 
-  pub no_group : (group : ℕ) → length heaps ≤ group → IsEmptyGroup (grouped homes heaps) group
-  no_group group l slot member =
+  pub group_past_end_is_empty : (group : ℕ) → length heaps ≤ group → IsEmptyGroup (grouped homes heaps) group
+  group_past_end_is_empty group l slot member =
       let home = home_of_member slot group member in
       absurd (omega (arith, l, home.2, housed.group_in slot home.0 home.1))
 

@@ -20,34 +20,34 @@ module _ {K : Type 0} where
   joined_at (a ∷ one) [] e slot = absurd (omega (arith, e))
 
   -- the first map is empty
-  pub nothing_first : (other : List (Option K)) → joined (replicate (length other) None) other ≡ other
+  pub joined_with_empty_first : (other : List (Option K)) → joined (replicate (length other) None) other ≡ other
   unfolding joined
-  nothing_first [] = refl
-  nothing_first (b ∷ other) = ap (λ ks. b ∷ ks) (nothing_first other)
+  joined_with_empty_first [] = refl
+  joined_with_empty_first (b ∷ other) = ap (λ ks. b ∷ ks) (joined_with_empty_first other)
 
   -- a slot gets a key in the first map
-  pub put_first : (one other : List (Option K)) → length one ≡ length other → (slot : ℕ) (k : K) → joined (slice_set one slot (Some k)) other ≡ slice_set (joined one other) slot (Some k)
+  pub joined_after_put_in_first : (one other : List (Option K)) → length one ≡ length other → (slot : ℕ) (k : K) → joined (slice_set one slot (Some k)) other ≡ slice_set (joined one other) slot (Some k)
   unfolding joined
-  put_first [] [] e slot k = refl
-  put_first (a ∷ one) (b ∷ other) e zero k = refl
-  put_first (a ∷ one) (b ∷ other) e (suc slot) k = ap (λ ks. either a b ∷ ks) (put_first one other (omega (arith, e)) slot k)
-  put_first [] (b ∷ other) e slot k = absurd (omega (arith, e))
-  put_first (a ∷ one) [] e slot k = absurd (omega (arith, e))
+  joined_after_put_in_first [] [] e slot k = refl
+  joined_after_put_in_first (a ∷ one) (b ∷ other) e zero k = refl
+  joined_after_put_in_first (a ∷ one) (b ∷ other) e (suc slot) k = ap (λ ks. either a b ∷ ks) (joined_after_put_in_first one other (omega (arith, e)) slot k)
+  joined_after_put_in_first [] (b ∷ other) e slot k = absurd (omega (arith, e))
+  joined_after_put_in_first (a ∷ one) [] e slot k = absurd (omega (arith, e))
 
   -- a slot without a key in the second loses its key in the first
-  pub drop_first : (one other : List (Option K)) → length one ≡ length other → (slot : ℕ) → key_at other slot ≡ None → joined (slice_set one slot None) other ≡ slice_set (joined one other) slot None
+  pub joined_after_drop_in_first : (one other : List (Option K)) → length one ≡ length other → (slot : ℕ) → key_at other slot ≡ None → joined (slice_set one slot None) other ≡ slice_set (joined one other) slot None
   unfolding joined
-  drop_first [] [] e slot none = refl
-  drop_first (a ∷ one) (b ∷ other) e zero none = ap (λ o. o ∷ joined one other) none
-  drop_first (a ∷ one) (b ∷ other) e (suc slot) none = ap (λ ks. either a b ∷ ks) (drop_first one other (omega (arith, e)) slot none)
-  drop_first [] (b ∷ other) e slot none = absurd (omega (arith, e))
-  drop_first (a ∷ one) [] e slot none = absurd (omega (arith, e))
+  joined_after_drop_in_first [] [] e slot none = refl
+  joined_after_drop_in_first (a ∷ one) (b ∷ other) e zero none = ap (λ o. o ∷ joined one other) none
+  joined_after_drop_in_first (a ∷ one) (b ∷ other) e (suc slot) none = ap (λ ks. either a b ∷ ks) (joined_after_drop_in_first one other (omega (arith, e)) slot none)
+  joined_after_drop_in_first [] (b ∷ other) e slot none = absurd (omega (arith, e))
+  joined_after_drop_in_first (a ∷ one) [] e slot none = absurd (omega (arith, e))
 
   -- what a slot without a key in the first has in the second is changed
-  pub set_second : (one other : List (Option K)) → length one ≡ length other → (slot : ℕ) (value : Option K) → key_at one slot ≡ None → joined one (slice_set other slot value) ≡ slice_set (joined one other) slot value
+  pub joined_after_set_in_second : (one other : List (Option K)) → length one ≡ length other → (slot : ℕ) (value : Option K) → key_at one slot ≡ None → joined one (slice_set other slot value) ≡ slice_set (joined one other) slot value
   unfolding joined
-  set_second [] [] e slot value none = refl
-  set_second (a ∷ one) (b ∷ other) e zero value none = ap (λ o. either o value ∷ joined one other) none
-  set_second (a ∷ one) (b ∷ other) e (suc slot) value none = ap (λ ks. either a b ∷ ks) (set_second one other (omega (arith, e)) slot value none)
-  set_second [] (b ∷ other) e slot value none = absurd (omega (arith, e))
-  set_second (a ∷ one) [] e slot value none = absurd (omega (arith, e))
+  joined_after_set_in_second [] [] e slot value none = refl
+  joined_after_set_in_second (a ∷ one) (b ∷ other) e zero value none = ap (λ o. either o value ∷ joined one other) none
+  joined_after_set_in_second (a ∷ one) (b ∷ other) e (suc slot) value none = ap (λ ks. either a b ∷ ks) (joined_after_set_in_second one other (omega (arith, e)) slot value none)
+  joined_after_set_in_second [] (b ∷ other) e slot value none = absurd (omega (arith, e))
+  joined_after_set_in_second (a ∷ one) [] e slot value none = absurd (omega (arith, e))

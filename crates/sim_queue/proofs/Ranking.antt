@@ -19,21 +19,21 @@ use Rattle.sim_queue.specs.Groups.{Grouped, AreHomes, heap_at, key_of_home, grou
 use Rattle.sim_queue.specs.Ranked.{size_of}
 use Rattle.sim_queue.specs.Ranks.{home_of, ranked, IsHeadOf, IsTold, IsRanked}
 use Rattle.sim_queue.proofs.ForCallers.{through}
-use Rattle.sim_queue.proofs.ForCallers.{key_at_home, changed, still_housed}
+use Rattle.sim_queue.proofs.ForCallers.{key_at_home, grouped_after_change, housed_after_change}
 use Rattle.sim_queue.proofs.ForCallers.{none_of}
-use Rattle.sim_queue.proofs.ForCallers.{none_at, empty_housed, empty_grouped}
+use Rattle.sim_queue.proofs.ForCallers.{no_key_at_any_place, empty_housed, empty_grouped}
 
-abbrev place : ℕ → ℕ → OpId
-place rank op = record { rank = rank; op = op }
+abbrev op_at_rank_and_place : ℕ → ℕ → OpId
+op_at_rank_and_place rank op = record { rank = rank; op = op }
 
-in_rank : (rank first : ℕ) (ops : List Op) (i : ℕ) (x : OpId) → slice_get (places_of_rank rank first ops) i ≡ Some x → (x.rank ≡ rank) × (x.op ≡ first + i) × (i < length ops)
+place_of_rank_parts : (rank first : ℕ) (ops : List Op) (i : ℕ) (x : OpId) → slice_get (places_of_rank rank first ops) i ≡ Some x → (x.rank ≡ rank) × (x.op ≡ first + i) × (i < length ops)
 unfolding places_of_rank
-in_rank rank first [] i x e = absurd (cc)
-in_rank rank first (o ∷ os) zero x e =
-    let same : place rank first ≡ x = same_Some (place rank first) x e in
+place_of_rank_parts rank first [] i x e = absurd (cc)
+place_of_rank_parts rank first (o ∷ os) zero x e =
+    let same : op_at_rank_and_place rank first ≡ x = same_Some (op_at_rank_and_place rank first) x e in
     (sym (ap (λ (y : OpId). y.rank) same), omega (arith, ap (λ (y : OpId). y.op) same), omega arith)
-in_rank rank first (o ∷ os) (suc i) x e =
-    let rest = in_rank rank (first + 1) os i x e in
+place_of_rank_parts rank first (o ∷ os) (suc i) x e =
+    let rest = place_of_rank_parts rank (first + 1) os i x e in
     (rest.0, omega (arith, rest.1), omega (arith, rest.2))
 
 -- the operation of a slot, if the ranks are numbered from the first on
@@ -44,8 +44,8 @@ pub record IsPlaced (plans : List Plan) (first slot : ℕ) (x : OpId) : Type 0 w
   pub op_in : x.op < slice_index (map size_of plans) rank
   pub at : slot ≡ sum (take rank (map size_of plans)) + x.op
 
-placed_more : (first : ℕ) (p : Plan) (plans : List Plan) (slot : ℕ) (x : OpId) → ((m : ℕ) → slice_get (places_from (first + 1) plans) m ≡ Some x → IsPlaced plans (first + 1) m x) → slice_get (places_of_rank first 0 p.ops ++ places_from (first + 1) plans) slot ≡ Some x → IsPlaced (p ∷ plans) first slot x
-placed_more first p plans slot x rest e = go (cases_lt slot (length here))
+placed_with_another_rank : (first : ℕ) (p : Plan) (plans : List Plan) (slot : ℕ) (x : OpId) → ((m : ℕ) → slice_get (places_from (first + 1) plans) m ≡ Some x → IsPlaced plans (first + 1) m x) → slice_get (places_of_rank first 0 p.ops ++ places_from (first + 1) plans) slot ≡ Some x → IsPlaced (p ∷ plans) first slot x
+placed_with_another_rank first p plans slot x rest e = go (cases_lt slot (length here))
   where
     here : List OpId
     here = places_of_rank first 0 p.ops
@@ -61,7 +61,7 @@ placed_more first p plans slot x rest e = go (cases_lt slot (length here))
 
     go : (slot < length here) ⊎ (length here ≤ slot) → IsPlaced (p ∷ plans) first slot x
     go (inl l) =
-        let r = in_rank first 0 p.ops slot x (slice_get-get_or here slot x l ∙ ap Some (sym (get_or_append_left here there x slot l) ∙ read)) in
+        let r = place_of_rank_parts first 0 p.ops slot x (slice_get-get_or here slot x l ∙ ap Some (sym (get_or_append_left here there x slot l) ∙ read)) in
         record {
           rank = 0;
           rank_in = omega arith;
@@ -82,11 +82,11 @@ placed_more first p plans slot x rest e = go (cases_lt slot (length here))
           at = omega (arith, r.at, whole, size, sum_by-cons (λ n. n) (length p.ops) (take r.rank (map size_of plans)));
         }
 
-place_from : (first : ℕ) (plans : List Plan) (slot : ℕ) (x : OpId) → slice_get (places_from first plans) slot ≡ Some x → IsPlaced plans first slot x
+places_from_is_placed : (first : ℕ) (plans : List Plan) (slot : ℕ) (x : OpId) → slice_get (places_from first plans) slot ≡ Some x → IsPlaced plans first slot x
 unfolding places_from
-place_from first [] slot x e = absurd (cc)
-place_from first (p ∷ plans) slot x e =
-    placed_more first p plans slot x (λ m f. place_from (first + 1) plans m x f) e
+places_from_is_placed first [] slot x e = absurd (cc)
+places_from_is_placed first (p ∷ plans) slot x e =
+    placed_with_another_rank first p plans slot x (λ m f. places_from_is_placed (first + 1) plans m x f) e
 
 length-places : (first : ℕ) (plans : List Plan) → length (places_from first plans) ≡ sum (map size_of plans)
 unfolding places_from
@@ -95,23 +95,23 @@ length-places first (p ∷ plans) =
     omega (arith, length-append (places_of_rank first 0 p.ops) (places_from (first + 1) plans), length-places_of_rank first 0 p.ops, length-places (first + 1) plans, sum_by-cons (λ n. n) (length p.ops) (map size_of plans))
 
 -- this number of operations fits
-pub few_in_all : (plans : List Plan) → AreCountsWithin plans → sum (map size_of plans) < 2 ^ 32
+pub sum_of_sizes_fits : (plans : List Plan) → AreCountsWithin plans → sum (map size_of plans) < 2 ^ 32
 unfolding op_count
-few_in_all plans counts = omega (arith, sum-map size_of plans, counts.ops)
+sum_of_sizes_fits plans counts = omega (arith, sum-map size_of plans, counts.ops)
 
 no_plan : Plan
 no_plan = record { ops = []; deps = []; notes = [] }
 
 -- the size of another rank
-pub sizes_more : (plans : List Plan) (rank count : ℕ) (sizes new : List ℕ) → rank < length plans → sizes ≡ map size_of (take rank plans) → count ≡ length (ops_at plans rank) → new ≡ sizes ++ count ∷ [] → new ≡ map size_of (take (rank + 1) plans)
-sizes_more plans rank count sizes new l so_far is e =
+pub sizes_with_next_rank : (plans : List Plan) (rank count : ℕ) (sizes new : List ℕ) → rank < length plans → sizes ≡ map size_of (take rank plans) → count ≡ length (ops_at plans rank) → new ≡ sizes ++ count ∷ [] → new ≡ map size_of (take (rank + 1) plans)
+sizes_with_next_rank plans rank count sizes new l so_far is e =
     let p : Plan = get_or plans rank no_plan in
     let size : count ≡ size_of p = is ∙ ap length (ops_at_some plans rank p (slice_get-get_or plans rank no_plan l)) in
     e ∙ ap (λ ns. ns ++ count ∷ []) so_far ∙ ap (λ n. map size_of (take rank plans) ++ n ∷ []) size ∙ sym (map-append size_of (take rank plans) (p ∷ [])) ∙ ap (map size_of) (sym (take_more plans rank no_plan l))
 
 -- the start of another rank
-pub starts_more : (sizes starts new : List ℕ) (i next : ℕ) → length starts ≡ i → next ≡ sum (take i sizes) → ((rank : ℕ) → rank < i → slice_index starts rank ≡ sum (take rank sizes)) → new ≡ starts ++ next ∷ [] → (rank : ℕ) → rank < i + 1 → slice_index new rank ≡ sum (take rank sizes)
-starts_more sizes starts new i next each is old e rank l =
+pub starts_with_next_rank : (sizes starts new : List ℕ) (i next : ℕ) → length starts ≡ i → next ≡ sum (take i sizes) → ((rank : ℕ) → rank < i → slice_index starts rank ≡ sum (take rank sizes)) → new ≡ starts ++ next ∷ [] → (rank : ℕ) → rank < i + 1 → slice_index new rank ≡ sum (take rank sizes)
+starts_with_next_rank sizes starts new i next each is old e rank l =
     ap (λ xs. slice_index xs rank) e ∙ go (cases_lt rank i)
   where
     go : (rank < i) ⊎ (i ≤ rank) → slice_index (starts ++ next ∷ []) rank ≡ sum (take rank sizes)
@@ -125,8 +125,8 @@ module _ (plans : List Plan) (homes : List PlaceInGroup) (are : homes ≡ map ho
   homes_in_all : length homes ≡ sum (map size_of plans)
   homes_in_all = omega (arith, ap length are, length-map (operations plans) home_of, length-places 0 plans)
 
-  pub few_homes : sum (map size_of plans) < 2 ^ 32 → length homes < 2 ^ 32
-  few_homes few = omega (arith, few, homes_in_all)
+  pub homes_fit : sum (map size_of plans) < 2 ^ 32 → length homes < 2 ^ 32
+  homes_fit few = omega (arith, few, homes_in_all)
 
   -- a rank has at most as many operations as there are
   sizes_in_all : All (λ size. size ≤ length homes) (map size_of plans)
@@ -135,23 +135,23 @@ module _ (plans : List Plan) (homes : List PlaceInGroup) (are : homes ≡ map ho
       each : (rank : ℕ) → rank < length (map size_of plans) → slice_index (map size_of plans) rank ≤ length homes
       each rank l = omega (arith, get_or-le-sum_by (λ n. n) (map size_of plans) rank 0 l, homes_in_all)
 
-  placed : (slot : ℕ) (home : PlaceInGroup) → slice_get homes slot ≡ Some home → IsPlaced plans 0 slot (place home.group home.place)
-  placed slot home e = go (slice_get (operations plans) slot) refl
+  home_of_placed : (slot : ℕ) (home : PlaceInGroup) → slice_get homes slot ≡ Some home → IsPlaced plans 0 slot (op_at_rank_and_place home.group home.place)
+  home_of_placed slot home e = go (slice_get (operations plans) slot) refl
     where
       at : slice_get (map home_of (operations plans)) slot ≡ Some home
       at = sym (ap (λ hs. slice_get hs slot) are) ∙ e
 
-      go : (o : Option OpId) → slice_get (operations plans) slot ≡ o → IsPlaced plans 0 slot (place home.group home.place)
+      go : (o : Option OpId) → slice_get (operations plans) slot ≡ o → IsPlaced plans 0 slot (op_at_rank_and_place home.group home.place)
       go None f =
           let none : slice_get (map home_of (operations plans)) slot ≡ None = slice_get-map home_of (operations plans) slot ∙ ap (option_map home_of) f in
           absurd (cc)
       go (Some x) f =
           let same : home_of x ≡ home = same_Some (home_of x) home (sym (slice_get-map home_of (operations plans) slot ∙ ap (option_map home_of) f) ∙ at) in
-          subst (λ (h : PlaceInGroup). IsPlaced plans 0 slot (place h.group h.place)) same (place_from 0 plans slot x f)
+          subst (λ (h : PlaceInGroup). IsPlaced plans 0 slot (op_at_rank_and_place h.group h.place)) same (places_from_is_placed 0 plans slot x f)
 
-  stands : (slot : ℕ) (home : PlaceInGroup) → slice_get homes slot ≡ Some home → slot ≡ sum (take home.group (map size_of plans)) + home.place
-  stands slot home e =
-      let p = placed slot home e in
+  slot_by_rank_and_place : (slot : ℕ) (home : PlaceInGroup) → slice_get homes slot ≡ Some home → slot ≡ sum (take home.group (map size_of plans)) + home.place
+  slot_by_rank_and_place slot home e =
+      let p = home_of_placed slot home e in
       let rank : p.rank ≡ home.group = omega (arith, p.is_rank) in
       subst (λ g. slot ≡ sum (take g (map size_of plans)) + home.place) rank p.at
 
@@ -160,50 +160,50 @@ module _ (plans : List Plan) (homes : List PlaceInGroup) (are : homes ≡ map ho
     groups = refl;
     group_in =
         λ slot home e.
-        let p = placed slot home e in
+        let p = home_of_placed slot home e in
         omega (arith, p.rank_in, p.is_rank, length-map plans size_of);
     place_in =
         λ slot home e.
-        let p = placed slot home e in
+        let p = home_of_placed slot home e in
         let rank : p.rank ≡ home.group = omega (arith, p.is_rank) in
         subst (λ g. home.place < slice_index (map size_of plans) g) rank p.op_in;
-    apart = λ slot other home e f. stands slot home e ∙ sym (stands other home f);
+    apart = λ slot other home e f. slot_by_rank_and_place slot home e ∙ sym (slot_by_rank_and_place other home f);
   }
 
   module _ {K : Type 0} (before : K → K → Bool) (few : length homes < 2 ^ 32) (starts : List ℕ) (each : length starts ≡ length (map size_of plans)) (sums : (rank : ℕ) → rank < length (map size_of plans) → slice_index starts rank ≡ sum (take rank (map size_of plans))) where
-    abbrev empty : List (List (Option K))
-    empty = map (no_keys {K = K}) (map size_of plans)
+    abbrev heaps_without_keys : List (List (Option K))
+    heaps_without_keys = map (no_keys {K = K}) (map size_of plans)
 
     abbrev no_heads : List (Option K)
     no_heads = replicate (length (map size_of plans)) None
 
-    many : length empty ≡ length (map size_of plans)
-    many = length-map (map size_of plans) (no_keys {K = K})
+    heaps_per_rank : length heaps_without_keys ≡ length (map size_of plans)
+    heaps_per_rank = length-map (map size_of plans) (no_keys {K = K})
 
-    none_ranked : IsRanked before homes starts empty no_heads
-    none_ranked = record {
+    no_keys_ranked : IsRanked before homes starts heaps_without_keys no_heads
+    no_keys_ranked = record {
       housed = empty_housed (map group_of_home homes) homes (map size_of plans) are_homes few sizes_in_all;
-      started = each ∙ sym many;
-      each = length-replicate {A = Option K} (length (map size_of plans)) None ∙ sym many;
+      started = each ∙ sym heaps_per_rank;
+      each = length-replicate {A = Option K} (length (map size_of plans)) None ∙ sym heaps_per_rank;
       found =
           λ slot home e.
           let start = sums home.group (are_homes.group_in slot home e) in
-          omega (arith, stands slot home e, start);
+          omega (arith, slot_by_rank_and_place slot home e, start);
       headed =
           λ rank l.
-          subst (IsHeadOf before (heap_at empty rank)) (sym (none_of {K = K} (length (map size_of plans)) rank)) (λ p. none_at (map group_of_home homes) homes (map size_of plans) are_homes rank p);
+          subst (IsHeadOf before (heap_at heaps_without_keys rank)) (sym (none_of {K = K} (length (map size_of plans)) rank)) (λ p. no_key_at_any_place (map group_of_home homes) homes (map size_of plans) are_homes rank p);
     }
 
-    pub new_ranked : (heaps : List (List (Option K))) (heads : List (Option K)) → heaps ≡ empty → heads ≡ no_heads → IsRanked before homes starts heaps heads
-    new_ranked heaps heads a b =
-        subst (λ hs. IsRanked before homes starts hs heads) (sym a) (subst (IsRanked before homes starts empty) (sym b) none_ranked)
+    pub new_queue_ranked : (heaps : List (List (Option K))) (heads : List (Option K)) → heaps ≡ heaps_without_keys → heads ≡ no_heads → IsRanked before homes starts heaps heads
+    new_queue_ranked heaps heads a b =
+        subst (λ hs. IsRanked before homes starts hs heads) (sym a) (subst (IsRanked before homes starts heaps_without_keys) (sym b) no_keys_ranked)
 
   empty_sizes : (K : Type 0) (counts : List ℕ) → map (λ (h : List (Option K)). length h) (map (no_keys {K = K}) counts) ≡ counts
   empty_sizes K [] = refl
   empty_sizes K (count ∷ counts) = rw (length-replicate {A = Option K} count None) (ap (λ ns. count ∷ ns) (empty_sizes K counts))
 
-  pub new_seen : {K : Type 0} (heaps : List (List (Option K))) → heaps ≡ map (no_keys {K = K}) (map size_of plans) → ranked homes heaps ≡ record { keys = replicate (length (operations plans)) None; sizes = map size_of plans }
-  new_seen {K = K} heaps a = ap (ranked homes) a ∙ none
+  pub new_queue_has_no_keys : {K : Type 0} (heaps : List (List (Option K))) → heaps ≡ map (no_keys {K = K}) (map size_of plans) → ranked homes heaps ≡ record { keys = replicate (length (operations plans)) None; sizes = map size_of plans }
+  new_queue_has_no_keys {K = K} heaps a = ap (ranked homes) a ∙ none
     where
       keys : map (key_of_home (map (no_keys {K = K}) (map size_of plans))) homes ≡ replicate (length (operations plans)) None
       keys =
@@ -231,15 +231,15 @@ module _ {K : Type 0} where
   module _ (before : K → K → Bool) (homes : List PlaceInGroup) (starts : List ℕ) (heaps : List (List (Option K))) (heads : List (Option K)) (is : IsRanked before homes starts heaps heads) where
     -- the key of one slot is changed, and the head of its rank updated
     module _ (slot : ℕ) (home : PlaceInGroup) (at : slice_get homes slot ≡ Some home) (value : Option K) (heap new : List (Option K)) (is_heap : heap ≡ heap_at heaps home.group) (is_new : new ≡ set heap home.place value) where
-      abbrev after : List (List (Option K))
-      after = set heaps home.group new
+      abbrev heaps_after_change : List (List (Option K))
+      heaps_after_change = set heaps home.group new
 
       rank_in : home.group < length heaps
       rank_in = is.housed.group_in slot home at
 
-      pub still_ranked : (new_heads : List (Option K)) → IsTold before (heap_at after home.group) heads new_heads home.group → IsRanked before homes starts after new_heads
+      pub still_ranked : (new_heads : List (Option K)) → IsTold before (heap_at heaps_after_change home.group) heads new_heads home.group → IsRanked before homes starts heaps_after_change new_heads
       still_ranked new_heads told = record {
-        housed = still_housed homes heaps is.housed slot home at value heap new is_heap is_new;
+        housed = housed_after_change homes heaps is.housed slot home at value heap new is_heap is_new;
         started = is.started ∙ sym (length-set heaps home.group new);
         each = ap length told.put ∙ length-set heads home.group told.head ∙ is.each ∙ sym (length-set heaps home.group new);
         found = is.found;
@@ -250,22 +250,22 @@ module _ {K : Type 0} where
           here =
               ap (λ hs. key_at hs home.group) told.put ∙ get_or-set_same heads home.group told.head None (omega (arith, rank_in, is.each))
 
-          go : (rank : ℕ) → rank < length after → (rank ≡ home.group) ⊎ (rank ≢ home.group) → IsHeadOf before (heap_at after rank) (key_at new_heads rank)
+          go : (rank : ℕ) → rank < length heaps_after_change → (rank ≡ home.group) ⊎ (rank ≢ home.group) → IsHeadOf before (heap_at heaps_after_change rank) (key_at new_heads rank)
           go rank l (inl e) =
-              subst (λ r. IsHeadOf before (heap_at after r) (key_at new_heads r)) (sym e) (subst (IsHeadOf before (heap_at after home.group)) (sym here) told.is_head)
+              subst (λ r. IsHeadOf before (heap_at heaps_after_change r) (key_at new_heads r)) (sym e) (subst (IsHeadOf before (heap_at heaps_after_change home.group)) (sym here) told.is_head)
           go rank l (inr n) =
               let there : key_at new_heads rank ≡ key_at heads rank = ap (λ hs. key_at hs rank) told.put ∙ get_or-set_other heads home.group rank told.head None n in
-              let same : heap_at after rank ≡ heap_at heaps rank = get_or-set_other heaps home.group rank new [] n in
+              let same : heap_at heaps_after_change rank ≡ heap_at heaps rank = get_or-set_other heaps home.group rank new [] n in
               let was = is.headed rank (omega (arith, l, length-set heaps home.group new)) in
               subst (λ h. IsHeadOf before h (key_at new_heads rank)) (sym same) (subst (IsHeadOf before (heap_at heaps rank)) (sym there) was)
 
-      pub changed_ranked : ranked homes after ≡ record { keys = set (ranked homes heaps).keys slot value; sizes = (ranked homes heaps).sizes }
+      pub changed_ranked : ranked homes heaps_after_change ≡ record { keys = set (ranked homes heaps).keys slot value; sizes = (ranked homes heaps).sizes }
       changed_ranked i = record { keys = keys i; sizes = sizes i }
         where
-          keys : map (key_of_home after) homes ≡ set (map (key_of_home heaps) homes) slot value
-          keys = ap (λ (q : Grouped K). q.keys) (changed homes heaps is.housed slot home at value heap new is_heap is_new)
+          keys : map (key_of_home heaps_after_change) homes ≡ set (map (key_of_home heaps) homes) slot value
+          keys = ap (λ (q : Grouped K). q.keys) (grouped_after_change homes heaps is.housed slot home at value heap new is_heap is_new)
 
-          sizes : map (λ (h : List (Option K)). length h) after ≡ map (λ (h : List (Option K)). length h) heaps
+          sizes : map (λ (h : List (Option K)). length h) heaps_after_change ≡ map (λ (h : List (Option K)). length h) heaps
           sizes =
               same_sizes heaps home.group new (ap length is_new ∙ length-set heap home.place value ∙ ap length is_heap)
 
@@ -305,22 +305,22 @@ module _ {K : Type 0} where
         go (Some k) e = let h = has_head slot k e in absurd (no_key h.head (sym (none h.rank) ∙ h.head_is))
 
     module _ (laws : IsOrder before) (rank : ℕ) (head : K) (least : IsLeast before heads rank head) where
-      pub top_in : rank < length heaps
-      top_in = go (cases_lt rank (length heads))
+      pub top_rank_within : rank < length heaps
+      top_rank_within = go (cases_lt rank (length heads))
         where
           go : (rank < length heads) ⊎ (length heads ≤ rank) → rank < length heaps
           go (inl l) = omega (arith, l, is.each)
           go (inr l) = absurd (no_key head (sym (get_or_past heads rank None l) ∙ least.has))
 
-      top : (place : ℕ) × IsLeast before (heap_at heaps rank) place head
-      top = subst (IsHeadOf before (heap_at heaps rank)) least.has (is.headed rank top_in)
+      heap_top_of_rank : (place : ℕ) × IsLeast before (heap_at heaps rank) place head
+      heap_top_of_rank = subst (IsHeadOf before (heap_at heaps rank)) least.has (is.headed rank top_rank_within)
 
       module _ (place : ℕ) (key : K) (least_here : IsLeast before (heap_at heaps rank) place key) where
         slot_at : (slot : ℕ) × (slice_get homes slot ≡ Some (record { group = rank; place = place }))
         slot_at = is.housed.inhabited rank place key least_here.has
 
-        pub top_slot : slice_index starts rank + place < length homes
-        top_slot =
+        pub top_slot_within : slice_index starts rank + place < length homes
+        top_slot_within =
             omega (arith, is.found slot_at.0 (record { group = rank; place = place }) slot_at.1, slice_get_within homes slot_at.0 (record { group = rank; place = place }) slot_at.1)
 
         pub least_of_all : IsLeast before (ranked homes heaps).keys (slice_index starts rank + place) key
@@ -330,7 +330,7 @@ module _ {K : Type 0} where
               least =
                   λ other k e.
                   let h = has_head other k e in
-                  through before laws k h.head key h.least (through before laws h.head head key (least.least h.rank h.head h.head_is) (least_here.least top.0 head top.1.has));
+                  through before laws k h.head key h.least (through before laws h.head head key (least.least h.rank h.head h.head_is) (least_here.least heap_top_of_rank.0 head heap_top_of_rank.1.has));
             })
 
         pub not_empty_ranked : IsEmptyMap (ranked homes heaps).keys → ⊥

@@ -9,27 +9,27 @@ use Rattle.sim_queue.specs.Item.{Item}
 use Rattle.sim_queue.specs.Map.{either, key_at, IsEmptyMap, IsLeast, IsSoleLeast}
 use Rattle.sim_queue.specs.TopHeap.{placed, AreApart}
 use Rattle.sim_queue.specs.RunHeap.{joined, with_run, AreInOrder, IsBehind, IsAhead, IsNotAhead, IsRun, IsRunFirst, HasOneFirst, IsHeapFirst}
-use Rattle.sim_queue.proofs.Items.{length-placed, held, keeps, items_fit, tail_apart, Holds, item_of}
-use Rattle.sim_queue.proofs.ItemChanges.{at_end, still_there, added_apart, added_placed, without}
-use Rattle.sim_queue.proofs.Joined.{length-joined, joined_at, nothing_first, put_first, drop_first, set_second}
-use Rattle.sim_queue.proofs.Swapping.{same_or_not}
-use Rattle.sim_queue.proofs.Weak.{not_both, through}
+use Rattle.sim_queue.proofs.Items.{length-placed, key_belongs_to_item, item_has_its_key, items_fit, apart_without_head, Holds, item_of}
+use Rattle.sim_queue.proofs.ItemChanges.{old_item_or_new, old_item_kept, added_apart, added_placed, placed_without_slot}
+use Rattle.sim_queue.proofs.Joined.{length-joined, joined_at, joined_with_empty_first, joined_after_put_in_first, joined_after_drop_in_first, joined_after_set_in_second}
+use Rattle.sim_queue.proofs.Swapping.{nat_equal_or_not}
+use Rattle.sim_queue.proofs.Weak.{before_asymmetric, through}
 
 module _ {K : Type 0} (before : K → K → Bool) (laws : IsOrder before) (run : List (Item K)) (heap : List (Option K)) (is : IsRun before run heap) where
   abbrev in_run : List (Option K)
   in_run = placed (length heap) run
 
-  each : length in_run ≡ length heap
-  each = length-placed (length heap) run
+  placed_run_length : length in_run ≡ length heap
+  placed_run_length = length-placed (length heap) run
 
   pub length-with_run : length (with_run run heap) ≡ length heap
-  length-with_run = length-joined in_run heap each
+  length-with_run = length-joined in_run heap placed_run_length
 
-  here : (slot : ℕ) → key_at (with_run run heap) slot ≡ either (key_at in_run slot) (key_at heap slot)
-  here = joined_at in_run heap each
+  with_run_at_slot : (slot : ℕ) → key_at (with_run run heap) slot ≡ either (key_at in_run slot) (key_at heap slot)
+  with_run_at_slot = joined_at in_run heap placed_run_length
 
-  pub run_has : (place : ℕ) (x : Item K) → slice_get run place ≡ Some x → key_at (with_run run heap) x.slot ≡ Some x.key
-  run_has place x e = here x.slot ∙ ap (λ o. either o (key_at heap x.slot)) (keeps (length heap) run is.apart place x e)
+  pub run_item_has_key : (place : ℕ) (x : Item K) → slice_get run place ≡ Some x → key_at (with_run run heap) x.slot ≡ Some x.key
+  run_item_has_key place x e = with_run_at_slot x.slot ∙ ap (λ o. either o (key_at heap x.slot)) (item_has_its_key (length heap) run is.apart place x e)
 
   pub not_in_run : (slot : ℕ) (k : K) → key_at heap slot ≡ Some k → key_at in_run slot ≡ None
   not_in_run slot k e = go (key_at in_run slot) refl
@@ -37,22 +37,22 @@ module _ {K : Type 0} (before : K → K → Bool) (laws : IsOrder before) (run :
       go : (a : Option K) → key_at in_run slot ≡ a → key_at in_run slot ≡ None
       go None f = f
       go (Some j) f =
-          let there = held (length heap) run slot j f in
+          let there = key_belongs_to_item (length heap) run slot j f in
           let none : key_at heap slot ≡ None = is.beside there.0 (item_of slot j) there.1 in
           absurd (cc)
 
-  pub heap_has : (slot : ℕ) (k : K) → key_at heap slot ≡ Some k → key_at (with_run run heap) slot ≡ Some k
-  heap_has slot k e = here slot ∙ ap (λ o. either o (key_at heap slot)) (not_in_run slot k e) ∙ e
+  pub heap_key_is_seen : (slot : ℕ) (k : K) → key_at heap slot ≡ Some k → key_at (with_run run heap) slot ≡ Some k
+  heap_key_is_seen slot k e = with_run_at_slot slot ∙ ap (λ o. either o (key_at heap slot)) (not_in_run slot k e) ∙ e
 
   -- a key belongs to an item of the run, or is in the heap
-  pub found : (slot : ℕ) (k : K) → key_at (with_run run heap) slot ≡ Some k → Holds run (item_of slot k) ⊎ (key_at heap slot ≡ Some k)
-  found slot k e = go (key_at in_run slot) refl
+  pub key_in_run_or_heap : (slot : ℕ) (k : K) → key_at (with_run run heap) slot ≡ Some k → Holds run (item_of slot k) ⊎ (key_at heap slot ≡ Some k)
+  key_in_run_or_heap slot k e = go (key_at in_run slot) refl
     where
       go : (a : Option K) → key_at in_run slot ≡ a → Holds run (item_of slot k) ⊎ (key_at heap slot ≡ Some k)
       go (Some j) f =
-          let same : Some j ≡ Some k = sym (here slot ∙ ap (λ o. either o (key_at heap slot)) f) ∙ e in
-          inl (held (length heap) run slot k (f ∙ same))
-      go None f = inr (sym (here slot ∙ ap (λ o. either o (key_at heap slot)) f) ∙ e)
+          let same : Some j ≡ Some k = sym (with_run_at_slot slot ∙ ap (λ o. either o (key_at heap slot)) f) ∙ e in
+          inl (key_belongs_to_item (length heap) run slot k (f ∙ same))
+      go None f = inr (sym (with_run_at_slot slot ∙ ap (λ o. either o (key_at heap slot)) f) ∙ e)
 
   pub free_in_run : (slot : ℕ) → key_at (with_run run heap) slot ≡ None → key_at in_run slot ≡ None
   free_in_run slot e = go (key_at in_run slot) refl
@@ -60,12 +60,12 @@ module _ {K : Type 0} (before : K → K → Bool) (laws : IsOrder before) (run :
       go : (a : Option K) → key_at in_run slot ≡ a → key_at in_run slot ≡ None
       go None f = f
       go (Some j) f =
-          let has : key_at (with_run run heap) slot ≡ Some j = here slot ∙ ap (λ o. either o (key_at heap slot)) f in
+          let has : key_at (with_run run heap) slot ≡ Some j = with_run_at_slot slot ∙ ap (λ o. either o (key_at heap slot)) f in
           absurd (cc)
 
   pub free_in_heap : (slot : ℕ) → key_at (with_run run heap) slot ≡ None → key_at heap slot ≡ None
   free_in_heap slot e =
-      sym (here slot ∙ ap (λ o. either o (key_at heap slot)) (free_in_run slot e)) ∙ e
+      sym (with_run_at_slot slot ∙ ap (λ o. either o (key_at heap slot)) (free_in_run slot e)) ∙ e
 
   -- a slot without a key is not one of the run
   pub run_fits : (x : Item K) → x.slot < length heap → key_at (with_run run heap) x.slot ≡ None → length run < length heap
@@ -76,8 +76,8 @@ module _ {K : Type 0} (before : K → K → Bool) (laws : IsOrder before) (run :
   -- the first of the run is the least
   pub least_of_run : (r : IsRunFirst before run heap) → IsLeast before (with_run run heap) r.first.slot r.first.key
   least_of_run r = record {
-    has = run_has 0 r.first r.stands;
-    least = λ other k e. go other k (found other k e);
+    has = run_item_has_key 0 r.first r.stands;
+    least = λ other k e. go other k (key_in_run_or_heap other k e);
   }
     where
       go : (other : ℕ) (k : K) → Holds run (item_of other k) ⊎ (key_at heap other ≡ Some k) → before k r.first.key ≡ false
@@ -90,8 +90,8 @@ module _ {K : Type 0} (before : K → K → Bool) (laws : IsOrder before) (run :
   -- the least of the heap is the least
   pub least_of_heap : IsHeapFirst before run heap → (slot : ℕ) (key : K) → IsLeast before heap slot key → IsLeast before (with_run run heap) slot key
   least_of_heap first slot key least = record {
-    has = heap_has slot key least.has;
-    least = λ other k e. go other k (found other k e);
+    has = heap_key_is_seen slot key least.has;
+    least = λ other k e. go other k (key_in_run_or_heap other k e);
   }
     where
       go : (other : ℕ) (k : K) → Holds run (item_of other k) ⊎ (key_at heap other ≡ Some k) → before k key ≡ false
@@ -113,25 +113,25 @@ module _ {K : Type 0} (before : K → K → Bool) (laws : IsOrder before) (run :
 
       go : (a : Option K) → key_at (with_run run heap) slot ≡ a → key_at (with_run run heap) slot ≡ None
       go None e = e
-      go (Some k) e = absurd (none k (found slot k e))
+      go (Some k) e = absurd (none k (key_in_run_or_heap slot k e))
 
   pub not_empty_run : IsRunFirst before run heap → IsEmptyMap (with_run run heap) → ⊥
   not_empty_run r empty =
-      let has = run_has 0 r.first r.stands in
+      let has = run_item_has_key 0 r.first r.stands in
       let no = empty r.first.slot in
       absurd (cc)
 
   -- the slot that is taken belongs to the first of the run
   pub sole_in_run : (r : IsRunFirst before run heap) (slot : ℕ) → IsSoleLeast before (with_run run heap) slot → r.first.slot ≡ slot
   sole_in_run r slot sole =
-      elim (sole.first r.first.slot r.first.key (run_has 0 r.first r.stands)) [ inl e ↦ e | inr b ↦ (let no = (least_of_run r).least slot sole.key sole.has in absurd (cc)) ]
+      elim (sole.first r.first.slot r.first.key (run_item_has_key 0 r.first r.stands)) [ inl e ↦ e | inr b ↦ (let no = (least_of_run r).least slot sole.key sole.has in absurd (cc)) ]
 
   -- or one of the heap
   pub sole_in_heap : IsHeapFirst before run heap → (slot : ℕ) → IsSoleLeast before (with_run run heap) slot → IsSoleLeast before heap slot
   sole_in_heap first slot sole = record {
     key = sole.key;
-    has = go (found slot sole.key sole.has);
-    first = λ other k e. sole.first other k (heap_has other k e);
+    has = go (key_in_run_or_heap slot sole.key sole.has);
+    first = λ other k e. sole.first other k (heap_key_is_seen other k e);
   }
     where
       go : Holds run (item_of slot sole.key) ⊎ (key_at heap slot ≡ Some sole.key) → key_at heap slot ≡ Some sole.key
@@ -141,32 +141,32 @@ module _ {K : Type 0} (before : K → K → Bool) (laws : IsOrder before) (run :
           let none : key_at heap slot ≡ None = is.beside there.0 (item_of slot sole.key) there.1 in
           let has = one.has in
           let late = one.first in
-          elim (sole.first one.slot one.key (heap_has one.slot one.key one.has)) [
+          elim (sole.first one.slot one.key (heap_key_is_seen one.slot one.key one.has)) [
             | inl s ↦ (let there : key_at heap slot ≡ Some one.key = ap (key_at heap) (sym s) ∙ has in absurd (cc))
             | inr b ↦ absurd (cc)
           ]
 
   -- what a slot outside the run has in the heap is changed
   module _ (slot : ℕ) (value : Option K) (free : key_at in_run slot ≡ None) where
-    same_long : length (slice_set heap slot value) ≡ length heap
-    same_long = length-set heap slot value
+    heap_length_unchanged : length (slice_set heap slot value) ≡ length heap
+    heap_length_unchanged = length-set heap slot value
 
-    other_slot : (place : ℕ) (x : Item K) → slice_get run place ≡ Some x → x.slot ≢ slot
-    other_slot place x e s =
-        let has : key_at in_run slot ≡ Some x.key = ap (key_at in_run) (sym s) ∙ keeps (length heap) run is.apart place x e in
+    run_slots_differ : (place : ℕ) (x : Item K) → slice_get run place ≡ Some x → x.slot ≢ slot
+    run_slots_differ place x e s =
+        let has : key_at in_run slot ≡ Some x.key = ap (key_at in_run) (sym s) ∙ item_has_its_key (length heap) run is.apart place x e in
         absurd (cc)
 
     pub changed_run : IsRun before run (slice_set heap slot value)
     changed_run = record {
-      few = omega (arith, is.few, same_long);
-      apart = subst (λ n. AreApart n run) (sym same_long) is.apart;
-      beside = λ place x e. get_or-set_other heap slot x.slot value None (other_slot place x e) ∙ is.beside place x e;
+      few = omega (arith, is.few, heap_length_unchanged);
+      apart = subst (λ n. AreApart n run) (sym heap_length_unchanged) is.apart;
+      beside = λ place x e. get_or-set_other heap slot x.slot value None (run_slots_differ place x e) ∙ is.beside place x e;
       in_order = is.in_order;
     }
 
     pub changed_keys : with_run run (slice_set heap slot value) ≡ slice_set (with_run run heap) slot value
     changed_keys =
-        ap (λ n. joined (placed n run) (slice_set heap slot value)) same_long ∙ set_second in_run heap each slot value free
+        ap (λ n. joined (placed n run) (slice_set heap slot value)) heap_length_unchanged ∙ joined_after_set_in_second in_run heap placed_run_length slot value free
 
     -- where it had no key
     pub still_heap_first : key_at heap slot ≡ None → IsHeapFirst before run heap → IsHeapFirst before run (slice_set heap slot value)
@@ -178,15 +178,15 @@ module _ {K : Type 0} (before : K → K → Bool) (laws : IsOrder before) (run :
 
   -- an item is appended to the run
   module _ (x : Item K) (slot_in : x.slot < length heap) (free : key_at (with_run run heap) x.slot ≡ None) (behind : IsBehind before run x) where
-    abbrev more : List (Item K)
-    more = run ++ x ∷ []
+    abbrev run_with_new_last : List (Item K)
+    run_with_new_last = run ++ x ∷ []
 
-    pub added_run : IsRun before more heap
+    pub added_run : IsRun before run_with_new_last heap
     added_run = record {
       few = is.few;
       apart = added_apart run x (length heap) is.apart slot_in (free_in_run x.slot free);
-      beside = λ place y e. elim (at_end run x place y e) [ inl p ↦ is.beside place y p.1 | inr p ↦ subst (λ (z : Item K). key_at heap z.slot ≡ None) p.1 (free_in_heap x.slot free) ];
-      in_order = λ one other y z h e f. go one other y z h (at_end run x one y e) (at_end run x other z f);
+      beside = λ place y e. elim (old_item_or_new run x place y e) [ inl p ↦ is.beside place y p.1 | inr p ↦ subst (λ (z : Item K). key_at heap z.slot ≡ None) p.1 (free_in_heap x.slot free) ];
+      in_order = λ one other y z h e f. go one other y z h (old_item_or_new run x one y e) (old_item_or_new run x other z f);
     }
       where
         go : (one other : ℕ) (y z : Item K) → one < other → ((one < length run) × (slice_get run one ≡ Some y)) ⊎ ((one ≡ length run) × (x ≡ y)) → ((other < length run) × (slice_get run other ≡ Some z)) ⊎ ((other ≡ length run) × (x ≡ z)) → before z.key y.key ≡ false
@@ -195,15 +195,15 @@ module _ {K : Type 0} (before : K → K → Bool) (laws : IsOrder before) (run :
         go one other y z h (inr p) (inl q) = absurd (omega (arith, h, p.0, q.0))
         go one other y z h (inr p) (inr q) = absurd (omega (arith, h, p.0, q.0))
 
-    pub added_keys : with_run more heap ≡ slice_set (with_run run heap) x.slot (Some x.key)
+    pub added_keys : with_run run_with_new_last heap ≡ slice_set (with_run run heap) x.slot (Some x.key)
     added_keys =
-        ap (λ ks. joined ks heap) (added_placed run x (length heap) is.apart slot_in (free_in_run x.slot free)) ∙ put_first in_run heap each x.slot x.key
+        ap (λ ks. joined ks heap) (added_placed run x (length heap) is.apart slot_in (free_in_run x.slot free)) ∙ joined_after_put_in_first in_run heap placed_run_length x.slot x.key
 
-    pub run_still_first : IsRunFirst before run heap → IsRunFirst before more heap
-    run_still_first r = record { first = r.first; stands = still_there run x 0 r.first r.stands; least = r.least }
+    pub run_still_first : IsRunFirst before run heap → IsRunFirst before run_with_new_last heap
+    run_still_first r = record { first = r.first; stands = old_item_kept run x 0 r.first r.stands; least = r.least }
 
-    pub heap_still_first : (y : Item K) → slice_get run 0 ≡ Some y → IsHeapFirst before run heap → IsHeapFirst before more heap
-    heap_still_first y stands first place z e = go (at_end run x place z e)
+    pub heap_still_first : (y : Item K) → slice_get run 0 ≡ Some y → IsHeapFirst before run heap → IsHeapFirst before run_with_new_last heap
+    heap_still_first y stands first place z e = go (old_item_or_new run x place z e)
       where
         go : ((place < length run) × (slice_get run place ≡ Some z)) ⊎ ((place ≡ length run) × (x ≡ z)) → HasOneFirst before heap z
         go (inl p) = first place z p.1
@@ -213,57 +213,57 @@ module _ {K : Type 0} (before : K → K → Bool) (laws : IsOrder before) (run :
             (record { slot = one.slot; key = one.key; has = one.has; first = through before laws x.key y.key one.key (behind 0 y stands) one.first })
 
   -- an item is put before the first of the run
-  pub led_in_order : (x : Item K) → IsAhead before run x → AreInOrder before (x ∷ run)
-  led_in_order x ahead zero zero y z h e f = absurd (omega (arith, h))
-  led_in_order x ahead zero (suc other) y z h e f = subst (λ (w : Item K). before z.key w.key ≡ false) (same_Some x y e) (ahead other z f)
-  led_in_order x ahead (suc one) zero y z h e f = absurd (omega (arith, h))
-  led_in_order x ahead (suc one) (suc other) y z h e f = is.in_order one other y z (omega (arith, h)) e f
+  pub new_first_in_order : (x : Item K) → IsAhead before run x → AreInOrder before (x ∷ run)
+  new_first_in_order x ahead zero zero y z h e f = absurd (omega (arith, h))
+  new_first_in_order x ahead zero (suc other) y z h e f = subst (λ (w : Item K). before z.key w.key ≡ false) (same_Some x y e) (ahead other z f)
+  new_first_in_order x ahead (suc one) zero y z h e f = absurd (omega (arith, h))
+  new_first_in_order x ahead (suc one) (suc other) y z h e f = is.in_order one other y z (omega (arith, h)) e f
 
   module _ (x : Item K) (slot_in : x.slot < length heap) (free : key_at (with_run run heap) x.slot ≡ None) where
-    abbrev led : List (Item K)
-    led = x ∷ run
+    abbrev run_with_new_first : List (Item K)
+    run_with_new_first = x ∷ run
 
-    not_there : (place : ℕ) (y : Item K) → slice_get run place ≡ Some y → y.slot ≢ x.slot
-    not_there place y e s =
-        let has : key_at in_run x.slot ≡ Some y.key = ap (key_at in_run) (sym s) ∙ keeps (length heap) run is.apart place y e in
+    new_slot_not_in_run : (place : ℕ) (y : Item K) → slice_get run place ≡ Some y → y.slot ≢ x.slot
+    new_slot_not_in_run place y e s =
+        let has : key_at in_run x.slot ≡ Some y.key = ap (key_at in_run) (sym s) ∙ item_has_its_key (length heap) run is.apart place y e in
         let none = free_in_run x.slot free in
         absurd (cc)
 
-    pub led_apart : AreApart (length heap) led
-    led_apart = record { within = within; apart = apart }
+    pub new_first_apart : AreApart (length heap) run_with_new_first
+    new_first_apart = record { within = within; apart = apart }
       where
-        within : (place : ℕ) (y : Item K) → slice_get led place ≡ Some y → y.slot < length heap
+        within : (place : ℕ) (y : Item K) → slice_get run_with_new_first place ≡ Some y → y.slot < length heap
         within zero y e = subst (λ (z : Item K). z.slot < length heap) (same_Some x y e) slot_in
         within (suc place) y e = is.apart.within place y e
 
-        apart : (one other : ℕ) (y z : Item K) → slice_get led one ≡ Some y → slice_get led other ≡ Some z → y.slot ≡ z.slot → one ≡ other
+        apart : (one other : ℕ) (y z : Item K) → slice_get run_with_new_first one ≡ Some y → slice_get run_with_new_first other ≡ Some z → y.slot ≡ z.slot → one ≡ other
         apart zero zero y z e f s = refl
-        apart zero (suc other) y z e f s = absurd (not_there other z f (sym s ∙ ap (λ (w : Item K). w.slot) (sym (same_Some x y e))))
-        apart (suc one) zero y z e f s = absurd (not_there one y e (s ∙ ap (λ (w : Item K). w.slot) (sym (same_Some x z f))))
+        apart zero (suc other) y z e f s = absurd (new_slot_not_in_run other z f (sym s ∙ ap (λ (w : Item K). w.slot) (sym (same_Some x y e))))
+        apart (suc one) zero y z e f s = absurd (new_slot_not_in_run one y e (s ∙ ap (λ (w : Item K). w.slot) (sym (same_Some x z f))))
         apart (suc one) (suc other) y z e f s = ap suc (is.apart.apart one other y z e f s)
 
-    pub led_keys : with_run led heap ≡ slice_set (with_run run heap) x.slot (Some x.key)
+    pub new_first_keys : with_run run_with_new_first heap ≡ slice_set (with_run run heap) x.slot (Some x.key)
     unfolding placed
-    led_keys = put_first in_run heap each x.slot x.key
+    new_first_keys = joined_after_put_in_first in_run heap placed_run_length x.slot x.key
 
     module _ (ahead : IsAhead before run x) where
-      pub led_run : IsRun before led heap
-      led_run = record { few = is.few; apart = led_apart; beside = beside; in_order = led_in_order x ahead }
+      pub new_first_run : IsRun before run_with_new_first heap
+      new_first_run = record { few = is.few; apart = new_first_apart; beside = beside; in_order = new_first_in_order x ahead }
         where
-          beside : (place : ℕ) (y : Item K) → slice_get led place ≡ Some y → key_at heap y.slot ≡ None
+          beside : (place : ℕ) (y : Item K) → slice_get run_with_new_first place ≡ Some y → key_at heap y.slot ≡ None
           beside zero y e = subst (λ (z : Item K). key_at heap z.slot ≡ None) (same_Some x y e) (free_in_heap x.slot free)
           beside (suc place) y e = is.beside place y e
 
-      pub led_first : IsRunFirst before run heap → IsRunFirst before led heap
-      led_first r = record {
+      pub new_first_is_first : IsRunFirst before run heap → IsRunFirst before run_with_new_first heap
+      new_first_is_first r = record {
         first = x;
         stands = refl;
         least = λ slot k e. through before laws k r.first.key x.key (r.least slot k e) (ahead 0 r.first r.stands);
       }
 
     -- it goes into the heap, since it is not before the first
-    pub among_first : IsNotAhead before run x → IsRunFirst before run heap → IsRunFirst before run (slice_set heap x.slot (Some x.key))
-    among_first late r = record { first = r.first; stands = r.stands; least = λ slot k e. go slot k e (same_or_not slot x.slot) }
+    pub first_after_heap_put : IsNotAhead before run x → IsRunFirst before run heap → IsRunFirst before run (slice_set heap x.slot (Some x.key))
+    first_after_heap_put late r = record { first = r.first; stands = r.stands; least = λ slot k e. go slot k e (nat_equal_or_not slot x.slot) }
       where
         go : (slot : ℕ) (k : K) → key_at (slice_set heap x.slot (Some x.key)) slot ≡ Some k → (slot ≡ x.slot) ⊎ (slot ≢ x.slot) → before k r.first.key ≡ false
         go slot k e (inl s) =
@@ -273,18 +273,18 @@ module _ {K : Type 0} (before : K → K → Bool) (laws : IsOrder before) (run :
 
 -- the first item leaves the run
 module _ {K : Type 0} (before : K → K → Bool) (laws : IsOrder before) (x : Item K) (rest : List (Item K)) (heap : List (Option K)) (is : IsRun before (x ∷ rest) heap) where
-  pub left_run : IsRun before rest heap
-  left_run = record {
+  pub run_without_first : IsRun before rest heap
+  run_without_first = record {
     few = is.few;
-    apart = tail_apart (length heap) x rest is.apart;
+    apart = apart_without_head (length heap) x rest is.apart;
     beside = λ place y e. is.beside (suc place) y e;
     in_order = λ one other y z h e f. is.in_order (suc one) (suc other) y z (omega (arith, h)) e f;
   }
 
-  pub left_keys : with_run rest heap ≡ slice_set (with_run (x ∷ rest) heap) x.slot None
-  left_keys =
-      ap (λ ks. joined ks heap) (without (length heap) (x ∷ rest) rest x.slot is.apart left_run.apart (is.apart.within 0 x refl) from to)
-      ∙ drop_first (placed (length heap) (x ∷ rest)) heap (length-placed (length heap) (x ∷ rest)) x.slot (is.beside 0 x refl)
+  pub keys_without_first : with_run rest heap ≡ slice_set (with_run (x ∷ rest) heap) x.slot None
+  keys_without_first =
+      ap (λ ks. joined ks heap) (placed_without_slot (length heap) (x ∷ rest) rest x.slot is.apart run_without_first.apart (is.apart.within 0 x refl) from to)
+      ∙ joined_after_drop_in_first (placed (length heap) (x ∷ rest)) heap (length-placed (length heap) (x ∷ rest)) x.slot (is.beside 0 x refl)
     where
       from : (y : Item K) → Holds rest y → Holds (x ∷ rest) y × (y.slot ≢ x.slot)
       from y h =
@@ -307,7 +307,7 @@ module _ {K : Type 0} (before : K → K → Bool) (laws : IsOrder before) (run :
   heap_is_first in_order first stands slot top least early place x e = record { slot = slot; key = top; has = least.has; first = go place e }
     where
       late : before first.key top ≡ false
-      late = not_both before laws top first.key early
+      late = before_asymmetric before laws top first.key early
 
       go : (at : ℕ) → slice_get run at ≡ Some x → before x.key top ≡ false
       go zero f = subst (λ (y : Item K). before y.key top ≡ false) (same_Some first x (sym stands ∙ f)) late
@@ -316,8 +316,8 @@ module _ {K : Type 0} (before : K → K → Bool) (laws : IsOrder before) (run :
 -- an item after a run
 module _ {K : Type 0} (before : K → K → Bool) (laws : IsOrder before) (run : List (Item K)) where
   -- an item that is not before the last is before none
-  pub behind_last : AreInOrder before run → (last x : Item K) → slice_get run (length run - 1) ≡ Some last → before x.key last.key ≡ false → IsBehind before run x
-  behind_last in_order last x stands late place y e = go (same_or_not place (length run - 1))
+  pub behind_if_not_before_last : AreInOrder before run → (last x : Item K) → slice_get run (length run - 1) ≡ Some last → before x.key last.key ≡ false → IsBehind before run x
+  behind_if_not_before_last in_order last x stands late place y e = go (nat_equal_or_not place (length run - 1))
     where
       within : place < length run
       within = slice_get_within run place y e
@@ -327,48 +327,48 @@ module _ {K : Type 0} (before : K → K → Bool) (laws : IsOrder before) (run :
       go (inr n) = through before laws x.key last.key y.key late (in_order place (length run - 1) y last (omega (arith, within, n)) e stands)
 
   -- an item that is before the first is before all
-  pub ahead_of_first : AreInOrder before run → (first x : Item K) → slice_get run 0 ≡ Some first → before x.key first.key ≡ true → IsAhead before run x
-  ahead_of_first in_order first x stands early place y e = go place e
+  pub ahead_if_before_first : AreInOrder before run → (first x : Item K) → slice_get run 0 ≡ Some first → before x.key first.key ≡ true → IsAhead before run x
+  ahead_if_before_first in_order first x stands early place y e = go place e
     where
       late : before first.key x.key ≡ false
-      late = not_both before laws x.key first.key early
+      late = before_asymmetric before laws x.key first.key early
 
       go : (at : ℕ) → slice_get run at ≡ Some y → before y.key x.key ≡ false
       go zero f = subst (λ (z : Item K). before z.key x.key ≡ false) (same_Some first y (sym stands ∙ f)) late
       go (suc at) f = through before laws y.key first.key x.key (in_order 0 (suc at) first y (omega arith) stands f) late
 
-  pub not_ahead_of_first : (first x : Item K) → slice_get run 0 ≡ Some first → before x.key first.key ≡ false → IsNotAhead before run x
-  not_ahead_of_first first x stands late y e = subst (λ (z : Item K). before x.key z.key ≡ false) (same_Some first y (sym stands ∙ e)) late
+  pub not_ahead_if_not_before_first : (first x : Item K) → slice_get run 0 ≡ Some first → before x.key first.key ≡ false → IsNotAhead before run x
+  not_ahead_if_not_before_first first x stands late y e = subst (λ (z : Item K). before x.key z.key ≡ false) (same_Some first y (sym stands ∙ e)) late
 
-  pub ahead_of_none : (x : Item K) → length run ≡ 0 → IsAhead before run x
-  ahead_of_none x none place y e = let within = slice_get_within run place y e in absurd (omega (arith, within, none))
+  pub ahead_of_empty_run : (x : Item K) → length run ≡ 0 → IsAhead before run x
+  ahead_of_empty_run x none place y e = let within = slice_get_within run place y e in absurd (omega (arith, within, none))
 
 -- the run is empty
 module _ {K : Type 0} (before : K → K → Bool) (heap : List (Option K)) where
   pub no_run_keys : with_run [] heap ≡ heap
   unfolding placed
-  no_run_keys = nothing_first heap
+  no_run_keys = joined_with_empty_first heap
 
 module _ {K : Type 0} where
   -- a list with a first item
-  pub with_first : (run : List (Item K)) (x : Item K) → slice_get run 0 ≡ Some x → run ≡ x ∷ drop 1 run
-  with_first [] x e = absurd (cc)
-  with_first (y ∷ run) x e = ap (λ z. z ∷ run) (same_Some y x e)
+  pub run_from_first : (run : List (Item K)) (x : Item K) → slice_get run 0 ≡ Some x → run ≡ x ∷ drop 1 run
+  run_from_first [] x e = absurd (cc)
+  run_from_first (y ∷ run) x e = ap (λ z. z ∷ run) (same_Some y x e)
 
-  pub some_first : (run : List (Item K)) → 0 < length run → (x : Item K) × (slice_get run 0 ≡ Some x)
-  some_first [] h = absurd (omega (arith, h))
-  some_first (x ∷ run) h = (x, refl)
+  pub first_of_nonempty : (run : List (Item K)) → 0 < length run → (x : Item K) × (slice_get run 0 ≡ Some x)
+  first_of_nonempty [] h = absurd (omega (arith, h))
+  first_of_nonempty (x ∷ run) h = (x, refl)
 
 -- the opposite of a test
-pub untrue : (b : Bool) → not b ≡ true → b ≡ false
-untrue false e = refl
-untrue true e = absurd (cc)
+pub not_true_is_false : (b : Bool) → not b ≡ true → b ≡ false
+not_true_is_false false e = refl
+not_true_is_false true e = absurd (cc)
 
-pub unfalse : (b : Bool) → not b ≡ false → b ≡ true
-unfalse true e = refl
-unfalse false e = absurd (cc)
+pub not_false_is_true : (b : Bool) → not b ≡ false → b ≡ true
+not_false_is_true true e = refl
+not_false_is_true false e = absurd (cc)
 
 -- with two slots or more, another comparison is within the bound
-pub some_steps : (k : ℕ) → 2 ≤ 2 ^ k → 1 ≤ k
-some_steps zero h = absurd (omega (arith, h))
-some_steps (suc k) h = omega arith
+pub one_step_allowed : (k : ℕ) → 2 ≤ 2 ^ k → 1 ≤ k
+one_step_allowed zero h = absurd (omega (arith, h))
+one_step_allowed (suc k) h = omega arith

@@ -11,24 +11,24 @@ module _ {K : Type 0} (before : K → K → Bool) (laws : IsOrder before) (keys 
   pub past_end : (slot : ℕ) → length keys ≤ slot → key_at keys slot ≡ None
   past_end slot h = get_or_past keys slot None h
 
-  pub all_none : IsBestBelow before keys (length keys) None → IsEmptyMap keys
-  all_none h slot = elim (cases_order slot (length keys)) [ inl e ↦ past_end slot (omega (arith, e)) | inr (inl p) ↦ h slot p | inr (inr p) ↦ past_end slot (omega (arith, p)) ]
+  pub nothing_below_end_is_empty : IsBestBelow before keys (length keys) None → IsEmptyMap keys
+  nothing_below_end_is_empty h slot = elim (cases_order slot (length keys)) [ inl e ↦ past_end slot (omega (arith, e)) | inr (inl p) ↦ h slot p | inr (inr p) ↦ past_end slot (omega (arith, p)) ]
 
-  pub all_some : (r : ℕ × K) → IsBestBelow before keys (length keys) (Some r) → IsLeast before keys r.0 r.1
-  all_some r h = record {
+  pub best_below_end_is_least : (r : ℕ × K) → IsBestBelow before keys (length keys) (Some r) → IsLeast before keys r.0 r.1
+  best_below_end_is_least r h = record {
     has = h.has;
     least = λ other k e. elim (cases_order other (length keys)) [ inl f ↦ let g : key_at keys other ≡ None = past_end other (omega (arith, f)) in absurd (cc) | inr (inl p) ↦ h.least other k p e | inr (inr p) ↦ let g : key_at keys other ≡ None = past_end other (omega (arith, p)) in absurd (cc) ];
   }
 
   pub none_where_empty : (best : Option (ℕ × K)) → IsBestBelow before keys (length keys) best → IsNone best ↔ IsEmptyMap keys
-  none_where_empty None h = (λ _. all_none h, λ _. refl)
+  none_where_empty None h = (λ _. nothing_below_end_is_empty h, λ _. refl)
   none_where_empty (Some r) h = (λ n. absurd (cc), λ empty. let g : key_at keys r.0 ≡ None = empty r.0 in let has : key_at keys r.0 ≡ Some r.1 = h.has in absurd (cc))
 
   pub least_where_some : (best : Option (ℕ × K)) → IsBestBelow before keys (length keys) best → IfSome best (λ r. IsLeast before keys r.0 r.1)
   least_where_some None h = tt
-  least_where_some (Some r) h = all_some r h
+  least_where_some (Some r) h = best_below_end_is_least r h
 
 -- the scan has reached the end of the same list
-pub scanned : {K : Type 0} (before : K → K → Bool) (keys scanned_keys : List (Option K)) (n : ℕ) (best : Option (ℕ × K)) → scanned_keys ≡ keys → n ≡ length scanned_keys → IsBestBelow before scanned_keys n best → IsBestBelow before keys (length keys) best
-scanned before keys scanned_keys n best e f h =
+pub scan_at_end : {K : Type 0} (before : K → K → Bool) (keys scanned_keys : List (Option K)) (n : ℕ) (best : Option (ℕ × K)) → scanned_keys ≡ keys → n ≡ length scanned_keys → IsBestBelow before scanned_keys n best → IsBestBelow before keys (length keys) best
+scan_at_end before keys scanned_keys n best e f h =
     subst (λ xs. IsBestBelow before xs (length xs) best) e (subst (λ i. IsBestBelow before scanned_keys i best) f h)

@@ -11,7 +11,7 @@ use Rattle.sim_queue.specs.declared.home.PlaceInGroup.{PlaceInGroup}
 use Rattle.sim_queue.specs.Map.{key_at, no_keys}
 use Rattle.sim_queue.specs.Groups.{Grouped, IsHoused, AreHomes, heap_at, with_key, key_of_home, group_of_home, grouped}
 use Rattle.sim_stations.specs.AtSlots.{AreCounts, AreHousedAtSlots, at_home, homes_at_slots, grouped_at_slots}
-use Rattle.sim_queue.proofs.ForCallers.{changed, still_housed}
+use Rattle.sim_queue.proofs.ForCallers.{grouped_after_change, housed_after_change}
 use Rattle.sim_queue.proofs.ForCallers.{empty_housed, empty_grouped}
 use Rattle.sim_stations.proofs.Rooms.{AreOnlyOf, keys_below}
 
@@ -91,14 +91,14 @@ module _ {K : Type 0} (groups : List ℕ) (maps : List (List (Option K))) (rooms
 
     pub housed_after : AreHousedAtSlots groups maps_now rooms
     housed_after = record {
-      housed = still_housed homes maps are.housed slot (at_home group slot) home_there value (heap_at maps group) (set (heap_at maps group) slot value) refl refl;
+      housed = housed_after_change homes maps are.housed slot (at_home group slot) home_there value (heap_at maps group) (set (heap_at maps group) slot value) refl refl;
       each = are.each ∙ sym (length-set maps group (set (heap_at maps group) slot value));
       counted = are.counted;
     }
 
     pub grouped_after : grouped_at_slots groups maps_now ≡ record { keys = set (grouped_at_slots groups maps).keys slot value; groups = groups }
     grouped_after i = record {
-      keys = ap (λ (q : Grouped K). q.keys) (changed homes maps are.housed slot (at_home group slot) home_there value (heap_at maps group) (set (heap_at maps group) slot value) refl refl) i;
+      keys = ap (λ (q : Grouped K). q.keys) (grouped_after_change homes maps are.housed slot (at_home group slot) home_there value (heap_at maps group) (set (heap_at maps group) slot value) refl refl) i;
       groups = groups;
     }
 

@@ -10,7 +10,7 @@ use Rattle.sim_queue.specs.Heap.{keys_of, IsSlotHeap}
 use Rattle.sim_queue.specs.Item.{Item}
 use Rattle.sim_queue.specs.Map.{key_at, no_keys}
 use Rattle.sim_queue.specs.TopHeap.{placed}
-use Rattle.sim_queue.proofs.ForCallers.{none_of, none_there}
+use Rattle.sim_queue.proofs.ForCallers.{none_of, no_keys_at_any_place}
 use Rattle.sim_stations.specs.declared.parts.Part.{Part}
 use Rattle.sim_stations.specs.Parts.{room_of, places_of, keyed_of, map_of_slots, maps_of_slots, map_of_items, maps_of_items, roomed, ArePacked, AreWithoutKeys, IsInOrder, AreSlotHeaps, AreItemHeaps}
 use Rattle.sim_stations.proofs.InParts.{put_mid, length-places, part_written, places_elsewhere}
@@ -65,7 +65,7 @@ module _ (parts : List Part) (size : ℕ) (packed : ArePacked parts size) (none 
     slots_none =
         maps_none (map_of_slots sorted places) parts
         (λ group part at.
-        ap (λ ks. keys_of ks (places_of places part)) (keyed_none sorted part (none group part at)) ∙ none_there (places_of places part) part.room (places_long group part at places places_each))
+        ap (λ ks. keys_of ks (places_of places part)) (keyed_none sorted part (none group part at)) ∙ no_keys_at_any_place (places_of places part) part.room (places_long group part at places places_each))
         ∙ ap (map (no_keys {K = Timed})) rooms
 
     -- a heap without a key
@@ -84,7 +84,7 @@ module _ (parts : List Part) (size : ℕ) (packed : ArePacked parts size) (none 
         few = omega (arith, long, few);
         room = omega arith;
         keyed = λ place h. absurd (omega (arith, h));
-        absent = λ place h k. ap (λ ks. key_at ks (slice_index xs place)) (none_there {K = Timed} ys room also) ∙ none_of {K = Timed} room (slice_index xs place);
+        absent = λ place h k. ap (λ ks. key_at ks (slice_index xs place)) (no_keys_at_any_place {K = Timed} ys room also) ∙ none_of {K = Timed} room (slice_index xs place);
         ordered = λ place child is_child h. absurd (omega (arith, h));
       };
     }

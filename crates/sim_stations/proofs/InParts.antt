@@ -6,7 +6,7 @@ use Rattle.std.proofs.lemmas.List.{length-drop, length-take-le, length-append, t
 use Rattle.std.proofs.lemmas.Option.{same_Some, slice_get-get_or, slice_get_within, get_or_from_slice_get}
 use Rattle.std.proofs.lemmas.Slice.{between_is, take-put_mid_below, drop-put_mid}
 pub use borrow.Rule.Slice.PartMut.{put_mid, post_of}
-use Rattle.sim_queue.proofs.ForCallers.{get_added, get_before_added, get_set_same, get_set_other}
+use Rattle.sim_queue.proofs.ForCallers.{get_appended, get_before_appended, get_set_same, get_set_other}
 use Rattle.sim_stations.specs.declared.parts.Part.{Part}
 use Rattle.sim_stations.specs.Parts.{places_of, keyed_of, ArePacked, AreWithoutKeys}
 
@@ -143,9 +143,9 @@ module _ (parts : List Part) (end room : ℕ) (packed : ArePacked parts end) whe
   at_end i p e = go (cases_eq i (length parts))
     where
       go : (i ≡ length parts) ⊎ (i ≢ length parts) → ((i < length parts) × (slice_get parts i ≡ Some p)) ⊎ ((i ≡ length parts) × (another ≡ p))
-      go (inl s) = inr (s, same_Some another p (sym (get_added parts another) ∙ ap (slice_get (parts ++ another ∷ [])) (sym s) ∙ e))
+      go (inl s) = inr (s, same_Some another p (sym (get_appended parts another) ∙ ap (slice_get (parts ++ another ∷ [])) (sym s) ∙ e))
       go (inr n) =
-          let there : slice_get parts i ≡ Some p = sym (get_before_added parts another i n) ∙ e in
+          let there : slice_get parts i ≡ Some p = sym (get_before_appended parts another i n) ∙ e in
           inl (slice_get_within parts i p there, there)
 
   pub packed_more : (stop : ℕ) → stop ≡ end + room → ArePacked (parts ++ another ∷ []) stop

@@ -5,7 +5,7 @@ use Rattle.goal_graph.specs.declared.action.Timed.{Timed}
 use Rattle.sim_order.specs.Events.{event_before}
 use Rattle.sim_order.specs.EventLaws.{event_laws}
 use Rattle.sim_queue.specs.Heap.{AreInverse, swapped, keys_of, IsHeap, IsHeapBut, IsSlotHeap}
-use Rattle.sim_queue.proofs.ForCallers.{swapped_inverse, length-swapped, replaced, entered, dropped_within, dropped_last, written, entered_keys, moved_keys, left_keys, settled}
+use Rattle.sim_queue.proofs.ForCallers.{swapped_inverse, length-swapped, heap_with_replaced_key, heap_with_entered_key, heap_but_where_dropped, heap_without_last, keys_after_write, entered_keys, moved_keys, keys_without_last_place, heap_after_settling}
 
 -- the last of the first places is written
 pub entered_at : {X : Type 0} (xs : List X) (n : ℕ) (y : X) → n < length xs → set (take (n + 1) xs) n y ≡ take n xs ++ y ∷ []
@@ -22,7 +22,7 @@ module _ (old : List Timed) (old_places : List ℕ) (slots places : List ℕ) (n
 
   pub settled_heap : (new : List Timed) (capacity : ℕ) → length new ≡ n → length old_places ≤ capacity → keys_of new places ≡ keys_of old old_places → IsSlotHeap event_before new slots places capacity
   settled_heap new capacity each room are =
-      settled event_before (keys_of old old_places) new slots places n capacity each (omega (arith, settled_slots, room)) are heap
+      heap_after_settling event_before (keys_of old old_places) new slots places n capacity each (omega (arith, settled_slots, room)) are heap
 
 module _ (keys : List Timed) (slots places : List ℕ) (capacity : ℕ) (heap : IsSlotHeap event_before keys slots places capacity) (slot : ℕ) (slot_in : slot < length places) where
   abbrev place : ℕ
@@ -43,13 +43,13 @@ module _ (keys : List Timed) (slots places : List ℕ) (capacity : ℕ) (heap : 
   -- a key instead of another
   module _ (key : Timed) (there : place < length keys) where
     pub keys_replaced : keys_of (set keys place key) places ≡ slice_set (keys_of keys places) slot (Some key)
-    keys_replaced = written keys slots places heap.heap.inverse slot key there within
+    keys_replaced = keys_after_write keys slots places heap.heap.inverse slot key there within
 
     pub but_replaced : IsHeapBut event_before (keys_of (set keys place key) places) slots places (length (set keys place key)) place
     but_replaced =
         subst (λ (n : ℕ). IsHeapBut event_before (keys_of (set keys place key) places) slots places n place) (sym (length-set keys place key))
         (subst (λ ks. IsHeapBut event_before ks slots places (length keys) place) (sym keys_replaced)
-        (replaced event_before event_laws (keys_of keys places) slots places (length keys) slot heap.heap within key there))
+        (heap_with_replaced_key event_before event_laws (keys_of keys places) slots places (length keys) slot heap.heap within key there))
 
   -- another key
   module _ (key : Timed) (n : ℕ) (same : n ≡ length keys) (absent : n ≤ place) (new_slots new_places : List ℕ) (slots_are : new_slots ≡ swapped slots place n) (places_are : new_places ≡ slice_set (slice_set places (slice_index slots place) n) (slice_index slots n) place) where
@@ -66,7 +66,7 @@ module _ (keys : List Timed) (slots places : List ℕ) (capacity : ℕ) (heap : 
         (subst (λ ks. IsHeapBut event_before ks new_slots new_places (length keys + 1) n) (sym keys_entered)
         (subst (λ xs. IsHeapBut event_before (slice_set (keys_of keys places) slot (Some key)) xs new_places (length keys + 1) n) (sym slots_are)
         (subst (λ (m : ℕ). IsHeapBut event_before (slice_set (keys_of keys places) slot (Some key)) (swapped slots place m) new_places (length keys + 1) m) (sym same)
-        (entered event_before event_laws (keys_of keys places) slots places (length keys) slot heap.heap within key new_places (omega (arith, absent, same)) (subst (λ (m : ℕ). AreInverse (swapped slots place m) new_places) same inverse)))))
+        (heap_with_entered_key event_before event_laws (keys_of keys places) slots places (length keys) slot heap.heap within key new_places (omega (arith, absent, same)) (subst (λ (m : ℕ). AreInverse (swapped slots place m) new_places) same inverse)))))
 
     pub entered_long : length new_places ≡ length places
     entered_long = ap length places_are ∙ length-set (slice_set places (slice_index slots place) n) (slice_index slots n) place ∙ length-set places (slice_index slots place) n
@@ -98,14 +98,14 @@ module _ (keys : List Timed) (slots places : List ℕ) (capacity : ℕ) (heap : 
           subst (λ (n : ℕ). IsHeapBut event_before (keys_of (set rest place last) new_places) new_slots new_places n place) (same ∙ sym (length-set rest place last))
           (subst (λ ks. IsHeapBut event_before ks new_slots new_places left place) (sym keys_moved)
           (subst (λ xs. IsHeapBut event_before (slice_set (keys_of keys places) slot None) xs new_places left place) (sym slots_are)
-          (dropped_within event_before event_laws (keys_of keys places) slots places (length keys) slot heap.heap within left new_places (omega (arith, moves, one_less)) one_less left_inverse moves)))
+          (heap_but_where_dropped event_before event_laws (keys_of keys places) slots places (length keys) slot heap.heap within left new_places (omega (arith, moves, one_less)) one_less left_inverse moves)))
 
     module _ (stays : place ≡ left) where
       pub keys_left : keys_of rest new_places ≡ slice_set (keys_of keys places) slot None
-      keys_left = left_keys keys rest last are slots places heap.heap.inverse slot left new_places within same left_in places_are stays
+      keys_left = keys_without_last_place keys rest last are slots places heap.heap.inverse slot left new_places within same left_in places_are stays
 
       pub heap_left : IsSlotHeap event_before rest new_slots new_places capacity
       heap_left =
-          settled event_before (slice_set (keys_of keys places) slot None) rest new_slots new_places left capacity (sym same) (omega (arith, left_slots_long, heap.reserved)) keys_left
+          heap_after_settling event_before (slice_set (keys_of keys places) slot None) rest new_slots new_places left capacity (sym same) (omega (arith, left_slots_long, heap.reserved)) keys_left
           (subst (λ xs. IsHeap event_before (slice_set (keys_of keys places) slot None) xs new_places left) (sym slots_are)
-          (dropped_last event_before event_laws (keys_of keys places) slots places (length keys) slot heap.heap within left new_places (omega (arith, stays, one_less)) one_less left_inverse stays))
+          (heap_without_last event_before event_laws (keys_of keys places) slots places (length keys) slot heap.heap within left new_places (omega (arith, stays, one_less)) one_less left_inverse stays))

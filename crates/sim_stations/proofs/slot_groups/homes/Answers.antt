@@ -5,7 +5,7 @@ use Rattle.std.proofs.lemmas.List.Elements.{All-get_or, All-from_get_or}
 use Rattle.std.proofs.lemmas.List.Sums.{sum_by-le, sum_by-set}
 use Rattle.sim_queue.specs.declared.home.PlaceInGroup.{PlaceInGroup}
 use Rattle.sim_queue.specs.Groups.{AreHomes}
-use Rattle.sim_queue.proofs.ForCallers.{no_homes, home_given, counted, counted_within}
+use Rattle.sim_queue.proofs.ForCallers.{no_homes, homes_with_new_home, counts_with_slot, counts_stay_bounded}
 use Rattle.sim_stations.proofs.slot_groups.homes.Goals as goal
 
 pub slots-init : goal.slots-init
@@ -30,10 +30,10 @@ pub slots-preserved : goal.slots-preserved
 slots-preserved c =
     let group = get_or c.args.numbers.now c.slots.number-index 0 in
     let exists : group < length c.slots.counts = omega (arith, All-get_or (λ n. n < length c.args.counts.now) c.args.numbers.now c.slots.number-index 0 c.slots-test.true c.requires.within, c.slots.auto.counts) in
-    let given = home_given c.slots.counts group exists (take c.slots.number-index c.args.numbers.now) c.slots.homes.items c.slots.invariant.given in
+    let given = homes_with_new_home c.slots.counts group exists (take c.slots.number-index c.args.numbers.now) c.slots.homes.items c.slots.invariant.given in
     record {
-      given = subst (λ (ns : List ℕ). AreHomes ns c.push.new.self.items (counted c.slots.counts group exists)) (sym (take_more c.args.numbers.now c.slots.number-index 0 c.slots-test.true)) (subst (λ (hs : List PlaceInGroup). AreHomes (take c.slots.number-index c.args.numbers.now ++ group ∷ []) hs (counted c.slots.counts group exists)) (sym c.in_ok-push.ensures.items) given);
-      few = counted_within c.slots.counts group exists c.slots.number-index c.slots.invariant.few;
+      given = subst (λ (ns : List ℕ). AreHomes ns c.push.new.self.items (counts_with_slot c.slots.counts group exists)) (sym (take_more c.args.numbers.now c.slots.number-index 0 c.slots-test.true)) (subst (λ (hs : List PlaceInGroup). AreHomes (take c.slots.number-index c.args.numbers.now ++ group ∷ []) hs (counts_with_slot c.slots.counts group exists)) (sym c.in_ok-push.ensures.items) given);
+      few = counts_stay_bounded c.slots.counts group exists c.slots.number-index c.slots.invariant.few;
       all = omega (arith, sum_by-set (λ n. n) c.slots.counts group (slice_index c.slots.counts group + 1) 0 exists, c.slots.invariant.all);
     }
 

@@ -1,14 +1,14 @@
 use Rattle.std.proofs.Common.{sym, ◌∙◌}
 use Rattle.sim_order.specs.Events.{event_before}
 use Rattle.sim_order.specs.EventLaws.{event_laws}
-use Rattle.sim_queue.proofs.ForCallers.{through, not_both}
+use Rattle.sim_queue.proofs.ForCallers.{through, before_asymmetric}
 use Rattle.sim_stations.proofs.station_queue.first.Goals as goal
 
 pub returns-then-before-clause-first : goal.returns-then-before-clause-first
 returns-then-before-clause-first g c =
     let key = c.in-Some.ensures.least in
     let head = c.in-Some-least.ensures.least in
-    let back = not_both event_before event_laws c.in-Some-least.head c.in-Some.key (sym c.before-2.ensures.tells ∙ c.if-before.true) in
+    let back = before_asymmetric event_before event_laws c.in-Some-least.head c.in-Some.key (sym c.before-2.ensures.tells ∙ c.if-before.true) in
     record {
       seen = (head.station, head.has);
       least_ahead = λ slot k e. through event_before event_laws k c.in-Some.key c.in-Some-least.head (key.1.least slot k e) back;

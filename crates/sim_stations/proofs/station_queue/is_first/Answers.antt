@@ -1,12 +1,12 @@
 use Rattle.std.proofs.Common.{sym, ◌∙◌}
 use Rattle.sim_order.specs.Events.{event_before}
 use Rattle.sim_order.specs.EventLaws.{event_laws}
-use Rattle.sim_queue.proofs.ForCallers.{through, not_both}
+use Rattle.sim_queue.proofs.ForCallers.{through, before_asymmetric}
 use Rattle.sim_stations.proofs.station_queue.is_first.Goals as goal
 
 pub returns-in-Some-clause-first : goal.returns-in-Some-clause-first
 returns-in-Some-clause-first g c =
     λ e slot k member has.
     let least = c.in-Some.ensures.least in
-    let back = not_both event_before event_laws c.args.key c.in-Some.least (sym c.before-in-Some.ensures.tells ∙ e) in
+    let back = before_asymmetric event_before event_laws c.args.key c.in-Some.least (sym c.before-in-Some.ensures.tells ∙ e) in
     through event_before event_laws k c.in-Some.least c.args.key (least.least slot k member has) back

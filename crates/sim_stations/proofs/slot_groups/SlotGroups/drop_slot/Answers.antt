@@ -2,7 +2,7 @@ use Rattle.std.proofs.Common.{◌<◌, None, length, set, refl, sym, ◌∙◌, 
 use Rattle.std.proofs.lemmas.List.{length-map}
 use Rattle.goal_graph.specs.declared.action.Timed.{Timed}
 use Rattle.sim_queue.specs.Groups.{Grouped, IsHoused, grouped, heap_at, key_of_home}
-use Rattle.sim_queue.proofs.ForCallers.{home_read, changed, still_housed}
+use Rattle.sim_queue.proofs.ForCallers.{home_read, grouped_after_change, housed_after_change}
 use Rattle.sim_stations.proofs.slot_groups.SlotGroups.drop_slot.Goals as goal
 
 pub drop_slot-requires-clause-group_in : goal.drop_slot-requires-clause-group_in
@@ -30,7 +30,7 @@ invariant_of-self g c =
     let home = c.index-home.result.now in
     let within : c.args.slot < length homes = omega (arith, c.requires, ap (λ (q : Grouped Timed). length q.keys) c.self.view_is, length-map homes (key_of_home heaps)) in
     let at = home_read homes heaps c.self.invariant c.args.slot home within c.index-home.ensures in
-    subst (IsHoused homes) (sym c.drop_slot.ensures.dropped) (still_housed homes heaps c.self.invariant c.args.slot home at None (heap_at heaps home.group) (set (heap_at heaps home.group) home.place None) refl refl)
+    subst (IsHoused homes) (sym c.drop_slot.ensures.dropped) (housed_after_change homes heaps c.self.invariant c.args.slot home at None (heap_at heaps home.group) (set (heap_at heaps home.group) home.place None) refl refl)
 
 pub returns-clause-dropped : goal.returns-clause-dropped
 returns-clause-dropped g c =
@@ -39,4 +39,4 @@ returns-clause-dropped g c =
     let home = c.index-home.result.now in
     let within : c.args.slot < length homes = omega (arith, c.requires, ap (λ (q : Grouped Timed). length q.keys) c.self.view_is, length-map homes (key_of_home heaps)) in
     let at = home_read homes heaps c.self.invariant c.args.slot home within c.index-home.ensures in
-    ap (grouped homes) c.drop_slot.ensures.dropped ∙ changed homes heaps c.self.invariant c.args.slot home at None (heap_at heaps home.group) (set (heap_at heaps home.group) home.place None) refl refl ∙ ap (λ (q : Grouped Timed). record { keys = set q.keys c.args.slot None; groups = q.groups }) c.self.view_is
+    ap (grouped homes) c.drop_slot.ensures.dropped ∙ grouped_after_change homes heaps c.self.invariant c.args.slot home at None (heap_at heaps home.group) (set (heap_at heaps home.group) home.place None) refl refl ∙ ap (λ (q : Grouped Timed). record { keys = set q.keys c.args.slot None; groups = q.groups }) c.self.view_is

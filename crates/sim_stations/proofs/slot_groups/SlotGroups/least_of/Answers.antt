@@ -3,12 +3,12 @@ use Rattle.std.specs.Option.{IfSome}
 use Rattle.goal_graph.specs.declared.action.Timed.{Timed}
 use Rattle.sim_order.specs.Events.{event_before}
 use Rattle.sim_queue.specs.Groups.{Grouped, IsEmptyGroup, IsLeastOf}
-use Rattle.sim_queue.proofs.ForCallers.{no_group, empty_group, least_of_answer}
+use Rattle.sim_queue.proofs.ForCallers.{group_past_end_is_empty, empty_group, least_of_answer}
 use Rattle.sim_stations.proofs.slot_groups.SlotGroups.least_of.Goals as goal
 
 pub returns-then-group-len-clause-none : goal.returns-then-group-len-clause-none
 returns-then-group-len-clause-none g c =
-    λ e. subst (λ (q : Grouped Timed). IsEmptyGroup q c.args.group) c.self.view_is (no_group c.self.inside.homes.items c.self.inside.heaps c.self.invariant c.args.group (omega (arith, c.if-group-len.true, c.len.ensures)))
+    λ e. subst (λ (q : Grouped Timed). IsEmptyGroup q c.args.group) c.self.view_is (group_past_end_is_empty c.self.inside.homes.items c.self.inside.heaps c.self.invariant c.args.group (omega (arith, c.if-group-len.true, c.len.ensures)))
 
 pub returns-clause-none : goal.returns-clause-none
 returns-clause-none g c =
