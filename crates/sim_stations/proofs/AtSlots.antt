@@ -13,7 +13,7 @@ use Rattle.sim_queue.specs.Groups.{Grouped, IsHoused, AreHomes, heap_at, with_ke
 use Rattle.sim_stations.specs.AtSlots.{AreCounts, AreHousedAtSlots, at_home, homes_at_slots, grouped_at_slots}
 use Rattle.sim_queue.proofs.ForCallers.{grouped_after_change, housed_after_change}
 use Rattle.sim_queue.proofs.ForCallers.{empty_housed, empty_grouped}
-use Rattle.sim_stations.proofs.Rooms.{AreOnlyOf, keys_below}
+use Rattle.sim_stations.proofs.Rooms.{AreOnlyOf, fewer_keys_than_members}
 
 mapped_replicate : {X Y : Type 0} (f : X → Y) (n : ℕ) (x : X) → map f (replicate n x) ≡ replicate n (f x)
 mapped_replicate f zero x = refl
@@ -53,26 +53,26 @@ module _ (groups : List ℕ) where
   pub apart_at_slots : (slot other : ℕ) (home : PlaceInGroup) → slice_get (homes_at_slots groups) slot ≡ Some home → slice_get (homes_at_slots groups) other ≡ Some home → slot ≡ other
   apart_at_slots slot other home e f = sym (slot_at_home slot home e).0 ∙ (slot_at_home other home f).0
 
-  pub grouped_is : {K : Type 0} (maps : List (List (Option K))) → grouped (homes_at_slots groups) maps ≡ grouped_at_slots groups maps
-  grouped_is maps i = record { keys = map (key_of_home maps) (homes_at_slots groups); groups = groups_of_homes i }
+  pub grouped_by_homes : {K : Type 0} (maps : List (List (Option K))) → grouped (homes_at_slots groups) maps ≡ grouped_at_slots groups maps
+  grouped_by_homes maps i = record { keys = map (key_of_home maps) (homes_at_slots groups); groups = groups_of_homes i }
 
 -- there is room for another
 module _ {K : Type 0} (groups : List ℕ) (maps : List (List (Option K))) (rooms : List ℕ) (are : AreHousedAtSlots groups maps rooms) (slot group : ℕ) (member : slice_get groups slot ≡ Some group) where
   abbrev pub homes : List PlaceInGroup
   homes = homes_at_slots groups
 
-  pub home_there : slice_get homes slot ≡ Some (at_home group slot)
-  home_there = home_at_slot groups slot group member
+  pub home_of_slot : slice_get homes slot ≡ Some (at_home group slot)
+  home_of_slot = home_at_slot groups slot group member
 
-  pub group_there : group < length maps
-  group_there = are.housed.group_in slot (at_home group slot) home_there
+  pub group_has_map : group < length maps
+  group_has_map = are.housed.group_in slot (at_home group slot) home_of_slot
 
-  pub slot_there : slot < length (heap_at maps group)
-  slot_there = are.housed.place_in slot (at_home group slot) home_there
+  pub slot_in_map : slot < length (heap_at maps group)
+  slot_in_map = are.housed.place_in slot (at_home group slot) home_of_slot
 
   pub has_room : key_at (heap_at maps group) slot ≡ None → (k : K) → count_by is_some (heap_at maps group) < slice_index rooms group
   has_room free k =
-      omega (arith, keys_below group (heap_at maps group) groups only slot slot_there member free k, are.counted group (omega (arith, group_there, are.each)))
+      omega (arith, fewer_keys_than_members group (heap_at maps group) groups only slot slot_in_map member free k, are.counted group (omega (arith, group_has_map, are.each)))
     where
       only : AreOnlyOf groups group (heap_at maps group)
       only other l e =
@@ -82,7 +82,7 @@ module _ {K : Type 0} (groups : List ℕ) (maps : List (List (Option K))) (rooms
 
   pub room_within : slice_index rooms group ≤ length groups
   room_within =
-      omega (arith, are.counted group (omega (arith, group_there, are.each)), count_by-le-length (λ number. number == group) groups)
+      omega (arith, are.counted group (omega (arith, group_has_map, are.each)), count_by-le-length (λ number. number == group) groups)
 
   -- the key of the slot is changed
   module _ (value : Option K) where
@@ -91,14 +91,14 @@ module _ {K : Type 0} (groups : List ℕ) (maps : List (List (Option K))) (rooms
 
     pub housed_after : AreHousedAtSlots groups maps_now rooms
     housed_after = record {
-      housed = housed_after_change homes maps are.housed slot (at_home group slot) home_there value (heap_at maps group) (set (heap_at maps group) slot value) refl refl;
+      housed = housed_after_change homes maps are.housed slot (at_home group slot) home_of_slot value (heap_at maps group) (set (heap_at maps group) slot value) refl refl;
       each = are.each ∙ sym (length-set maps group (set (heap_at maps group) slot value));
       counted = are.counted;
     }
 
     pub grouped_after : grouped_at_slots groups maps_now ≡ record { keys = set (grouped_at_slots groups maps).keys slot value; groups = groups }
     grouped_after i = record {
-      keys = ap (λ (q : Grouped K). q.keys) (grouped_after_change homes maps are.housed slot (at_home group slot) home_there value (heap_at maps group) (set (heap_at maps group) slot value) refl refl) i;
+      keys = ap (λ (q : Grouped K). q.keys) (grouped_after_change homes maps are.housed slot (at_home group slot) home_of_slot value (heap_at maps group) (set (heap_at maps group) slot value) refl refl) i;
       groups = groups;
     }
 
@@ -107,13 +107,13 @@ module _ (groups counts : List ℕ) (few : length groups < 2 ^ 32) (within : All
   abbrev sizes : List ℕ
   sizes = replicate (length counts) (length groups)
 
-  long : length sizes ≡ length counts
-  long = length-replicate {A = ℕ} (length counts) (length groups)
+  sizes_length : length sizes ≡ length counts
+  sizes_length = length-replicate {A = ℕ} (length counts) (length groups)
 
-  given : AreHomes groups (homes_at_slots groups) sizes
-  given = record {
+  homes_are_given : AreHomes groups (homes_at_slots groups) sizes
+  homes_are_given = record {
     groups = groups_of_homes groups;
-    group_in = λ slot home e. omega (arith, exists slot home e, long);
+    group_in = λ slot home e. omega (arith, exists slot home e, sizes_length);
     place_in = λ slot home e. omega (arith, (slot_at_home groups slot home e).0, slice_get_within groups slot home.group (slot_at_home groups slot home e).1, get_or-replicate (length counts) home.group (length groups) 0 (exists slot home e));
     apart = apart_at_slots groups;
   }
@@ -124,18 +124,18 @@ module _ (groups counts : List ℕ) (few : length groups < 2 ^ 32) (within : All
           subst (λ group. group < length counts) (get_or_from_slice_get groups slot home.group 0 at) (All-get_or (λ group. group < length counts) groups slot 0 (slice_get_within groups slot home.group at) within)
 
   module _ {K : Type 0} where
-    maps_are : map (no_keys {K = K}) sizes ≡ replicate (length counts) (no_keys {K = K} (length groups))
-    maps_are = mapped_replicate (no_keys {K = K}) (length counts) (length groups)
+    maps_without_keys : map (no_keys {K = K}) sizes ≡ replicate (length counts) (no_keys {K = K} (length groups))
+    maps_without_keys = mapped_replicate (no_keys {K = K}) (length counts) (length groups)
 
     pub housed_at_slots : AreHousedAtSlots groups (replicate (length counts) (no_keys {K = K} (length groups))) counts
     housed_at_slots = record {
-      housed = subst (IsHoused (homes_at_slots groups)) maps_are (empty_housed groups (homes_at_slots groups) sizes given (omega (arith, few, length-homes groups)) (All-replicate (λ count. count ≤ length (homes_at_slots groups)) (length counts) (length groups) (omega (arith, length-homes groups))));
+      housed = subst (IsHoused (homes_at_slots groups)) maps_without_keys (empty_housed groups (homes_at_slots groups) sizes homes_are_given (omega (arith, few, length-homes groups)) (All-replicate (λ count. count ≤ length (homes_at_slots groups)) (length counts) (length groups) (omega (arith, length-homes groups))));
       each = sym (length-replicate {A = List (Option K)} (length counts) (no_keys {K = K} (length groups)));
       counted = counted;
     }
 
     pub grouped_none : grouped_at_slots groups (replicate (length counts) (no_keys {K = K} (length groups))) ≡ record { keys = replicate (length groups) None; groups = groups }
     grouped_none =
-        sym (grouped_is groups (replicate (length counts) (no_keys {K = K} (length groups))))
-        ∙ ap (grouped (homes_at_slots groups)) (sym maps_are)
-        ∙ empty_grouped groups (homes_at_slots groups) sizes given
+        sym (grouped_by_homes groups (replicate (length counts) (no_keys {K = K} (length groups))))
+        ∙ ap (grouped (homes_at_slots groups)) (sym maps_without_keys)
+        ∙ empty_grouped groups (homes_at_slots groups) sizes homes_are_given

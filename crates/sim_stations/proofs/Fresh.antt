@@ -13,64 +13,64 @@ use Rattle.sim_queue.specs.TopHeap.{placed}
 use Rattle.sim_queue.proofs.ForCallers.{none_of, no_keys_at_any_place}
 use Rattle.sim_stations.specs.declared.parts.Part.{Part}
 use Rattle.sim_stations.specs.Parts.{room_of, places_of, keyed_of, map_of_slots, maps_of_slots, map_of_items, maps_of_items, roomed, ArePacked, AreWithoutKeys, IsInOrder, AreSlotHeaps, AreItemHeaps}
-use Rattle.sim_stations.proofs.InParts.{put_mid, length-places, part_written, places_elsewhere}
+use Rattle.sim_stations.proofs.InParts.{put_mid, length-places, part_of_written, places_elsewhere}
 use Rattle.sim_stations.proofs.ItemParts.{no_items_heap}
 
 -- no place has a key
-keyed_none : {X : Type 0} (table : List X) (part : Part) → part.count ≡ 0 → keyed_of table part ≡ []
-keyed_none table part e =
+no_keyed_entries : {X : Type 0} (table : List X) (part : Part) → part.count ≡ 0 → keyed_of table part ≡ []
+no_keyed_entries table part e =
     let none : part.start + part.count - part.start ≡ 0 = omega (arith, e) in
     ap (λ n. take n (drop part.start table)) none
 
 -- the maps of parts, each without a key
-maps_none : (f : Part → List (Option Timed)) (parts : List Part) → ((group : ℕ) (part : Part) → slice_get parts group ≡ Some part → f part ≡ no_keys part.room) → map f parts ≡ map (no_keys {K = Timed}) (map room_of parts)
-maps_none f [] each = refl
-maps_none f (part ∷ parts) each =
-    ap₂ (λ (h : List (Option Timed)) hs. h ∷ hs) (each 0 part refl) (maps_none f parts (λ group p e. each (suc group) p e))
+slot_maps_of_empty_parts : (f : Part → List (Option Timed)) (parts : List Part) → ((group : ℕ) (part : Part) → slice_get parts group ≡ Some part → f part ≡ no_keys part.room) → map f parts ≡ map (no_keys {K = Timed}) (map room_of parts)
+slot_maps_of_empty_parts f [] each = refl
+slot_maps_of_empty_parts f (part ∷ parts) each =
+    ap₂ (λ (h : List (Option Timed)) hs. h ∷ hs) (each 0 part refl) (slot_maps_of_empty_parts f parts (λ group p e. each (suc group) p e))
 
 -- the maps of parts of items, each without a key
-maps_unset : (f : Part → List (Option Timed)) (slots : ℕ) (parts : List Part) → ((group : ℕ) (part : Part) → slice_get parts group ≡ Some part → f part ≡ no_keys slots) → map f parts ≡ replicate (length parts) (no_keys {K = Timed} slots)
-maps_unset f slots [] each = refl
-maps_unset f slots (part ∷ parts) each =
-    ap₂ (λ (h : List (Option Timed)) hs. h ∷ hs) (each 0 part refl) (maps_unset f slots parts (λ group p e. each (suc group) p e))
+item_maps_of_empty_parts : (f : Part → List (Option Timed)) (slots : ℕ) (parts : List Part) → ((group : ℕ) (part : Part) → slice_get parts group ≡ Some part → f part ≡ no_keys slots) → map f parts ≡ replicate (length parts) (no_keys {K = Timed} slots)
+item_maps_of_empty_parts f slots [] each = refl
+item_maps_of_empty_parts f slots (part ∷ parts) each =
+    ap₂ (λ (h : List (Option Timed)) hs. h ∷ hs) (each 0 part refl) (item_maps_of_empty_parts f slots parts (λ group p e. each (suc group) p e))
 
-placed_none : (slots : ℕ) → placed {K = Timed} slots [] ≡ no_keys slots
+no_items_no_keys : (slots : ℕ) → placed {K = Timed} slots [] ≡ no_keys slots
 unfolding placed
-placed_none slots = refl
+no_items_no_keys slots = refl
 
 module _ (parts : List Part) (size : ℕ) (packed : ArePacked parts size) (none : AreWithoutKeys parts) (counts : List ℕ) (rooms : map room_of parts ≡ counts) where
   -- without items
   module _ (items : List (Item Timed)) (long : length items ≡ size) where
-    pub items_begun : (slots : ℕ) → slots ≤ MAX_OPS → AreItemHeaps event_before slots parts items
-    items_begun slots few = record {
+    pub item_heaps_without_keys : (slots : ℕ) → slots ≤ MAX_OPS → AreItemHeaps event_before slots parts items
+    item_heaps_without_keys slots few = record {
       packed = subst (ArePacked parts) (sym long) packed;
-      heap = λ group part at. no_items_heap (keyed_of items part) slots (ap length (keyed_none items part (none group part at))) few;
+      heap = λ group part at. no_items_heap (keyed_of items part) slots (ap length (no_keyed_entries items part (none group part at))) few;
     }
 
-    as_many : length parts ≡ length counts
-    as_many = sym (length-map parts room_of) ∙ ap length rooms
+    one_part_per_count : length parts ≡ length counts
+    one_part_per_count = sym (length-map parts room_of) ∙ ap length rooms
 
     maps_are : (slots : ℕ) → maps_of_items slots parts items ≡ replicate (length counts) (no_keys {K = Timed} slots)
     maps_are slots =
-        maps_unset (map_of_items slots items) slots parts (λ group part at. ap (placed slots) (keyed_none items part (none group part at)) ∙ placed_none slots) ∙ ap (λ n. replicate n (no_keys {K = Timed} slots)) as_many
+        item_maps_of_empty_parts (map_of_items slots items) slots parts (λ group part at. ap (placed slots) (no_keyed_entries items part (none group part at)) ∙ no_items_no_keys slots) ∙ ap (λ n. replicate n (no_keys {K = Timed} slots)) one_part_per_count
 
-    pub items_none : (slots : ℕ) → roomed slots parts items ≡ record { maps = replicate (length counts) (no_keys {K = Timed} slots); rooms = counts }
-    items_none slots i = record { maps = maps_are slots i; rooms = rooms i }
+    pub roomed_without_items : (slots : ℕ) → roomed slots parts items ≡ record { maps = replicate (length counts) (no_keys {K = Timed} slots); rooms = counts }
+    roomed_without_items slots i = record { maps = maps_are slots i; rooms = rooms i }
 
   module _ (sorted : List Timed) (slots places : List ℕ) (each : length sorted ≡ size) (slots_each : length slots ≡ size) (places_each : length places ≡ size) where
     places_long : (group : ℕ) (part : Part) → slice_get parts group ≡ Some part → (table : List ℕ) → length table ≡ size → length (places_of table part) ≡ part.room
     places_long group part at table e = length-places table part (omega (arith, packed.within group part at, e))
 
-    pub slots_none : maps_of_slots parts sorted places ≡ map (no_keys {K = Timed}) counts
-    slots_none =
-        maps_none (map_of_slots sorted places) parts
+    pub slot_maps_without_keys : maps_of_slots parts sorted places ≡ map (no_keys {K = Timed}) counts
+    slot_maps_without_keys =
+        slot_maps_of_empty_parts (map_of_slots sorted places) parts
         (λ group part at.
-        ap (λ ks. keys_of ks (places_of places part)) (keyed_none sorted part (none group part at)) ∙ no_keys_at_any_place (places_of places part) part.room (places_long group part at places places_each))
+        ap (λ ks. keys_of ks (places_of places part)) (no_keyed_entries sorted part (none group part at)) ∙ no_keys_at_any_place (places_of places part) part.room (places_long group part at places places_each))
         ∙ ap (map (no_keys {K = Timed})) rooms
 
     -- a heap without a key
-    begun : (xs ys : List ℕ) (room : ℕ) → length xs ≡ room → length ys ≡ room → room < 2 ^ 32 → IsInOrder xs → IsInOrder ys → IsSlotHeap event_before [] xs ys room
-    begun xs ys room long also few one other = record {
+    slot_heap_without_keys : (xs ys : List ℕ) (room : ℕ) → length xs ≡ room → length ys ≡ room → room < 2 ^ 32 → IsInOrder xs → IsInOrder ys → IsSlotHeap event_before [] xs ys room
+    slot_heap_without_keys xs ys room long also few one other = record {
       reserved = omega (arith, long);
       heap = record {
         inverse = record {
@@ -89,24 +89,24 @@ module _ (parts : List Part) (size : ℕ) (packed : ArePacked parts size) (none 
       };
     }
 
-    pub slots_begun : size < 2 ^ 32 → ((group : ℕ) (part : Part) → slice_get parts group ≡ Some part → IsInOrder (places_of slots part)) → ((group : ℕ) (part : Part) → slice_get parts group ≡ Some part → IsInOrder (places_of places part)) → AreSlotHeaps event_before parts sorted slots places
-    slots_begun few one other = record {
+    pub slot_heaps_without_keys : size < 2 ^ 32 → ((group : ℕ) (part : Part) → slice_get parts group ≡ Some part → IsInOrder (places_of slots part)) → ((group : ℕ) (part : Part) → slice_get parts group ≡ Some part → IsInOrder (places_of places part)) → AreSlotHeaps event_before parts sorted slots places
+    slot_heaps_without_keys few one other = record {
       packed = subst (ArePacked parts) (sym each) packed;
       slots_each = slots_each ∙ sym each;
       places_each = places_each ∙ sym each;
       heap =
           λ group part at.
-          subst (λ (ks : List Timed). IsSlotHeap event_before ks (places_of slots part) (places_of places part) part.room) (sym (keyed_none sorted part (none group part at)))
-          (begun (places_of slots part) (places_of places part) part.room (places_long group part at slots slots_each) (places_long group part at places places_each) (omega (arith, packed.within group part at, few)) (one group part at) (other group part at));
+          subst (λ (ks : List Timed). IsSlotHeap event_before ks (places_of slots part) (places_of places part) part.room) (sym (no_keyed_entries sorted part (none group part at)))
+          (slot_heap_without_keys (places_of slots part) (places_of places part) part.room (places_long group part at slots slots_each) (places_long group part at places places_each) (omega (arith, packed.within group part at, few)) (one group part at) (other group part at));
     }
 
 -- another part is numbered
-pub numbered_more : (parts : List Part) (size : ℕ) (packed : ArePacked parts size) (index : ℕ) (part : Part) (at : slice_get parts index ≡ Some part) (table ys : List ℕ) (k : ℕ) (long : length table ≡ size) (whole : k ≡ part.room) (each : length ys ≡ k) → IsInOrder ys → ((group : ℕ) (q : Part) → group < index → slice_get parts group ≡ Some q → IsInOrder (places_of table q)) → (group : ℕ) (q : Part) → group < index + 1 → slice_get parts group ≡ Some q → IsInOrder (places_of (put_mid part.start k table ys) q)
-numbered_more parts size packed index part at table ys k long whole each ordered before group q h e = go (cases_eq group index)
+pub numbered_with_next_part : (parts : List Part) (size : ℕ) (packed : ArePacked parts size) (index : ℕ) (part : Part) (at : slice_get parts index ≡ Some part) (table ys : List ℕ) (k : ℕ) (long : length table ≡ size) (whole : k ≡ part.room) (each : length ys ≡ k) → IsInOrder ys → ((group : ℕ) (q : Part) → group < index → slice_get parts group ≡ Some q → IsInOrder (places_of table q)) → (group : ℕ) (q : Part) → group < index + 1 → slice_get parts group ≡ Some q → IsInOrder (places_of (put_mid part.start k table ys) q)
+numbered_with_next_part parts size packed index part at table ys k long whole each ordered before group q h e = go (cases_eq group index)
   where
     here : places_of (put_mid part.start k table ys) part ≡ ys
     here =
-        part_written part.start k table ys (omega (arith, packed.within index part at, long)) part.room (omega (arith, each, whole)) ∙ take_all part.room ys (omega (arith, each, whole))
+        part_of_written part.start k table ys (omega (arith, packed.within index part at, long)) part.room (omega (arith, each, whole)) ∙ take_all part.room ys (omega (arith, each, whole))
 
     go : (group ≡ index) ⊎ (group ≢ index) → IsInOrder (places_of (put_mid part.start k table ys) q)
     go (inl s) =

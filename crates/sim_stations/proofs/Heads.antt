@@ -18,22 +18,22 @@ pub at_own : (k : Timed) (time : ℕ) → k.time ≡ time → at_time time k ≡
 at_own k time e i = record { time = sym e i; class = k.class; op = k.op }
 
 module _ (waiting new : Grouped Timed) (groups : new.groups ≡ waiting.groups) (group : ℕ) (same : (slot : ℕ) → slice_get waiting.groups slot ≡ Some group → key_at new.keys slot ≡ key_at waiting.keys slot) where
-  was_member : (slot : ℕ) → slice_get new.groups slot ≡ Some group → slice_get waiting.groups slot ≡ Some group
-  was_member slot e = ap (λ gs. slice_get gs slot) (sym groups) ∙ e
+  member_before_change : (slot : ℕ) → slice_get new.groups slot ≡ Some group → slice_get waiting.groups slot ≡ Some group
+  member_before_change slot e = ap (λ gs. slice_get gs slot) (sym groups) ∙ e
 
   least_stays : (key : Timed) → IsLeastOf event_before waiting group key → IsLeastOf event_before new group key
   least_stays key least = record {
     slot = least.slot;
     member = ap (λ gs. slice_get gs least.slot) groups ∙ least.member;
     has = same least.slot least.member ∙ least.has;
-    least = λ one k e has. least.least one k (was_member one e) (sym (same one (was_member one e)) ∙ has);
+    least = λ one k e has. least.least one k (member_before_change one e) (sym (same one (member_before_change one e)) ∙ has);
   }
 
   pub head_stays : (time : ℕ) (head : Option Timed) → IsHead waiting group time head → IsHead new group time head
-  head_stays time None empty = λ slot e. same slot (was_member slot e) ∙ empty slot (was_member slot e)
+  head_stays time None empty = λ slot e. same slot (member_before_change slot e) ∙ empty slot (member_before_change slot e)
   head_stays time (Some k) h = (least_stays (at_time 0 k) h.0, h.1)
 
 -- an empty group has no head
-pub none_of_empty : (rows : Grouped Timed) (group time : ℕ) (head : Option Timed) → IsHead rows group time head → IsEmptyGroup rows group → head ≡ None
-none_of_empty rows group time None h empty = refl
-none_of_empty rows group time (Some k) h empty = absurd (no_key (at_time 0 k) (sym (empty h.0.slot h.0.member) ∙ h.0.has))
+pub empty_group_has_no_head : (rows : Grouped Timed) (group time : ℕ) (head : Option Timed) → IsHead rows group time head → IsEmptyGroup rows group → head ≡ None
+empty_group_has_no_head rows group time None h empty = refl
+empty_group_has_no_head rows group time (Some k) h empty = absurd (no_key (at_time 0 k) (sym (empty h.0.slot h.0.member) ∙ h.0.has))

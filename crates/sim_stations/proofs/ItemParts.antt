@@ -25,19 +25,19 @@ module _ {X : Type 0} (xs : List X) (some : 0 < length xs) where
       sym (take_all (n + 1) (set xs n y) (omega (arith, e, length-set xs n y))) ∙ take_more_set xs n y (omega (arith, e)) ∙ ap (λ m. take m xs ++ y ∷ []) front
 
   -- the items before its last, and that
-  pub with_last : (n : ℕ) (d : X) → n + 1 ≡ length xs → xs ≡ all_but_last xs ++ get_or xs n d ∷ []
-  with_last n d e =
+  pub front_and_last : (n : ℕ) (d : X) → n + 1 ≡ length xs → xs ≡ all_but_last xs ++ get_or xs n d ∷ []
+  front_and_last n d e =
       let front : n ≡ length xs - 1 = omega (arith, e) in
       sym (take_all (n + 1) xs (omega (arith, e))) ∙ take_more xs n d (omega (arith, e)) ∙ ap (λ m. take m xs ++ get_or xs n d ∷ []) front
 
 -- the items before the only one of a rest
-pub front_back : {X : Type 0} (new rest : List X) → length rest ≡ 1 → all_but_last (new ++ rest) ≡ new
-front_back new rest one = take_at new rest (length (new ++ rest) - 1) (omega (arith, length-append new rest, one))
+pub front_of_single_rest : {X : Type 0} (new rest : List X) → length rest ≡ 1 → all_but_last (new ++ rest) ≡ new
+front_of_single_rest new rest one = take_at new rest (length (new ++ rest) - 1) (omega (arith, length-append new rest, one))
 
 -- another item, which has risen
 module _ (front : List (Item Timed)) (x : Item Timed) (slots : ℕ) (heap : IsTopHeap event_before front slots slots) (slot_in : x.slot < slots) (free : key_at (placed slots front) x.slot ≡ None) where
-  apart : AreApart slots (front ++ x ∷ [])
-  apart = added_apart front x slots heap.apart slot_in free
+  apart_with_new : AreApart slots (front ++ x ∷ [])
+  apart_with_new = added_apart front x slots heap.apart slot_in free
 
   pub entered_ordered : (n : ℕ) → n ≡ length front → AreOrderedBut event_before (key_there (front ++ x ∷ [])) (length (front ++ x ∷ [])) n
   entered_ordered n e =
@@ -48,12 +48,12 @@ module _ (front : List (Item Timed)) (x : Item Timed) (slots : ℕ) (heap : IsTo
     entered_heap ordered = record {
       reserved = omega arith;
       few = heap.few;
-      apart = moved.apart slots apart;
+      apart = moved.apart slots apart_with_new;
       ordered = subst (AreOrdered event_before (key_there new)) (sym moved.each) ordered;
     }
 
     pub entered_placed : placed slots new ≡ slice_set (placed slots front) x.slot (Some x.key)
-    entered_placed = moved.same slots apart ∙ added_placed front x slots heap.apart slot_in free
+    entered_placed = moved.same slots apart_with_new ∙ added_placed front x slots heap.apart slot_in free
 
 -- no items
 pub no_items_heap : (items : List (Item Timed)) (slots : ℕ) → length items ≡ 0 → slots ≤ MAX_OPS → IsTopHeap event_before items slots slots
@@ -72,8 +72,8 @@ no_items_heap items slots none few = record {
 
 -- the top is removed
 module _ (items front : List (Item Timed)) (last : Item Timed) (are : items ≡ front ++ last ∷ []) (slots slot : ℕ) (heap : IsTopHeap event_before items slots slots) (sole : IsSoleLeast event_before (placed slots items) slot) where
-  pub emptied : length front ≡ 0 → placed slots front ≡ slice_set (placed slots items) slot None
-  emptied none = emptied_placed event_before event_laws slots items heap.apart heap.ordered slot sole front last are none
+  pub placed_without_only_item : length front ≡ 0 → placed slots front ≡ slice_set (placed slots items) slot None
+  placed_without_only_item none = emptied_placed event_before event_laws slots items heap.apart heap.ordered slot sole front last are none
 
   module _ (some : 0 < length front) where
     pub left_ordered : AreOrderedBut event_before (key_there (set front 0 last)) (length (set front 0 last)) 0
@@ -95,9 +95,9 @@ module _ (items front : List (Item Timed)) (last : Item Timed) (are : items ≡ 
       left_placed = moved.same slots left_apart ∙ taken_placed event_before event_laws slots items heap.apart heap.ordered slot sole front last are some
 
 -- a slot without an item
-pub absent : (slots slot : ℕ) (xs : List (Item Timed)) → ((place : ℕ) (y : Item Timed) → slice_get xs place ≡ Some y → y.slot ≢ slot) → key_at (placed slots xs) slot ≡ None
+pub no_key_without_item : (slots slot : ℕ) (xs : List (Item Timed)) → ((place : ℕ) (y : Item Timed) → slice_get xs place ≡ Some y → y.slot ≢ slot) → key_at (placed slots xs) slot ≡ None
 unfolding placed
-absent slots slot [] other = none_of slots slot
-absent slots slot (x ∷ xs) other =
+no_key_without_item slots slot [] other = none_of slots slot
+no_key_without_item slots slot (x ∷ xs) other =
     get_or-set_other (placed slots xs) x.slot slot (Some x.key) None (λ e. other 0 x refl (sym e))
-    ∙ absent slots slot xs (λ place y e. other (suc place) y e)
+    ∙ no_key_without_item slots slot xs (λ place y e. other (suc place) y e)

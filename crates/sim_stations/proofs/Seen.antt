@@ -8,8 +8,8 @@ use Rattle.sim_queue.proofs.ForCallers.{same_maps}
 use Rattle.sim_stations.specs.Rows.{place_in, seen, turned_at}
 use Rattle.sim_stations.proofs.Sides.{place_station, place_within}
 
-next_place : (s : ℕ) (b : Bool) → suc (suc (place_in s b)) ≡ place_in (suc s) b
-next_place s b = omega arith
+place_of_next_station : (s : ℕ) (b : Bool) → suc (suc (place_in s b)) ≡ place_in (suc s) b
+place_of_next_station s b = omega arith
 
 pub seen_at : (turned : List Bool) (keys : List (Option Timed)) → length keys ≡ 2 * length turned → (s : ℕ) → key_at (seen turned keys) s ≡ key_at keys (place_in s (turned_at turned s))
 unfolding seen
@@ -17,9 +17,9 @@ seen_at [] [] l s = refl
 seen_at (false ∷ turned) (a ∷ b ∷ keys) l zero = refl
 seen_at (true ∷ turned) (a ∷ b ∷ keys) l zero = refl
 seen_at (false ∷ turned) (a ∷ b ∷ keys) l (suc s) =
-    seen_at turned keys (omega (arith, l)) s ∙ ap (key_at (a ∷ b ∷ keys)) (next_place s (turned_at turned s))
+    seen_at turned keys (omega (arith, l)) s ∙ ap (key_at (a ∷ b ∷ keys)) (place_of_next_station s (turned_at turned s))
 seen_at (true ∷ turned) (a ∷ b ∷ keys) l (suc s) =
-    seen_at turned keys (omega (arith, l)) s ∙ ap (key_at (a ∷ b ∷ keys)) (next_place s (turned_at turned s))
+    seen_at turned keys (omega (arith, l)) s ∙ ap (key_at (a ∷ b ∷ keys)) (place_of_next_station s (turned_at turned s))
 seen_at [] (a ∷ keys) l s = absurd (omega (arith, l))
 seen_at (t ∷ turned) [] l s = absurd (omega (arith, l))
 seen_at (t ∷ turned) (a ∷ []) l s = absurd (omega (arith, l))
@@ -34,63 +34,63 @@ seen_length (t ∷ turned) [] l = absurd (omega (arith, l))
 seen_length (t ∷ turned) (a ∷ []) l = absurd (omega (arith, l))
 
 module _ (turned : List Bool) (keys : List (Option Timed)) (long : length keys ≡ 2 * length turned) (s : ℕ) (within : s < length turned) where
-  abbrev here : ℕ
-  here = place_in s (turned_at turned s)
+  abbrev place_of_key : ℕ
+  place_of_key = place_in s (turned_at turned s)
 
-  pub here_in : here < length keys
-  here_in = omega (arith, long, place_within s (length turned) (turned_at turned s) within)
+  pub place_of_key_within : place_of_key < length keys
+  place_of_key_within = omega (arith, long, place_within s (length turned) (turned_at turned s) within)
 
   -- the key of a station is changed at its place
-  pub seen_written : (value : Option Timed) → seen turned (set keys here value) ≡ set (seen turned keys) s value
-  seen_written value = same_maps (seen turned (set keys here value)) (set (seen turned keys) s value) (seen_length turned (set keys here value) (length-set keys here value ∙ long) ∙ sym (seen_length turned keys long) ∙ sym (length-set (seen turned keys) s value)) (λ i l. each i (cases_eq i s))
+  pub seen_written : (value : Option Timed) → seen turned (set keys place_of_key value) ≡ set (seen turned keys) s value
+  seen_written value = same_maps (seen turned (set keys place_of_key value)) (set (seen turned keys) s value) (seen_length turned (set keys place_of_key value) (length-set keys place_of_key value ∙ long) ∙ sym (seen_length turned keys long) ∙ sym (length-set (seen turned keys) s value)) (λ i l. each i (cases_eq i s))
     where
-      now : (i : ℕ) → key_at (seen turned (set keys here value)) i ≡ key_at (set keys here value) (place_in i (turned_at turned i))
-      now i = seen_at turned (set keys here value) (length-set keys here value ∙ long) i
+      now : (i : ℕ) → key_at (seen turned (set keys place_of_key value)) i ≡ key_at (set keys place_of_key value) (place_in i (turned_at turned i))
+      now i = seen_at turned (set keys place_of_key value) (length-set keys place_of_key value ∙ long) i
 
-      each : (i : ℕ) → (i ≡ s) ⊎ (i ≢ s) → key_at (seen turned (set keys here value)) i ≡ key_at (set (seen turned keys) s value) i
+      each : (i : ℕ) → (i ≡ s) ⊎ (i ≢ s) → key_at (seen turned (set keys place_of_key value)) i ≡ key_at (set (seen turned keys) s value) i
       each i (inl e) =
-          let left : key_at (seen turned (set keys here value)) s ≡ value = now s ∙ get_or-set_same keys here value None here_in in
+          let left : key_at (seen turned (set keys place_of_key value)) s ≡ value = now s ∙ get_or-set_same keys place_of_key value None place_of_key_within in
           let right : key_at (set (seen turned keys) s value) s ≡ value = get_or-set_same (seen turned keys) s value None (omega (arith, within, seen_length turned keys long)) in
-          ap (key_at (seen turned (set keys here value))) e ∙ left ∙ sym right ∙ ap (key_at (set (seen turned keys) s value)) (sym e)
+          ap (key_at (seen turned (set keys place_of_key value))) e ∙ left ∙ sym right ∙ ap (key_at (set (seen turned keys) s value)) (sym e)
       each i (inr n) =
-          now i ∙ get_or-set_other keys here (place_in i (turned_at turned i)) value None (λ e. n (place_station i s (turned_at turned i) (turned_at turned s) e)) ∙ sym (seen_at turned keys long i) ∙ sym (get_or-set_other (seen turned keys) s i value None n)
+          now i ∙ get_or-set_other keys place_of_key (place_in i (turned_at turned i)) value None (λ e. n (place_station i s (turned_at turned i) (turned_at turned s) e)) ∙ sym (seen_at turned keys long i) ∙ sym (get_or-set_other (seen turned keys) s i value None n)
 
-  abbrev there : ℕ
-  there = place_in s (not (turned_at turned s))
+  abbrev place_after_switch : ℕ
+  place_after_switch = place_in s (not (turned_at turned s))
 
-  abbrev over : List Bool
-  over = set turned s (not (turned_at turned s))
+  abbrev turned_after_switch : List Bool
+  turned_after_switch = set turned s (not (turned_at turned s))
 
-  abbrev moved : Option Timed → List (Option Timed)
-  moved value = set (set keys here None) there value
+  abbrev keys_after_switch : Option Timed → List (Option Timed)
+  keys_after_switch value = set (set keys place_of_key None) place_after_switch value
 
   abbrev value : Option Timed
   value = key_at (seen turned keys) s
 
   -- a station switches, with its key
-  pub seen_turned : seen over (moved (key_at (seen turned keys) s)) ≡ seen turned keys
-  seen_turned = same_maps (seen over (moved value)) (seen turned keys) (seen_length over (moved value) long_now ∙ length-set turned s (not (turned_at turned s)) ∙ sym (seen_length turned keys long)) (λ i l. each i (cases_eq i s))
+  pub seen_turned : seen turned_after_switch (keys_after_switch (key_at (seen turned keys) s)) ≡ seen turned keys
+  seen_turned = same_maps (seen turned_after_switch (keys_after_switch value)) (seen turned keys) (seen_length turned_after_switch (keys_after_switch value) long_now ∙ length-set turned s (not (turned_at turned s)) ∙ sym (seen_length turned keys long)) (λ i l. each i (cases_eq i s))
     where
-      length_moved : length (moved value) ≡ length keys
-      length_moved = length-set (set keys here None) there value ∙ length-set keys here None
+      length_moved : length (keys_after_switch value) ≡ length keys
+      length_moved = length-set (set keys place_of_key None) place_after_switch value ∙ length-set keys place_of_key None
 
-      long_now : length (moved value) ≡ 2 * length over
+      long_now : length (keys_after_switch value) ≡ 2 * length turned_after_switch
       long_now = omega (arith, length_moved, long, length-set turned s (not (turned_at turned s)))
 
-      now : (i : ℕ) → key_at (seen over (moved value)) i ≡ key_at (moved value) (place_in i (turned_at over i))
-      now i = seen_at over (moved value) long_now i
+      now : (i : ℕ) → key_at (seen turned_after_switch (keys_after_switch value)) i ≡ key_at (keys_after_switch value) (place_in i (turned_at turned_after_switch i))
+      now i = seen_at turned_after_switch (keys_after_switch value) long_now i
 
-      turned_here : turned_at over s ≡ not (turned_at turned s)
+      turned_here : turned_at turned_after_switch s ≡ not (turned_at turned s)
       turned_here = get_or-set_same turned s (not (turned_at turned s)) false within
 
-      there_in : there < length (set keys here None)
+      there_in : place_after_switch < length (set keys place_of_key None)
       there_in =
-          omega (arith, long, length-set keys here None, place_within s (length turned) (not (turned_at turned s)) within)
+          omega (arith, long, length-set keys place_of_key None, place_within s (length turned) (not (turned_at turned s)) within)
 
-      each : (i : ℕ) → (i ≡ s) ⊎ (i ≢ s) → key_at (seen over (moved value)) i ≡ key_at (seen turned keys) i
+      each : (i : ℕ) → (i ≡ s) ⊎ (i ≢ s) → key_at (seen turned_after_switch (keys_after_switch value)) i ≡ key_at (seen turned keys) i
       each i (inl e) =
-          let left : key_at (seen over (moved value)) s ≡ value = now s ∙ ap (λ b. key_at (moved value) (place_in s b)) turned_here ∙ get_or-set_same (set keys here None) there value None there_in in
-          ap (key_at (seen over (moved value))) e ∙ left ∙ ap (key_at (seen turned keys)) (sym e)
+          let left : key_at (seen turned_after_switch (keys_after_switch value)) s ≡ value = now s ∙ ap (λ b. key_at (keys_after_switch value) (place_in s b)) turned_here ∙ get_or-set_same (set keys place_of_key None) place_after_switch value None there_in in
+          ap (key_at (seen turned_after_switch (keys_after_switch value))) e ∙ left ∙ ap (key_at (seen turned keys)) (sym e)
       each i (inr n) =
-          let stays : turned_at over i ≡ turned_at turned i = get_or-set_other turned s i (not (turned_at turned s)) false n in
-          now i ∙ ap (λ b. key_at (moved value) (place_in i b)) stays ∙ get_or-set_other (set keys here None) there (place_in i (turned_at turned i)) value None (λ e. n (place_station i s (turned_at turned i) (not (turned_at turned s)) e)) ∙ get_or-set_other keys here (place_in i (turned_at turned i)) None None (λ e. n (place_station i s (turned_at turned i) (turned_at turned s) e)) ∙ sym (seen_at turned keys long i)
+          let stays : turned_at turned_after_switch i ≡ turned_at turned i = get_or-set_other turned s i (not (turned_at turned s)) false n in
+          now i ∙ ap (λ b. key_at (keys_after_switch value) (place_in i b)) stays ∙ get_or-set_other (set keys place_of_key None) place_after_switch (place_in i (turned_at turned i)) value None (λ e. n (place_station i s (turned_at turned i) (not (turned_at turned s)) e)) ∙ get_or-set_other keys place_of_key (place_in i (turned_at turned i)) None None (λ e. n (place_station i s (turned_at turned i) (turned_at turned s) e)) ∙ sym (seen_at turned keys long i)

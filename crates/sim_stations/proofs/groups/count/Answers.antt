@@ -1,7 +1,7 @@
 use Rattle.std.proofs.Common.{◌≡◌, ◌<◌, ◌≤◌, ◌+◌, length, get_or, slice_index, arith}
 use Rattle.std.proofs.lemmas.List.Elements.{All-get_or, All-from_get_or}
 use Rattle.std.proofs.lemmas.List.Sums.{sum_by-le, sum_by-set}
-use Rattle.sim_stations.proofs.Rooms.{counted_more}
+use Rattle.sim_stations.proofs.Rooms.{counted_with_next}
 use Rattle.sim_stations.proofs.groups.count.Goals as goal
 
 pub slots-init : goal.slots-init
@@ -17,6 +17,6 @@ slots-preserved c =
     let group = get_or numbers index 0 in
     let exists : group < length c.slots.counts = omega (arith, All-get_or (λ n. n < length c.args.counts.now) numbers index 0 c.slots-test.true c.requires.within, c.slots.auto.counts) in
     record {
-      counted = counted_more numbers c.slots.counts index c.slots-test.true c.slots.invariant.counted exists;
+      counted = counted_with_next numbers c.slots.counts index c.slots-test.true c.slots.invariant.counted exists;
       all = omega (arith, sum_by-set (λ n. n) c.slots.counts group (slice_index c.slots.counts group + 1) 0 exists, c.slots.invariant.all);
     }

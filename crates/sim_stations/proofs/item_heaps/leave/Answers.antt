@@ -8,7 +8,7 @@ use Rattle.sim_queue.specs.Item.{Item}
 use Rattle.sim_queue.specs.TopHeap.{placed, IsTopHeap}
 use Rattle.sim_queue.proofs.ForCallers.{item_of, items_fit, some_items}
 use Rattle.sim_stations.specs.Parts.{all_but_last}
-use Rattle.sim_stations.proofs.ItemParts.{length-front, with_last, front_back, emptied, left_ordered, left_heap, left_placed}
+use Rattle.sim_stations.proofs.ItemParts.{length-front, front_and_last, front_of_single_rest, placed_without_only_item, left_ordered, left_heap, left_placed}
 use Rattle.sim_stations.proofs.item_heaps.leave.Goals as goal
 
 pub overflow_sub-left : goal.overflow_sub-left
@@ -22,7 +22,7 @@ returns-then-left-eq0-clause-taken g c =
     let some = some_items event_before event_laws c.args.slots items c.requires.heap.apart c.requires.heap.ordered c.args.slot c.requires.least in
     let any : Item Timed = item_of 0 c.requires.least.key in
     let last : Item Timed = get_or items (length items - 1) any in
-    emptied items (all_but_last items) last (with_last items some (length items - 1) any (omega (arith, some))) c.args.slots c.args.slot c.requires.heap c.requires.least
+    placed_without_only_item items (all_but_last items) last (front_and_last items some (length items - 1) any (omega (arith, some))) c.args.slots c.args.slot c.requires.heap c.requires.least
     (omega (arith, length-front items some, c.if-left-eq0.true))
 
 pub sink-requires-clause-few : goal.sink-requires-clause-few
@@ -34,7 +34,7 @@ sink-requires-clause-few g c =
     let many : length front + 1 ≡ length items = length-front items some in
     let left : 0 < length front = omega (arith, many, c.if-left-eq0.false) in
     let at : slice_get items (length items - 1) ≡ Some last = slice_get_read items (length items) (length items - 1) last refl (omega (arith, some)) c.index-items-left.is in
-    let are : items ≡ front ++ last ∷ [] = with_last items some (length items - 1) last (omega (arith, some)) ∙ ap (λ y. front ++ y ∷ []) (get_or_from_slice_get items (length items - 1) last last at) in
+    let are : items ≡ front ++ last ∷ [] = front_and_last items some (length items - 1) last (omega (arith, some)) ∙ ap (λ y. front ++ y ∷ []) (get_or_from_slice_get items (length items - 1) last last at) in
     omega (arith, items_fit c.args.slots items c.requires.heap.apart, c.requires.heap.few, length-set front 0 last, many)
 
 pub sink-requires-clause-but : goal.sink-requires-clause-but
@@ -46,7 +46,7 @@ sink-requires-clause-but g c =
     let many : length front + 1 ≡ length items = length-front items some in
     let left : 0 < length front = omega (arith, many, c.if-left-eq0.false) in
     let at : slice_get items (length items - 1) ≡ Some last = slice_get_read items (length items) (length items - 1) last refl (omega (arith, some)) c.index-items-left.is in
-    let are : items ≡ front ++ last ∷ [] = with_last items some (length items - 1) last (omega (arith, some)) ∙ ap (λ y. front ++ y ∷ []) (get_or_from_slice_get items (length items - 1) last last at) in
+    let are : items ≡ front ++ last ∷ [] = front_and_last items some (length items - 1) last (omega (arith, some)) ∙ ap (λ y. front ++ y ∷ []) (get_or_from_slice_get items (length items - 1) last last at) in
     left_ordered items front last are c.args.slots c.args.slot c.requires.heap c.requires.least left
 
 pub returns-clause-heap : goal.returns-clause-heap
@@ -58,9 +58,9 @@ returns-clause-heap g c =
     let many : length front + 1 ≡ length items = length-front items some in
     let left : 0 < length front = omega (arith, many, c.if-left-eq0.false) in
     let at : slice_get items (length items - 1) ≡ Some last = slice_get_read items (length items) (length items - 1) last refl (omega (arith, some)) c.index-items-left.is in
-    let are : items ≡ front ++ last ∷ [] = with_last items some (length items - 1) last (omega (arith, some)) ∙ ap (λ y. front ++ y ∷ []) (get_or_from_slice_get items (length items - 1) last last at) in
+    let are : items ≡ front ++ last ∷ [] = front_and_last items some (length items - 1) last (omega (arith, some)) ∙ ap (λ y. front ++ y ∷ []) (get_or_from_slice_get items (length items - 1) last last at) in
     let one : length (drop (length items - 1) items) ≡ 1 = omega (arith, length-drop (length items - 1) items, some) in
-    let back = front_back c.sink.new.items (drop (length items - 1) items) one in
+    let back = front_of_single_rest c.sink.new.items (drop (length items - 1) items) one in
     subst (λ (xs : List (Item Timed)). IsTopHeap event_before xs c.args.slots c.args.slots) (sym back)
     (left_heap items front last are c.args.slots c.args.slot c.requires.heap c.requires.least left c.sink.new.items c.sink.ensures.moved c.sink.ensures.ordered)
 
@@ -73,9 +73,9 @@ returns-clause-taken g c =
     let many : length front + 1 ≡ length items = length-front items some in
     let left : 0 < length front = omega (arith, many, c.if-left-eq0.false) in
     let at : slice_get items (length items - 1) ≡ Some last = slice_get_read items (length items) (length items - 1) last refl (omega (arith, some)) c.index-items-left.is in
-    let are : items ≡ front ++ last ∷ [] = with_last items some (length items - 1) last (omega (arith, some)) ∙ ap (λ y. front ++ y ∷ []) (get_or_from_slice_get items (length items - 1) last last at) in
+    let are : items ≡ front ++ last ∷ [] = front_and_last items some (length items - 1) last (omega (arith, some)) ∙ ap (λ y. front ++ y ∷ []) (get_or_from_slice_get items (length items - 1) last last at) in
     let one : length (drop (length items - 1) items) ≡ 1 = omega (arith, length-drop (length items - 1) items, some) in
-    let back = front_back c.sink.new.items (drop (length items - 1) items) one in
+    let back = front_of_single_rest c.sink.new.items (drop (length items - 1) items) one in
     ap (placed c.args.slots) back ∙ left_placed items front last are c.args.slots c.args.slot c.requires.heap c.requires.least left c.sink.new.items c.sink.ensures.moved
 
 pub returns-clause-counted : goal.returns-clause-counted

@@ -4,7 +4,7 @@ use Rattle.std.proofs.lemmas.Option.{slice_get_read, get_or_from_slice_get}
 use Rattle.goal_graph.specs.declared.action.Timed.{Timed}
 use Rattle.sim_order.specs.Events.{event_before}
 use Rattle.sim_queue.specs.Heap.{keys_of, IsSlotHeap}
-use Rattle.sim_stations.proofs.SlotParts.{settled_heap, places_room, left_long, keys_moved, but_moved, keys_left, heap_left}
+use Rattle.sim_stations.proofs.SlotParts.{slot_heap_after_settling, places_room, places_length_after_leaving, keys_moved, ordered_but_moved, keys_left, heap_left}
 use Rattle.sim_stations.proofs.slot_heaps.erase.Goals as goal
 
 pub returns-then-place-left-clause-heap : goal.returns-then-place-left-clause-heap
@@ -80,7 +80,7 @@ settle_among-requires g c =
     let are : keys ≡ rest ++ last ∷ [] = ap (λ n. take n sorted) more ∙ take_more sorted left last left_in ∙ ap (λ y. rest ++ y ∷ []) (get_or_from_slice_get sorted left last last there) in
     let same : left ≡ length rest = sym (length-take-le left sorted (omega (arith, left_in))) in
     let moves : slice_index places slot < left = omega (arith, c.if-place-left.false, present, more) in
-    record { but = but_moved keys slots places size heap slot within rest last are left same c.swap.new.slots c.swap.new.places c.swap.ensures.swapped c.swap.ensures.places moves }
+    record { but = ordered_but_moved keys slots places size heap slot within rest last are left same c.swap.new.slots c.swap.new.places c.swap.ensures.swapped c.swap.ensures.places moves }
 
 pub returns-clause-heap : goal.returns-clause-heap
 returns-clause-heap g c =
@@ -112,7 +112,7 @@ returns-clause-heap g c =
     let long : length (new ++ drop (left) sorted) ≡ size = omega (arith, length-append new (drop (left) sorted), length-drop (left) sorted, each, left_in) in
     subst (λ (xs : List Timed). IsSlotHeap event_before xs c.settle_among.new.slots c.settle_among.new.places (length (new ++ drop left sorted))) (sym front)
     (subst (IsSlotHeap event_before new c.settle_among.new.slots c.settle_among.new.places) (sym long)
-    (settled_heap old c.swap.new.places c.settle_among.new.slots c.settle_among.new.places (length old) c.settle_among.ensures.heap new size c.settle_among.ensures.each (omega (arith, left_long keys slots places size heap slot within rest last are left same c.swap.new.slots c.swap.new.places c.swap.ensures.swapped c.swap.ensures.places, room)) c.settle_among.ensures.keys))
+    (slot_heap_after_settling old c.swap.new.places c.settle_among.new.slots c.settle_among.new.places (length old) c.settle_among.ensures.heap new size c.settle_among.ensures.each (omega (arith, places_length_after_leaving keys slots places size heap slot within rest last are left same c.swap.new.slots c.swap.new.places c.swap.ensures.swapped c.swap.ensures.places, room)) c.settle_among.ensures.keys))
 
 pub returns-clause-dropped : goal.returns-clause-dropped
 returns-clause-dropped g c =

@@ -4,7 +4,7 @@ use Rattle.std.proofs.lemmas.Option.{slice_get-get_or, slice_get_within}
 use Rattle.sim_stations.specs.declared.parts.Part.{Part}
 use Rattle.sim_stations.specs.Parts.{places_of, IsInOrder}
 use Rattle.sim_stations.proofs.InParts.{put_mid, length-written}
-use Rattle.sim_stations.proofs.Fresh.{numbered_more}
+use Rattle.sim_stations.proofs.Fresh.{numbered_with_next_part}
 use Rattle.sim_stations.proofs.slot_heaps.in_order.Goals as goal
 
 pub parts-preserved : goal.parts-preserved
@@ -29,7 +29,7 @@ parts-preserved c =
       numbered =
           λ group q h e.
           subst (λ (xs : List ℕ). IsInOrder (places_of xs q)) (sym now)
-          (numbered_more parts c.args.size c.requires index part at table ys (part.start + part.room - part.start) long all each c.number.ensures.numbered c.parts.invariant.numbered group q h e);
+          (numbered_with_next_part parts c.args.size c.requires index part at table ys (part.start + part.room - part.start) long all each c.number.ensures.numbered c.parts.invariant.numbered group q h e);
     }
 
 pub returns-clause-numbered : goal.returns-clause-numbered

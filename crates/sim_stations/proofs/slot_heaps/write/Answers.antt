@@ -3,7 +3,7 @@ use Rattle.std.proofs.lemmas.List.{length-append, length-drop, length-set, lengt
 use Rattle.goal_graph.specs.declared.action.Timed.{Timed}
 use Rattle.sim_order.specs.Events.{event_before}
 use Rattle.sim_queue.specs.Heap.{keys_of, IsHeapBut, IsSlotHeap}
-use Rattle.sim_stations.proofs.SlotParts.{entered_at, settled_heap, room_in, places_room, keys_replaced, but_replaced, keys_entered, but_entered, entered_long}
+use Rattle.sim_stations.proofs.SlotParts.{take_with_entered, slot_heap_after_settling, room_in, places_room, keys_replaced, ordered_but_replaced, keys_entered, ordered_but_entered, places_length_after_entering}
 use Rattle.sim_stations.proofs.slot_heaps.write.Goals as goal
 
 pub settle_among-requires : goal.settle_among-requires
@@ -20,7 +20,7 @@ settle_among-requires g c =
     let many : length keys ≡ count = length-take-le count sorted c.requires.room in
     let room = places_room keys slots places size heap slot within in
     let there : slice_index places slot < length keys = omega (arith, c.if-place-count.true, many) in
-    record { but = but_replaced keys slots places size heap slot within c.args.key there }
+    record { but = ordered_but_replaced keys slots places size heap slot within c.args.key there }
 
 pub returns-then-place-count-clause-heap : goal.returns-then-place-count-clause-heap
 returns-then-place-count-clause-heap g c =
@@ -43,7 +43,7 @@ returns-then-place-count-clause-heap g c =
     let long : length (new ++ drop (count) sorted) ≡ size = omega (arith, length-append new (drop (count) sorted), length-drop (count) sorted, each, c.requires.room) in
     subst (λ (xs : List Timed). IsSlotHeap event_before xs c.settle_among.new.slots c.settle_among.new.places (length (new ++ drop count sorted))) (sym front)
     (subst (IsSlotHeap event_before new c.settle_among.new.slots c.settle_among.new.places) (sym long)
-    (settled_heap old places c.settle_among.new.slots c.settle_among.new.places (length old) c.settle_among.ensures.heap new size c.settle_among.ensures.each room c.settle_among.ensures.keys))
+    (slot_heap_after_settling old places c.settle_among.new.slots c.settle_among.new.places (length old) c.settle_among.ensures.heap new size c.settle_among.ensures.each room c.settle_among.ensures.keys))
 
 pub returns-then-place-count-clause-put : goal.returns-then-place-count-clause-put
 returns-then-place-count-clause-put g c =
@@ -81,11 +81,11 @@ settle_among-requires-2 g c =
     let room = places_room keys slots places size heap slot within in
     let absent : count ≤ slice_index places slot = omega (arith, c.if-place-count.false) in
     let count_in : count < size = omega (arith, absent, room_in keys slots places size heap slot within) in
-    let at = entered_at sorted count c.args.key count_in in
+    let at = take_with_entered sorted count c.args.key count_in in
     let same : count ≡ length keys = sym many in
     record {
       but = subst (λ (xs : List Timed). IsHeapBut event_before (keys_of xs c.swap.new.places) c.swap.new.slots c.swap.new.places (length xs) count) (sym at)
-          (but_entered keys slots places size heap slot within c.args.key count same absent c.swap.new.slots c.swap.new.places c.swap.ensures.swapped c.swap.ensures.places);
+          (ordered_but_entered keys slots places size heap slot within c.args.key count same absent c.swap.new.slots c.swap.new.places c.swap.ensures.swapped c.swap.ensures.places);
     }
 
 pub returns-clause-heap : goal.returns-clause-heap
@@ -103,17 +103,17 @@ returns-clause-heap g c =
     let room = places_room keys slots places size heap slot within in
     let absent : count ≤ slice_index places slot = omega (arith, c.if-place-count.false) in
     let count_in : count < size = omega (arith, absent, room_in keys slots places size heap slot within) in
-    let at = entered_at sorted count c.args.key count_in in
+    let at = take_with_entered sorted count c.args.key count_in in
     let same : count ≡ length keys = sym many in
     let old : List Timed = set (take (count + 1) sorted) count c.args.key in
     let new = c.settle_among-2.new.sorted in
     let each : length new ≡ count + 1 = omega (arith, c.settle_among-2.ensures.each, length-set (take (count + 1) sorted) count c.args.key, length-take-le (count + 1) sorted (omega (arith, count_in))) in
     let front : take (count + 1) (new ++ drop (count + 1) sorted) ≡ new = take_at new (drop (count + 1) sorted) (count + 1) each in
     let long : length (new ++ drop (count + 1) sorted) ≡ size = omega (arith, length-append new (drop (count + 1) sorted), length-drop (count + 1) sorted, each, count_in) in
-    let places_are = entered_long keys slots places size heap slot within c.args.key count same absent c.swap.new.slots c.swap.new.places c.swap.ensures.swapped c.swap.ensures.places in
+    let places_are = places_length_after_entering keys slots places size heap slot within c.args.key count same absent c.swap.new.slots c.swap.new.places c.swap.ensures.swapped c.swap.ensures.places in
     subst (λ (xs : List Timed). IsSlotHeap event_before xs c.settle_among-2.new.slots c.settle_among-2.new.places (length (new ++ drop (count + 1) sorted))) (sym front)
     (subst (IsSlotHeap event_before new c.settle_among-2.new.slots c.settle_among-2.new.places) (sym long)
-    (settled_heap old c.swap.new.places c.settle_among-2.new.slots c.settle_among-2.new.places (length old) c.settle_among-2.ensures.heap new size c.settle_among-2.ensures.each (omega (arith, places_are, room)) c.settle_among-2.ensures.keys))
+    (slot_heap_after_settling old c.swap.new.places c.settle_among-2.new.slots c.settle_among-2.new.places (length old) c.settle_among-2.ensures.heap new size c.settle_among-2.ensures.each (omega (arith, places_are, room)) c.settle_among-2.ensures.keys))
 
 pub returns-clause-put : goal.returns-clause-put
 returns-clause-put g c =
@@ -130,7 +130,7 @@ returns-clause-put g c =
     let room = places_room keys slots places size heap slot within in
     let absent : count ≤ slice_index places slot = omega (arith, c.if-place-count.false) in
     let count_in : count < size = omega (arith, absent, room_in keys slots places size heap slot within) in
-    let at = entered_at sorted count c.args.key count_in in
+    let at = take_with_entered sorted count c.args.key count_in in
     let same : count ≡ length keys = sym many in
     let old : List Timed = set (take (count + 1) sorted) count c.args.key in
     let new = c.settle_among-2.new.sorted in

@@ -11,7 +11,7 @@ use Rattle.sim_queue.specs.Groups.{heap_at, with_key}
 use Rattle.sim_stations.specs.AtSlots.{at_home}
 use Rattle.sim_stations.specs.Parts.{Roomed, all_but_last, map_of_items, roomed, AreItemHeaps}
 use Rattle.sim_stations.proofs.InParts.{put_mid, part_read}
-use Rattle.sim_stations.proofs.ItemTable.{part_in, part_fits, heap_there, many_there, map_there, room_there, long, items_after, roomed_after}
+use Rattle.sim_stations.proofs.ItemTable.{part_in, part_fits, heap_of_part, count_of_part, map_of_part, room_of_its_part, items_length_unchanged, items_after, roomed_after}
 use Rattle.sim_stations.proofs.item_heaps.ItemHeaps.take.Goals as goal
 
 pub slice_bounds-leave-end : goal.slice_bounds-leave-end
@@ -40,7 +40,7 @@ leave-requires-clause-heap g c =
     let same : c.deref_mut.result.now ≡ items = c.deref_mut.ensures.value in
     let n = part.start + part.count - part.start in
     let many : n ≡ part.count = omega arith in
-    subst (λ (xs : List (Item Timed)). IsTopHeap event_before (take n (drop part.start xs)) slots slots) (sym same) (heap_there slots parts items heaps group part at)
+    subst (λ (xs : List (Item Timed)). IsTopHeap event_before (take n (drop part.start xs)) slots slots) (sym same) (heap_of_part slots parts items heaps group part at)
 
 pub leave-requires-clause-least : goal.leave-requires-clause-least
 leave-requires-clause-least g c =
@@ -55,7 +55,7 @@ leave-requires-clause-least g c =
     let same : c.deref_mut.result.now ≡ items = c.deref_mut.ensures.value in
     let n = part.start + part.count - part.start in
     let many : n ≡ part.count = omega arith in
-    let least = subst (λ h. IsSoleLeast event_before h c.args.slot) (map_there slots parts items heaps group part at) (subst (λ (r : Roomed Timed). IsSoleLeast event_before (heap_at r.maps group) c.args.slot) (sym c.self.view_is) c.requires.least) in
+    let least = subst (λ h. IsSoleLeast event_before h c.args.slot) (map_of_part slots parts items heaps group part at) (subst (λ (r : Roomed Timed). IsSoleLeast event_before (heap_at r.maps group) c.args.slot) (sym c.self.view_is) c.requires.least) in
     subst (λ (xs : List (Item Timed)). IsSoleLeast event_before (placed slots (take n (drop part.start xs))) c.args.slot) (sym same) least
 
 pub overflow_sub-count : goal.overflow_sub-count
@@ -70,9 +70,9 @@ overflow_sub-count g c =
     let at = part_read parts group part within c.index-part.ensures in
     let n = part.start + part.count - part.start in
     let many : n ≡ part.count = omega arith in
-    let least = subst (λ h. IsSoleLeast event_before h c.args.slot) (map_there slots parts items heaps group part at) (subst (λ (r : Roomed Timed). IsSoleLeast event_before (heap_at r.maps group) c.args.slot) (sym c.self.view_is) c.requires.least) in
-    let heap = heap_there slots parts items heaps group part at in
-    let some : 0 < part.count = omega (arith, some_items event_before event_laws slots (take n (drop part.start items)) heap.apart heap.ordered c.args.slot least, many_there slots parts items heaps group part at) in
+    let least = subst (λ h. IsSoleLeast event_before h c.args.slot) (map_of_part slots parts items heaps group part at) (subst (λ (r : Roomed Timed). IsSoleLeast event_before (heap_at r.maps group) c.args.slot) (sym c.self.view_is) c.requires.least) in
+    let heap = heap_of_part slots parts items heaps group part at in
+    let some : 0 < part.count = omega (arith, some_items event_before event_laws slots (take n (drop part.start items)) heap.apart heap.ordered c.args.slot least, count_of_part slots parts items heaps group part at) in
     omega (arith, some)
 
 pub invariant_of-self : goal.invariant_of-self
@@ -90,10 +90,10 @@ invariant_of-self g c =
     let many : n ≡ part.count = omega arith in
     let ys = c.leave.new.items in
     let in_part : n ≤ part.room = omega (arith, many, part_fits slots parts items heaps group part at) in
-    let each : length ys ≡ n = c.leave.ensures.each ∙ ap (λ xs. length (take n (drop part.start xs))) same ∙ many_there slots parts items heaps group part at ∙ sym many in
+    let each : length ys ≡ n = c.leave.ensures.each ∙ ap (λ xs. length (take n (drop part.start xs))) same ∙ count_of_part slots parts items heaps group part at ∙ sym many in
     let few : part.count - 1 ≤ n = omega (arith, many) in
     let whole : take (part.count - 1) ys ≡ all_but_last ys = ap (λ m. take m ys) (omega (arith, each, many)) in
-    let now = with_items_is c.self.inside.items (put_mid part.start n c.deref_mut.result.now ys) (omega (arith, ap (λ xs. length (put_mid part.start n xs ys)) same, long slots parts items heaps group part at ys n in_part each (part.count - 1) few, c.self.inside.items.ok.0)) ∙ ap (λ xs. put_mid part.start n xs ys) same in
+    let now = with_items_is c.self.inside.items (put_mid part.start n c.deref_mut.result.now ys) (omega (arith, ap (λ xs. length (put_mid part.start n xs ys)) same, items_length_unchanged slots parts items heaps group part at ys n in_part each (part.count - 1) few, c.self.inside.items.ok.0)) ∙ ap (λ xs. put_mid part.start n xs ys) same in
     let new_parts = slice_set parts group (record { start = part.start; room = part.room; count = part.count - 1 }) in
     subst (AreItemHeaps event_before slots new_parts) (sym now)
     (items_after slots parts items heaps group part at ys n in_part each (part.count - 1) few (subst (λ (xs : List (Item Timed)). IsTopHeap event_before xs slots slots) (sym whole) c.leave.ensures.heap))
@@ -113,10 +113,10 @@ returns-clause-taken g c =
     let many : n ≡ part.count = omega arith in
     let ys = c.leave.new.items in
     let in_part : n ≤ part.room = omega (arith, many, part_fits slots parts items heaps group part at) in
-    let each : length ys ≡ n = c.leave.ensures.each ∙ ap (λ xs. length (take n (drop part.start xs))) same ∙ many_there slots parts items heaps group part at ∙ sym many in
+    let each : length ys ≡ n = c.leave.ensures.each ∙ ap (λ xs. length (take n (drop part.start xs))) same ∙ count_of_part slots parts items heaps group part at ∙ sym many in
     let few : part.count - 1 ≤ n = omega (arith, many) in
     let whole : take (part.count - 1) ys ≡ all_but_last ys = ap (λ m. take m ys) (omega (arith, each, many)) in
-    let now = with_items_is c.self.inside.items (put_mid part.start n c.deref_mut.result.now ys) (omega (arith, ap (λ xs. length (put_mid part.start n xs ys)) same, long slots parts items heaps group part at ys n in_part each (part.count - 1) few, c.self.inside.items.ok.0)) ∙ ap (λ xs. put_mid part.start n xs ys) same in
+    let now = with_items_is c.self.inside.items (put_mid part.start n c.deref_mut.result.now ys) (omega (arith, ap (λ xs. length (put_mid part.start n xs ys)) same, items_length_unchanged slots parts items heaps group part at ys n in_part each (part.count - 1) few, c.self.inside.items.ok.0)) ∙ ap (λ xs. put_mid part.start n xs ys) same in
     let new_parts = slice_set parts group (record { start = part.start; room = part.room; count = part.count - 1 }) in
     let map_now = ap (placed slots) whole ∙ c.leave.ensures.taken ∙ ap (λ xs. slice_set (placed slots (take n (drop part.start xs))) c.args.slot None) same in
     ap (roomed slots new_parts) now
@@ -138,4 +138,4 @@ returns-clause-counted g c =
     let many : n ≡ part.count = omega arith in
     let bound = ap (λ (r : Roomed Timed). slice_index r.rooms group) c.self.view_is in
     λ k few.
-    c.leave.ensures.counted k (omega (arith, few, bound, room_there slots parts items heaps group part at, part_fits slots parts items heaps group part at, many_there slots parts items heaps group part at, ap (λ xs. length (take n (drop part.start xs))) same))
+    c.leave.ensures.counted k (omega (arith, few, bound, room_of_its_part slots parts items heaps group part at, part_fits slots parts items heaps group part at, count_of_part slots parts items heaps group part at, ap (λ xs. length (take n (drop part.start xs))) same))

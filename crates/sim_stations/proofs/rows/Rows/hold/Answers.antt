@@ -3,7 +3,7 @@ use Rattle.std.proofs.lemmas.List.{length-set}
 use Rattle.sim_queue.specs.Map.{key_at}
 use Rattle.sim_stations.specs.Stations.{held, pair_at}
 use Rattle.sim_stations.specs.Rows.{Rowed, seen, AreBothTold}
-use Rattle.sim_stations.proofs.Heads.{none_of_empty}
+use Rattle.sim_stations.proofs.Heads.{empty_group_has_no_head}
 use Rattle.sim_stations.proofs.InRows.{pair_read, pair_there, held_long, held_inside, held_heads}
 use Rattle.sim_stations.proofs.rows.Rows.hold.Goals as goal
 
@@ -49,7 +49,7 @@ raise_both-requires-clause-empty_cpu g c =
     let p = c.index-pair.result.now in
     let within : c.args.station < length q.pairs.items = omega (arith, c.requires, ap (λ (r : Rowed). length r.pairs) c.self.view_is) in
     let at = pair_read q.pairs.items c.args.station p within c.index-pair.ensures in
-    none_of_empty q.rows p.cpu (slice_index q.free.items p.cpu) (key_at q.heads p.cpu) (c.self.invariant.1.headed p.cpu (c.self.invariant.0.exist c.args.station p at).0)
+    empty_group_has_no_head q.rows p.cpu (slice_index q.free.items p.cpu) (key_at q.heads p.cpu) (c.self.invariant.1.headed p.cpu (c.self.invariant.0.exist c.args.station p at).0)
 
 pub raise_both-requires-clause-empty_side : goal.raise_both-requires-clause-empty_side
 raise_both-requires-clause-empty_side g c =
@@ -57,7 +57,7 @@ raise_both-requires-clause-empty_side g c =
     let p = c.index-pair.result.now in
     let within : c.args.station < length q.pairs.items = omega (arith, c.requires, ap (λ (r : Rowed). length r.pairs) c.self.view_is) in
     let at = pair_read q.pairs.items c.args.station p within c.index-pair.ensures in
-    none_of_empty q.rows p.side (slice_index q.free.items p.side) (key_at q.heads p.side) (c.self.invariant.1.headed p.side (c.self.invariant.0.exist c.args.station p at).1)
+    empty_group_has_no_head q.rows p.side (slice_index q.free.items p.side) (key_at q.heads p.side) (c.self.invariant.1.headed p.side (c.self.invariant.0.exist c.args.station p at).1)
 
 pub invariant_of-self : goal.invariant_of-self
 invariant_of-self g c =

@@ -7,7 +7,7 @@ use Rattle.sim_queue.specs.Item.{at_time}
 use Rattle.sim_queue.specs.Groups.{heap_at, with_key}
 use Rattle.sim_stations.specs.Parts.{map_of_slots, maps_of_slots}
 use Rattle.sim_stations.proofs.InParts.{put_mid, part_read, length-written}
-use Rattle.sim_stations.proofs.SlotTable.{as_heaps, part_in, part_fits, places_long, slots_long, sorted_long, length_there, heap_there, slots_after, maps_after}
+use Rattle.sim_stations.proofs.SlotTable.{slot_heaps_of_equal_lists, part_in, part_fits, places_long, slots_long, sorted_long, map_length_is_room, heap_of_part, slots_after, maps_after}
 use Rattle.sim_stations.proofs.slot_heaps.SlotHeaps.put.Goals as goal
 
 pub slice_bounds-write-end : goal.slice_bounds-write-end
@@ -60,7 +60,7 @@ write-count-requires-clause-heap g c =
     subst (λ (xs : List Timed). IsSlotHeap event_before (take part.count (take (part.start + part.room - part.start) (drop part.start xs))) (take (part.start + part.room - part.start) (drop part.start c.deref_mut-2.result.now)) (take (part.start + part.room - part.start) (drop part.start c.deref_mut-3.result.now)) (length (take (part.start + part.room - part.start) (drop part.start xs)))) (sym same)
     (subst (λ (xs : List ℕ). IsSlotHeap event_before (take part.count (take (part.start + part.room - part.start) (drop part.start sorted))) (take (part.start + part.room - part.start) (drop part.start xs)) (take (part.start + part.room - part.start) (drop part.start c.deref_mut-3.result.now)) (length (take (part.start + part.room - part.start) (drop part.start sorted)))) (sym same_slots)
     (subst (λ (xs : List ℕ). IsSlotHeap event_before (take part.count (take (part.start + part.room - part.start) (drop part.start sorted))) (take (part.start + part.room - part.start) (drop part.start slots)) (take (part.start + part.room - part.start) (drop part.start xs)) (length (take (part.start + part.room - part.start) (drop part.start sorted)))) (sym same_places)
-    (heap_there parts sorted slots places heaps home.group part at)))
+    (heap_of_part parts sorted slots places heaps home.group part at)))
 
 pub write-count-requires-clause-slot_in : goal.write-count-requires-clause-slot_in
 write-count-requires-clause-slot_in g c =
@@ -75,7 +75,7 @@ write-count-requires-clause-slot_in g c =
     let at = part_read parts home.group part within c.index-part.ensures in
     let same_places : c.deref_mut-3.result.now ≡ places = c.deref_mut-3.ensures.value in
     let places_are : length (take (part.start + part.room - part.start) (drop part.start places)) ≡ part.room = places_long parts sorted slots places heaps home.group part at in
-    omega (arith, c.requires.place_in, ap (λ hs. length (heap_at hs home.group)) c.self.view_is, length_there parts sorted slots places heaps home.group part at, ap (λ xs. length (take (part.start + part.room - part.start) (drop part.start xs))) same_places, places_are)
+    omega (arith, c.requires.place_in, ap (λ hs. length (heap_at hs home.group)) c.self.view_is, map_length_is_room parts sorted slots places heaps home.group part at, ap (λ xs. length (take (part.start + part.room - part.start) (drop part.start xs))) same_places, places_are)
 
 pub write-count-requires-clause-room : goal.write-count-requires-clause-room
 write-count-requires-clause-room g c =
@@ -133,7 +133,7 @@ invariant_of-self g c =
     let now_slots = with_items_is c.self.inside.slots (put_mid part.start (part.start + part.room - part.start) c.deref_mut-2.result.now ss) (omega (arith, ap (λ xs. length (put_mid part.start (part.start + part.room - part.start) xs ss)) same_slots, keep_slots, c.self.inside.slots.ok.0)) ∙ ap (λ xs. put_mid part.start (part.start + part.room - part.start) xs ss) same_slots in
     let now_places = with_items_is c.self.inside.places (put_mid part.start (part.start + part.room - part.start) c.deref_mut-3.result.now ps) (omega (arith, ap (λ xs. length (put_mid part.start (part.start + part.room - part.start) xs ps)) same_places, keep_places, c.self.inside.places.ok.0)) ∙ ap (λ xs. put_mid part.start (part.start + part.room - part.start) xs ps) same_places in
     let new_parts = slice_set parts home.group (record { start = part.start; room = part.room; count = c.write-count.result }) in
-    as_heaps new_parts now now_slots now_places (slots_after parts sorted slots places heaps home.group part at (part.start + part.room - part.start) all ys ss ps each slots_each places_each c.write-count.result c.write-count.ensures.room c.write-count.ensures.heap)
+    slot_heaps_of_equal_lists new_parts now now_slots now_places (slots_after parts sorted slots places heaps home.group part at (part.start + part.room - part.start) all ys ss ps each slots_each places_each c.write-count.result c.write-count.ensures.room c.write-count.ensures.heap)
 
 pub returns-clause-put : goal.returns-clause-put
 returns-clause-put g c =
@@ -195,4 +195,4 @@ returns-clause-counted g c =
     let slots_are : length (take (part.start + part.room - part.start) (drop part.start slots)) ≡ part.room = slots_long parts sorted slots places heaps home.group part at in
     let places_are : length (take (part.start + part.room - part.start) (drop part.start places)) ≡ part.room = places_long parts sorted slots places heaps home.group part at in
     λ k few.
-    c.write-count.ensures.counted k (omega (arith, few, ap (λ (hs : List (List (Option Timed))). length (heap_at hs home.group)) c.self.view_is, length_there parts sorted slots places heaps home.group part at, ap (λ xs. length (take (part.start + part.room - part.start) (drop part.start xs))) same_places, places_are))
+    c.write-count.ensures.counted k (omega (arith, few, ap (λ (hs : List (List (Option Timed))). length (heap_at hs home.group)) c.self.view_is, map_length_is_room parts sorted slots places heaps home.group part at, ap (λ xs. length (take (part.start + part.room - part.start) (drop part.start xs))) same_places, places_are))
