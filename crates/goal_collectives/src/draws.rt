@@ -50,8 +50,8 @@ impl Draws {
         ensures round { result ≡ round_from self.old.state }
         ensures state { self.new.state ≡ next_state (next_state (next_state (next_state self.old.state))) }
     {
-        let from = self.draw() % u64::from(PROBE_RANKS);
-        let to = self.draw() % u64::from(PROBE_RANKS);
+        let from = self.draw() % PROBE_RANKS as u64;
+        let to = self.draw() % PROBE_RANKS as u64;
         let nanos = self.draw() % 10_000;
         let bytes = self.draw() % 100_000;
         Round {
