@@ -50,13 +50,13 @@ impl Draws {
         ensures round { result ≡ round_from self.old.state }
         ensures state { self.new.state ≡ next_state (next_state (next_state (next_state self.old.state))) }
     {
-        let from = self.draw() % PROBE_RANKS as u64;
-        let to = self.draw() % PROBE_RANKS as u64;
+        let from = self.draw();
+        let to = self.draw();
         let nanos = self.draw() % 10_000;
         let bytes = self.draw() % 100_000;
         Round {
-            from: from as u32,
-            to: to as u32,
+            from: (from % PROBE_RANKS as u64) as u32,
+            to: (to % PROBE_RANKS as u64) as u32,
             nanos,
             bytes,
         }
