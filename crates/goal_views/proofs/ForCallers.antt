@@ -4,7 +4,7 @@ use Rattle.goal_graph.specs.declared.action.Timed.{Timed}
 use Rattle.goal_graph.specs.Schedule.{Plan}
 use Rattle.sim_params.specs.Costs.{CostModel}
 use Rattle.sim_params.specs.Stuck.{is_stuck}
-use Rattle.sim_waits.proofs.ForCallers.{one_report}
+use Rattle.sim_waits.proofs.ForCallers.{report_unique}
 use Rattle.goal_words.specs.declared.request.RunView.{RunView}
 use Rattle.goal_words.specs.declared.request.RunView.TheVariants as view
 use Rattle.goal_views.specs.Views.{Shows, IsShownRun}
@@ -13,7 +13,7 @@ use Rattle.goal_views.specs.Views.{Shows, IsShownRun}
 one_text : (how : RunView) (sched : List Plan) (costs : CostModel) (h : List Timed) (one other : List ℕ) → Shows how sched costs h one
     → Shows how sched costs h other → one ≡ other
 one_text view.Printed sched costs h one other a b = a ∙ sym b
-one_text view.Waits sched costs h one other a b = one_report sched costs h one other a b
+one_text view.Waits sched costs h one other a b = report_unique sched costs h one other a b
 one_text view.Knots sched costs h one other a b = a ∙ sym b
 one_text view.Sum sched costs h one other a b = a ∙ sym b
 

@@ -22,11 +22,11 @@ use Rattle.sim_params.proofs.ForCallers.{since_kept, since_new, start_kept, end_
 use Rattle.sim_waits.specs.Waits.{ended, last_time, wait}
 
 -- functions that agree on a list have the same greatest number
-greatest_agree : {A : Type 0} (f g : A → ℕ) (xs : List A) → ((x : A) → Contains xs x → f x ≡ g x) → greatest f xs ≡ greatest g xs
+greatest_of_equal_functions : {A : Type 0} (f g : A → ℕ) (xs : List A) → ((x : A) → Contains xs x → f x ≡ g x) → greatest f xs ≡ greatest g xs
 unfolding greatest
-greatest_agree f g [] same = refl
-greatest_agree f g (x ∷ xs) same =
-    ap₂ max (same x (contains_first x xs x refl)) (greatest_agree f g xs (λ y c. same y (contains_more x xs y c)))
+greatest_of_equal_functions f g [] same = refl
+greatest_of_equal_functions f g (x ∷ xs) same =
+    ap₂ max (same x (contains_first x xs x refl)) (greatest_of_equal_functions f g xs (λ y c. same y (contains_more x xs y c)))
 
 -- a test that holds has held since one of the actions of the history
 since_within : (test : List Act → Bool) (n : ℕ) (h : List Timed) → All (λ (b : Timed). b.time ≤ n) h → since test h ≤ n
@@ -51,20 +51,20 @@ module _ (plans : List Plan) (costs : CostModel) where
   ready_kept : (a : Timed) (h : List Timed) (x : OpId) → IsRun plans costs h → is_ready plans (is_eager plans costs) (plain h) x ≡ true → ready plans costs (a ∷ h) x ≡ ready plans costs h x
   unfolding ready
   ready_kept a h x run e =
-      greatest_agree (λ (d : Need). met_at plans costs (a ∷ h) d.when (needed x d)) (λ (d : Need). met_at plans costs h d.when (needed x d)) (needs plans x) (λ d c. met_kept a h d.when (needed x d) run (ready_need plans (is_eager plans costs) (plain h) x d e c))
+      greatest_of_equal_functions (λ (d : Need). met_at plans costs (a ∷ h) d.when (needed x d)) (λ (d : Need). met_at plans costs h d.when (needed x d)) (needs plans x) (λ d c. met_kept a h d.when (needed x d) run (ready_need plans (is_eager plans costs) (plain h) x d e c))
 
   -- the first action of an operation comes when it is ready, or later
-  first_ready : (h : List Timed) (x : OpId) (k : Option Kind) → may plans (is_eager plans costs) (plain h) (first_class k) x k ≡ true → (is_ready plans (is_eager plans costs) (plain h) x ≡ true) × (ready plans costs h x ≤ time_of plans costs h (first_class k) x k)
-  first_ready h x None e = absurd (cc)
-  first_ready h x (Some (Calc nanos)) e = (e, omega arith)
-  first_ready h x (Some (Send bytes to tag)) e = (e, omega arith)
-  first_ready h x (Some (Recv room from tag)) e = (e, omega arith)
+  first_action_is_ready : (h : List Timed) (x : OpId) (k : Option Kind) → may plans (is_eager plans costs) (plain h) (first_class k) x k ≡ true → (is_ready plans (is_eager plans costs) (plain h) x ≡ true) × (ready plans costs h x ≤ time_of plans costs h (first_class k) x k)
+  first_action_is_ready h x None e = absurd (cc)
+  first_action_is_ready h x (Some (Calc nanos)) e = (e, omega arith)
+  first_action_is_ready h x (Some (Send bytes to tag)) e = (e, omega arith)
+  first_action_is_ready h x (Some (Recv room from tag)) e = (e, omega arith)
 
   -- what is possible as the first action of an operation
-  first_time : (a : Timed) (h : List Timed) (x : OpId) → Possible plans costs h a → a.class ≡ first_class (kind_at plans x) → a.op ≡ x → (is_ready plans (is_eager plans costs) (plain h) x ≡ true) × (ready plans costs h x ≤ a.time)
+  first_action_at_ready_or_later : (a : Timed) (h : List Timed) (x : OpId) → Possible plans costs h a → a.class ≡ first_class (kind_at plans x) → a.op ≡ x → (is_ready plans (is_eager plans costs) (plain h) x ≡ true) × (ready plans costs h x ≤ a.time)
   unfolding time
-  first_time a h x p c o =
-      let found = first_ready h x (kind_at plans x) (at_x (first_class (kind_at plans x)) c) in
+  first_action_at_ready_or_later a h x p c o =
+      let found = first_action_is_ready h x (kind_at plans x) (at_x (first_class (kind_at plans x)) c) in
       (found.0, le_trans found.1 (omega (arith, at_its_time (first_class (kind_at plans x)) c, p.time)))
     where
       at_x : (d : Class) → a.class ≡ d → may plans (is_eager plans costs) (plain h) d x (kind_at plans x) ≡ true
@@ -77,11 +77,11 @@ module _ (plans : List Plan) (costs : CostModel) where
 
   module _ (last : NewestIsLast) where
     -- an operation that has started was ready by then
-    ready_start : (h : List Timed) (x : OpId) → IsRun plans costs h → has_started plans x (plain h) ≡ true → ready plans costs h x ≤ start plans costs h x
+    ready_before_start : (h : List Timed) (x : OpId) → IsRun plans costs h → has_started plans x (plain h) ≡ true → ready plans costs h x ≤ start plans costs h x
     unfolding plain
-    ready_start [] x run s = absurd (both_ways _ (happened_none (first_class (kind_at plans x)) x) s)
-    ready_start (a ∷ h) x (run, next) s =
-        elim (cases_Bool (has_started plans x (plain h))) [ inl t ↦ before t (ready_start h x run t) | inr f ↦ now f (happened_cases (first_class (kind_at plans x)) x (plain_act a) (plain h) s) ]
+    ready_before_start [] x run s = absurd (both_ways _ (happened_none (first_class (kind_at plans x)) x) s)
+    ready_before_start (a ∷ h) x (run, next) s =
+        elim (cases_Bool (has_started plans x (plain h))) [ inl t ↦ before t (ready_before_start h x run t) | inr f ↦ now f (happened_cases (first_class (kind_at plans x)) x (plain_act a) (plain h) s) ]
       where
         before : has_started plans x (plain h) ≡ true → ready plans costs h x ≤ start plans costs h x → ready plans costs (a ∷ h) x ≤ start plans costs (a ∷ h) x
         before t rest =
@@ -91,16 +91,16 @@ module _ (plans : List Plan) (costs : CostModel) where
         now : has_started plans x (plain h) ≡ false → (happened (first_class (kind_at plans x)) x (plain h) ≡ true) ⊎ (is_act (first_class (kind_at plans x)) x (plain_act a) ≡ true) → ready plans costs (a ∷ h) x ≤ start plans costs (a ∷ h) x
         now f (inl t) = absurd (both_ways _ f t)
         now f (inr is) =
-            let found = first_time a h x next.possible (is_act_class _ x (plain_act a) is) (is_act_op _ x (plain_act a) is) in
+            let found = first_action_at_ready_or_later a h x next.possible (is_act_class _ x (plain_act a) is) (is_act_op _ x (plain_act a) is) in
             omega (arith, found.1, ready_kept a h x run found.0, since_new (has_started plans x) a h f s)
 
     -- an operation does not start after its last action
-    start_last : (h : List Timed) (x : OpId) → IsRun plans costs h → ended plans costs h x ≡ true → start plans costs h x ≤ last_time plans costs h x
+    start_before_last_action : (h : List Timed) (x : OpId) → IsRun plans costs h → ended plans costs h x ≡ true → start plans costs h x ≤ last_time plans costs h x
     unfolding plain
-    start_last [] x run e =
+    start_before_last_action [] x run e =
         omega (arith, since_within (has_started plans x) 0 [] (All-nil (λ (b : Timed). b.time ≤ 0)))
-    start_last (a ∷ h) x (run, next) e =
-        elim (cases_Bool (ended plans costs h x)) [ inl t ↦ before t (start_last h x run t) | inr f ↦ now f ]
+    start_before_last_action (a ∷ h) x (run, next) e =
+        elim (cases_Bool (ended plans costs h x)) [ inl t ↦ before t (start_before_last_action h x run t) | inr f ↦ now f ]
       where
         before : ended plans costs h x ≡ true → start plans costs h x ≤ last_time plans costs h x → start plans costs (a ∷ h) x ≤ last_time plans costs (a ∷ h) x
         before t rest =
@@ -111,11 +111,11 @@ module _ (plans : List Plan) (costs : CostModel) where
             omega (arith, since_within (has_started plans x) a.time (a ∷ h) (All-cons (λ (b : Timed). b.time ≤ a.time) a h (omega arith) (last plans costs h a (run, next))), since_new (has_ended plans (is_eager plans costs) x) a h f e)
 
     -- an operation that has ended was ready when its last action happened, or before
-    pub ready_last : (h : List Timed) (x : OpId) → IsRun plans costs h → ended plans costs h x ≡ true → ready plans costs h x ≤ last_time plans costs h x
-    ready_last h x run e =
-        le_trans (ready_start h x run (ended_started plans (is_eager plans costs) (plain h) x (run_interleaving plans costs h run) e)) (start_last h x run e)
+    pub ready_before_last_action : (h : List Timed) (x : OpId) → IsRun plans costs h → ended plans costs h x ≡ true → ready plans costs h x ≤ last_time plans costs h x
+    ready_before_last_action h x run e =
+        le_trans (ready_before_start h x run (ended_started plans (is_eager plans costs) (plain h) x (run_interleaving plans costs h run) e)) (start_before_last_action h x run e)
 
     -- so its wait is the difference
-    pub exact_wait : (h : List Timed) (x : OpId) → IsRun plans costs h → ended plans costs h x ≡ true → ready plans costs h x + wait plans costs h x ≡ last_time plans costs h x
+    pub wait_is_difference : (h : List Timed) (x : OpId) → IsRun plans costs h → ended plans costs h x ≡ true → ready plans costs h x + wait plans costs h x ≡ last_time plans costs h x
     unfolding wait
-    exact_wait h x run e = omega (arith, ready_last h x run e)
+    wait_is_difference h x run e = omega (arith, ready_before_last_action h x run e)

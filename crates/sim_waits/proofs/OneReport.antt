@@ -30,8 +30,8 @@ module _ {X : Type 0} (R : X → X → Type 0) (asymmetric : (x y : X) → R x y
       elim (contains_parts y ys x c) [ inl e ↦ inl e | inr c ↦ inr (All-contains (R y) ys x (after_first y ys pairs) c) ]
   first_or_after n x y ys pairs (inr full) = inr (full.1 0 y (omega arith))
 
-  covered_rest : (n : ℕ) (x y : X) (xs ys : List X) → x ≡ y → AllPairs R (x ∷ xs) → ((z : X) → Contains (x ∷ xs) z → IsCovered (suc n) (y ∷ ys) z) → (z : X) → Contains xs z → IsCovered n ys z
-  covered_rest n x y xs ys same pairs covers z (k, b, e) = go (covers z (suc k, omega (arith, b), e))
+  covered_tail : (n : ℕ) (x y : X) (xs ys : List X) → x ≡ y → AllPairs R (x ∷ xs) → ((z : X) → Contains (x ∷ xs) z → IsCovered (suc n) (y ∷ ys) z) → (z : X) → Contains xs z → IsCovered n ys z
+  covered_tail n x y xs ys same pairs covers z (k, b, e) = go (covers z (suc k, omega (arith, b), e))
     where
       later : R x z
       later = All-contains (R x) xs z (after_first x xs pairs) (k, b, e)
@@ -42,17 +42,17 @@ module _ {X : Type 0} (R : X → X → Type 0) (asymmetric : (x y : X) → R x y
       go (inr full) = inr (omega (arith, full.0), λ i d h. full.1 (suc i) d (omega (arith, h)))
 
   -- two lists in order are equal if each contains all that goes before what it leaves out
-  one_list : (n : ℕ) (xs ys : List X) → AllPairs R xs → AllPairs R ys → length xs ≤ n → length ys ≤ n
+  covering_lists_are_equal : (n : ℕ) (xs ys : List X) → AllPairs R xs → AllPairs R ys → length xs ≤ n → length ys ≤ n
       → ((z : X) → Contains xs z → IsCovered n ys z) → ((z : X) → Contains ys z → IsCovered n xs z) → xs ≡ ys
-  one_list n [] [] p q l m a b = refl
-  one_list n (x ∷ xs) [] p q l m a b =
+  covering_lists_are_equal n [] [] p q l m a b = refl
+  covering_lists_are_equal n (x ∷ xs) [] p q l m a b =
       elim (a x (0, omega arith, refl)) [ inl c ↦ absurd (omega (arith, c.1)) | inr full ↦ absurd (omega (arith, l, full.0)) ]
-  one_list n [] (y ∷ ys) p q l m a b =
+  covering_lists_are_equal n [] (y ∷ ys) p q l m a b =
       elim (b y (0, omega arith, refl)) [ inl c ↦ absurd (omega (arith, c.1)) | inr full ↦ absurd (omega (arith, m, full.0)) ]
-  one_list zero (x ∷ xs) (y ∷ ys) p q l m a b = absurd (omega (arith, l))
-  one_list (suc n) (x ∷ xs) (y ∷ ys) p q l m a b =
+  covering_lists_are_equal zero (x ∷ xs) (y ∷ ys) p q l m a b = absurd (omega (arith, l))
+  covering_lists_are_equal (suc n) (x ∷ xs) (y ∷ ys) p q l m a b =
       let same = first (first_or_after (suc n) x y ys q (a x (0, omega arith, refl))) (first_or_after (suc n) y x xs p (b y (0, omega arith, refl))) in
-      let rest = one_list n xs ys (rest_pairs x xs p) (rest_pairs y ys q) (omega (arith, l)) (omega (arith, m)) (covered_rest n x y xs ys same p a) (covered_rest n y x ys xs (sym same) q b) in
+      let rest = covering_lists_are_equal n xs ys (rest_pairs x xs p) (rest_pairs y ys q) (omega (arith, l)) (omega (arith, m)) (covered_tail n x y xs ys same p a) (covered_tail n y x ys xs (sym same) q b) in
       λ i. same i ∷ rest i
     where
       first : (y ≡ x) ⊎ R y x → (x ≡ y) ⊎ R x y → x ≡ y
@@ -61,11 +61,11 @@ module _ {X : Type 0} (R : X → X → Type 0) (asymmetric : (x y : X) → R x y
       first (inr r) (inr s) = absurd (asymmetric x y s r)
 
 module _ (plans : List Plan) (costs : CostModel) (h : List Timed) where
-  not_both : (x y : OpId) → GoesFirst plans costs h x y → GoesFirst plans costs h y x → ⊥
-  not_both x y (inl a) (inl b) = omega (arith, a, b)
-  not_both x y (inl a) (inr b) = omega (arith, a, b.0)
-  not_both x y (inr a) (inl b) = omega (arith, a.0, b)
-  not_both x y (inr a) (inr b) = never a.1 b.1
+  goes_first_asymmetric : (x y : OpId) → GoesFirst plans costs h x y → GoesFirst plans costs h y x → ⊥
+  goes_first_asymmetric x y (inl a) (inl b) = omega (arith, a, b)
+  goes_first_asymmetric x y (inl a) (inr b) = omega (arith, a, b.0)
+  goes_first_asymmetric x y (inr a) (inl b) = omega (arith, a.0, b)
+  goes_first_asymmetric x y (inr a) (inr b) = never a.1 b.1
     where
       never : IsBefore x y → IsBefore y x → ⊥
       never (inl l) (inl m) = omega (arith, l, m)
@@ -73,12 +73,12 @@ module _ (plans : List Plan) (costs : CostModel) (h : List Timed) where
       never (inr l) (inl m) = omega (arith, l.0, m)
       never (inr l) (inr m) = omega (arith, l.1, m.1)
 
-  one_choice : (xs ys : List OpId) → AreGreatest plans costs h xs → AreGreatest plans costs h ys → xs ≡ ys
-  one_choice xs ys a b =
-      one_list (GoesFirst plans costs h) not_both 10 xs ys a.in_order b.in_order a.few b.few
+  greatest_unique : (xs ys : List OpId) → AreGreatest plans costs h xs → AreGreatest plans costs h ys → xs ≡ ys
+  greatest_unique xs ys a b =
+      covering_lists_are_equal (GoesFirst plans costs h) goes_first_asymmetric 10 xs ys a.in_order b.in_order a.few b.few
       (λ z c. b.rest z (All-contains (HasWaited plans costs h) xs z a.waited c))
       (λ z c. a.rest z (All-contains (HasWaited plans costs h) ys z b.waited c))
 
-  pub one_report : (one other : List ℕ) → IsWaitsText plans costs h one → IsWaitsText plans costs h other → one ≡ other
-  one_report one other a b =
-      a.lines ∙ ap (waits_text plans costs h) (one_choice a.longest b.longest a.greatest b.greatest) ∙ sym b.lines
+  pub report_unique : (one other : List ℕ) → IsWaitsText plans costs h one → IsWaitsText plans costs h other → one ≡ other
+  report_unique one other a b =
+      a.lines ∙ ap (waits_text plans costs h) (greatest_unique a.longest b.longest a.greatest b.greatest) ∙ sym b.lines

@@ -14,15 +14,15 @@ use Rattle.sim_waits.specs.WaitsText.{line_of_rank, rank_lines}
 use Rattle.sim_waits.specs.WaitKeys.{wait_told, places_at}
 
 module _ (plans : List Plan) (costs : CostModel) (h : List Timed) where
-  count_one : (x : OpId) → ◌≡◌ {A = ℕ} (if is_some (wait_told plans costs h x) then 1 else 0) (cond (ended plans costs h x) 1 0)
-  count_one x = go (ended plans costs h x)
+  counted_if_ended : (x : OpId) → ◌≡◌ {A = ℕ} (if is_some (wait_told plans costs h x) then 1 else 0) (cond (ended plans costs h x) 1 0)
+  counted_if_ended x = go (ended plans costs h x)
     where
       go : (b : Bool) → ◌≡◌ {A = ℕ} (if is_some (if b then Some (wait plans costs h x) else None) then 1 else 0) (cond b 1 0)
       go true = refl
       go false = refl
 
-  wait_one : (x : OpId) → unwrap_or (wait_told plans costs h x) 0 ≡ wait_or_zero plans costs h x
-  wait_one x = go (ended plans costs h x)
+  wait_told_or_zero : (x : OpId) → unwrap_or (wait_told plans costs h x) 0 ≡ wait_or_zero plans costs h x
+  wait_told_or_zero x = go (ended plans costs h x)
     where
       go : (b : Bool) → unwrap_or (if b then Some (wait plans costs h x) else None) 0 ≡ (if b then wait plans costs h x else 0)
       go true = refl
@@ -36,20 +36,20 @@ module _ (plans : List Plan) (costs : CostModel) (h : List Timed) where
       pub few : count ≤ op
       pub small : total ≤ op * 2 ^ 64
 
-    pub summed_start : IsSummed 0 0 0
+    pub summed_before_all : IsSummed 0 0 0
     unfolding places_at
-    summed_start = record { counted = omega arith; summed = omega arith; few = omega arith; small = omega arith }
+    summed_before_all = record { counted = omega arith; summed = omega arith; few = omega arith; small = omega arith }
 
-    pub summed_more : (op count total : ℕ) (w : Option ℕ) (count' total' : ℕ) → IsSummed op count total → op < length (ops_at plans rank)
+    pub summed_with_next_op : (op count total : ℕ) (w : Option ℕ) (count' total' : ℕ) → IsSummed op count total → op < length (ops_at plans rank)
         → w ≡ wait_told plans costs h (record { rank = rank; op = op })
         → count' ≡ count + (if is_some w then 1 else 0) → total' ≡ total + unwrap_or w 0 → total' ≤ total + 2 ^ 64
         → IsSummed (op + 1) count' total'
-    summed_more op count total w count' total' s l e c t b =
+    summed_with_next_op op count total w count' total' s l e c t b =
         let x : OpId = record { rank = rank; op = op } in
         let rest = places_of_rank rank (op + 1) (drop (op + 1) (ops_at plans rank)) in
         let more = places_of_rank-more rank op (ops_at plans rank) l in
-        let one : ◌≡◌ {A = ℕ} (if is_some w then 1 else 0) (cond (ended plans costs h x) 1 0) = ap {B = ℕ} (λ (v : Option ℕ). if is_some v then 1 else 0) e ∙ count_one x in
-        let waited : unwrap_or w 0 ≡ wait_or_zero plans costs h x = ap (λ (v : Option ℕ). unwrap_or v 0) e ∙ wait_one x in
+        let one : ◌≡◌ {A = ℕ} (if is_some w then 1 else 0) (cond (ended plans costs h x) 1 0) = ap {B = ℕ} (λ (v : Option ℕ). if is_some v then 1 else 0) e ∙ counted_if_ended x in
+        let waited : unwrap_or w 0 ≡ wait_or_zero plans costs h x = ap (λ (v : Option ℕ). unwrap_or v 0) e ∙ wait_told_or_zero x in
         let counts = ap (count_by (ended plans costs h)) more ∙ count-cons (ended plans costs h) x rest in
         let sums = ap (sum_by (wait_or_zero plans costs h)) more ∙ sum_by-cons (wait_or_zero plans costs h) x rest in
         record {
@@ -63,21 +63,21 @@ module _ (plans : List Plan) (costs : CostModel) (h : List Timed) where
         at_most_one None n i m h e = omega (arith, h, e)
         at_most_one (Some k) n i m h e = omega (arith, h, e)
 
-    no_places : (op : ℕ) (ops : List Op) → length ops ≤ op → places_of_rank rank op (drop op ops) ≡ []
+    no_places_past_end : (op : ℕ) (ops : List Op) → length ops ≤ op → places_of_rank rank op (drop op ops) ≡ []
     unfolding places_of_rank
-    no_places op ops l = at_drop_all (places_of_rank rank op) ops op l
+    no_places_past_end op ops l = at_drop_all (places_of_rank rank op) ops op l
 
-    pub summed_all : (op count total : ℕ) → IsSummed op count total → length (ops_at plans rank) ≤ op → (count ≡ count_by (ended plans costs h) (places_at plans rank)) × (total ≡ sum_by (wait_or_zero plans costs h) (places_at plans rank))
-    summed_all op count total s l =
-        let end = no_places op (ops_at plans rank) l in
+    pub summed_after_all : (op count total : ℕ) → IsSummed op count total → length (ops_at plans rank) ≤ op → (count ≡ count_by (ended plans costs h) (places_at plans rank)) × (total ≡ sum_by (wait_or_zero plans costs h) (places_at plans rank))
+    summed_after_all op count total s l =
+        let end = no_places_past_end op (ops_at plans rank) l in
         let none = ap (count_by (ended plans costs h)) end in
         let zero = ap (sum_by (wait_or_zero plans costs h)) end in
         (omega (arith, s.counted, none), omega (arith, s.summed, zero))
 
   -- the lines of ranks from one on
-  pub lines_more : (rank : ℕ) → rank < length plans → rank_lines plans costs h rank (drop rank plans) ≡ line_of_rank plans costs h rank (places_at plans rank) ++ rank_lines plans costs h (rank + 1) (drop (rank + 1) plans)
+  pub lines_with_next_rank : (rank : ℕ) → rank < length plans → rank_lines plans costs h rank (drop rank plans) ≡ line_of_rank plans costs h rank (places_at plans rank) ++ rank_lines plans costs h (rank + 1) (drop (rank + 1) plans)
   unfolding rank_lines places_at
-  lines_more rank l = go plans l
+  lines_with_next_rank rank l = go plans l
     where
       go : (ps : List Plan) → rank < length ps → rank_lines plans costs h rank (drop rank ps) ≡ line_of_rank plans costs h rank (places_at ps rank) ++ rank_lines plans costs h (rank + 1) (drop (rank + 1) ps)
       go [] l = absurd (omega arith)
@@ -86,6 +86,6 @@ module _ (plans : List Plan) (costs : CostModel) (h : List Timed) where
           let here = slice_get-get_or all rank p l in
           at_drop_more (rank_lines plans costs h rank) all rank p l ∙ ap (λ (os : List Op). line_of_rank plans costs h rank (places_of_rank rank 0 os) ++ rank_lines plans costs h (rank + 1) (drop (rank + 1) all)) (sym (ops_at_some all rank (get_or all rank p) here))
 
-  pub lines_none : (rank : ℕ) → length plans ≤ rank → rank_lines plans costs h rank (drop rank plans) ≡ []
+  pub no_lines_past_end : (rank : ℕ) → length plans ≤ rank → rank_lines plans costs h rank (drop rank plans) ≡ []
   unfolding rank_lines
-  lines_none rank l = at_drop_all (rank_lines plans costs h rank) plans rank l
+  no_lines_past_end rank l = at_drop_all (rank_lines plans costs h rank) plans rank l

@@ -47,8 +47,8 @@ module _ (plans : List Plan) (costs : CostModel) (h : List Timed) (x : OpId) whe
   hold_recv room from tag m k e = ap (at_partner (over plans costs)) e ∙ ap hold_of (sym k)
 
   -- the end of an operation, once it has one
-  pub end_is : (n : ℕ) → Some n ≡ end_known plans costs h x → (ended plans costs h x ≡ true) × (n ≡ end plans costs h x)
-  end_is n = go (ended plans costs h x) refl
+  pub known_end_is_end : (n : ℕ) → Some n ≡ end_known plans costs h x → (ended plans costs h x ≡ true) × (n ≡ end plans costs h x)
+  known_end_is_end n = go (ended plans costs h x) refl
     where
       go : (b : Bool) → ended plans costs h x ≡ b → Some n ≡ (if b then Some (end plans costs h x) else None) → (ended plans costs h x ≡ true) × (n ≡ end plans costs h x)
       go true s e = (s, same_Some n (end plans costs h x) e)
@@ -60,22 +60,22 @@ module _ (plans : List Plan) (costs : CostModel) (h : List Timed) (x : OpId) whe
       started_ready plans (is_eager plans costs) (plain h) x walk (ended_started plans (is_eager plans costs) (plain h) x walk e)
 
   -- what has ended was ready
-  pub never_unready : (n : ℕ) → IsRun plans costs h → Some n ≡ end_known plans costs h x → None ≡ ready_known plans costs h x → None ≡ wait_told plans costs h x
-  never_unready n run e r = go (is_ready plans (is_eager plans costs) (plain h) x) (ended_ready run (end_is n e).0) r
+  pub ended_was_ready : (n : ℕ) → IsRun plans costs h → Some n ≡ end_known plans costs h x → None ≡ ready_known plans costs h x → None ≡ wait_told plans costs h x
+  ended_was_ready n run e r = go (is_ready plans (is_eager plans costs) (plain h) x) (ended_ready run (known_end_is_end n e).0) r
     where
       go : (b : Bool) → b ≡ true → ◌≡◌ {A = Option ℕ} None (if b then Some (ready plans costs h x) else None) → None ≡ wait_told plans costs h x
       go true s f = absurd (cc)
       go false s f = absurd (cc)
 
-  ready_is : (m : ℕ) → Some m ≡ ready_known plans costs h x → m ≡ ready plans costs h x
-  ready_is m = go (is_ready plans (is_eager plans costs) (plain h) x)
+  known_ready_is_ready : (m : ℕ) → Some m ≡ ready_known plans costs h x → m ≡ ready plans costs h x
+  known_ready_is_ready m = go (is_ready plans (is_eager plans costs) (plain h) x)
     where
       go : (b : Bool) → Some m ≡ (if b then Some (ready plans costs h x) else None) → m ≡ ready plans costs h x
       go true e = same_Some m (ready plans costs h x) e
       go false e = absurd (cc)
 
-  pub wait_is : (n held m w : ℕ) → Some n ≡ end_known plans costs h x → held ≡ hold_of (kind_at plans x) → Some m ≡ ready_known plans costs h x → w ≡ (n - held) - m → Some w ≡ wait_told plans costs h x
+  pub computed_wait_is_wait : (n held m w : ℕ) → Some n ≡ end_known plans costs h x → held ≡ hold_of (kind_at plans x) → Some m ≡ ready_known plans costs h x → w ≡ (n - held) - m → Some w ≡ wait_told plans costs h x
   unfolding wait
-  wait_is n held m w e s r t =
-      let last : w ≡ wait plans costs h x = omega (arith, (end_is n e).1, s, ready_is m r, t) in
-      ap Some last ∙ ap (λ (b : Bool). if b then Some (wait plans costs h x) else None) (sym (end_is n e).0)
+  computed_wait_is_wait n held m w e s r t =
+      let last : w ≡ wait plans costs h x = omega (arith, (known_end_is_end n e).1, s, known_ready_is_ready m r, t) in
+      ap Some last ∙ ap (λ (b : Bool). if b then Some (wait plans costs h x) else None) (sym (known_end_is_end n e).0)

@@ -1,12 +1,12 @@
 use Rattle.std.proofs.Common.{List, length, ap, arith}
 use Rattle.goal_graph.specs.Schedule.{Plan, ops_at}
 use Rattle.goal_graph.proofs.ForCallers.{is_op_below}
-use Rattle.sim_waits.proofs.RankLemmas.{summed_start, summed_more, summed_all}
+use Rattle.sim_waits.proofs.RankLemmas.{summed_before_all, summed_with_next_op, summed_after_all}
 use Rattle.sim_waits.proofs.ranks.rank_waits.Goals as goal
 
 pub loop-op-init : goal.loop-op-init
 loop-op-init g c =
-    summed_start c.args.engine.now.plans (g.C.Costs.model c.args.engine.now.costs) c.args.engine.now.history c.args.rank
+    summed_before_all c.args.engine.now.plans (g.C.Costs.model c.args.engine.now.costs) c.args.engine.now.history c.args.rank
 
 pub wait-requires : goal.wait-requires
 wait-requires g c =
@@ -16,14 +16,14 @@ wait-requires g c =
 pub loop-op-preserved : goal.loop-op-preserved
 loop-op-preserved g c =
     let count = ap (λ (ps : List Plan). length (ops_at ps c.args.rank)) c.sched.ensures in
-    summed_more c.args.engine.now.plans (g.C.Costs.model c.args.engine.now.costs) c.args.engine.now.history c.args.rank c.loop-op.op c.loop-op.waits.ended c.loop-op.waits.total c.wait.result c.with-waits.result.ended c.with-waits.result.total c.loop-op.invariant (omega (arith, count, c.op_count-op-end.ensures.count, c.loop-op-test.true)) c.wait.ensures c.with-waits.ensures.ended c.with-waits.ensures.total c.with-waits.ensures.small
+    summed_with_next_op c.args.engine.now.plans (g.C.Costs.model c.args.engine.now.costs) c.args.engine.now.history c.args.rank c.loop-op.op c.loop-op.waits.ended c.loop-op.waits.total c.wait.result c.with-waits.result.ended c.with-waits.result.total c.loop-op.invariant (omega (arith, count, c.op_count-op-end.ensures.count, c.loop-op-test.true)) c.wait.ensures c.with-waits.ensures.ended c.with-waits.ensures.total c.with-waits.ensures.small
 
 pub returns-clause-ended : goal.returns-clause-ended
 returns-clause-ended g c =
     let count = ap (λ (ps : List Plan). length (ops_at ps c.args.rank)) c.sched.ensures in
-    (summed_all c.args.engine.now.plans (g.C.Costs.model c.args.engine.now.costs) c.args.engine.now.history c.args.rank c.loop-op.op c.loop-op.waits.ended c.loop-op.waits.total c.loop-op.invariant (omega (arith, count, c.op_count-op-end.ensures.count, c.loop-op-test.false))).0
+    (summed_after_all c.args.engine.now.plans (g.C.Costs.model c.args.engine.now.costs) c.args.engine.now.history c.args.rank c.loop-op.op c.loop-op.waits.ended c.loop-op.waits.total c.loop-op.invariant (omega (arith, count, c.op_count-op-end.ensures.count, c.loop-op-test.false))).0
 
 pub returns-clause-total : goal.returns-clause-total
 returns-clause-total g c =
     let count = ap (λ (ps : List Plan). length (ops_at ps c.args.rank)) c.sched.ensures in
-    (summed_all c.args.engine.now.plans (g.C.Costs.model c.args.engine.now.costs) c.args.engine.now.history c.args.rank c.loop-op.op c.loop-op.waits.ended c.loop-op.waits.total c.loop-op.invariant (omega (arith, count, c.op_count-op-end.ensures.count, c.loop-op-test.false))).1
+    (summed_after_all c.args.engine.now.plans (g.C.Costs.model c.args.engine.now.costs) c.args.engine.now.history c.args.rank c.loop-op.op c.loop-op.waits.ended c.loop-op.waits.total c.loop-op.invariant (omega (arith, count, c.op_count-op-end.ensures.count, c.loop-op-test.false))).1
