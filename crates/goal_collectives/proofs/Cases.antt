@@ -71,29 +71,29 @@ own_round v few some =
 -- the barrier and the allreduce
 
 -- a round is below 16, and 2 to it below the ranks
-pub third_round : (ranks i : ℕ) → ranks ≤ rank_limit → i < 3 * digits (ranks - 1) → (i / 3 < 16) × (2 ^ (i / 3) < ranks)
-third_round ranks i few lt =
+pub round_of_third : (ranks i : ℕ) → ranks ≤ rank_limit → i < 3 * digits (ranks - 1) → (i / 3 < 16) × (2 ^ (i / 3) < ranks)
+round_of_third ranks i few lt =
     let digits_few = digits_few (ranks - 1) 16 (omega arith) (omega arith) in
     let low = digits_low (ranks - 1) (i / 3) (omega arith) (omega arith) in
     (omega arith, omega (arith, pow_pos (i / 3)))
 
-pub barrier_is : (ranks bytes r i : ℕ) → round_in bytes (ahead ranks r (2 ^ (i / 3))) (back ranks r (2 ^ (i / 3))) (i / 3) (i % 3) ≡ barrier_in ranks bytes r i
+pub barrier_by_rounds : (ranks bytes r i : ℕ) → round_in bytes (ahead ranks r (2 ^ (i / 3))) (back ranks r (2 ^ (i / 3))) (i / 3) (i % 3) ≡ barrier_in ranks bytes r i
 unfolding barrier_in
-barrier_is ranks bytes r i = refl
+barrier_by_rounds ranks bytes r i = refl
 
-pub allreduce_is : (bytes r i : ℕ) → round_in bytes (flipped r (i / 3)) (flipped r (i / 3)) (i / 3) (i % 3) ≡ allreduce_in bytes r i
+pub allreduce_by_rounds : (bytes r i : ℕ) → round_in bytes (flipped r (i / 3)) (flipped r (i / 3)) (i / 3) (i % 3) ≡ allreduce_in bytes r i
 unfolding allreduce_in
-allreduce_is bytes r i = refl
+allreduce_by_rounds bytes r i = refl
 
-pub flipped_up : (r k d : ℕ) → d ≡ 2 ^ k → r / d % 2 ≡ 0 → r + d ≡ flipped r k
+pub flipped_sets_digit : (r k d : ℕ) → d ≡ 2 ^ k → r / d % 2 ≡ 0 → r + d ≡ flipped r k
 unfolding flipped
-flipped_up r k d e even =
+flipped_sets_digit r k d e even =
     let up : eqb (r / 2 ^ k % 2) 0 ≡ true = grind (arith, nat_tests) in
     rw (up, e) refl
 
-pub flipped_down : (r k d : ℕ) → d ≡ 2 ^ k → r / d % 2 ≢ 0 → r - d ≡ flipped r k
+pub flipped_clears_digit : (r k d : ℕ) → d ≡ 2 ^ k → r / d % 2 ≢ 0 → r - d ≡ flipped r k
 unfolding flipped
-flipped_down r k d e odd =
+flipped_clears_digit r k d e odd =
     let down : eqb (r / 2 ^ k % 2) 0 ≡ false = grind (arith, nat_tests) in
     rw (down, e) refl
 

@@ -22,8 +22,8 @@ all_cons : {X : Type 0} (P : X → Type 0) (x : X) (xs : List X) → P x → All
 all_cons P x xs h t zero d l = h
 all_cons P x xs h t (suc k) d l = t k d (omega arith)
 
-all_none : {X : Type 0} (P : X → Type 0) → All P []
-all_none P k d l = absurd (omega arith)
+all_of_empty : {X : Type 0} (P : X → Type 0) → All P []
+all_of_empty P k d l = absurd (omega arith)
 
 -- the numbers of a round
 pub record IsSmall (x : Round) : Type 0 where
@@ -51,22 +51,22 @@ record IsSound (p : Plan) : Type 0 where
 in_range : (n : ℕ) (d : Dep) → d.later < n → d.earlier < n → dep_in_range n d ≡ true
 in_range n d l e = rw (lt-ltb d.later n l, lt-ltb d.earlier n e) refl
 
-wider : (n m : ℕ) (ds : List Dep) → n ≤ m → All (DepFits n) ds → All (DepFits m) ds
-wider n m ds le a k d l =
+deps_fit_more_ops : (n m : ℕ) (ds : List Dep) → n ≤ m → All (DepFits n) ds → All (DepFits m) ds
+deps_fit_more_ops n m ds le a k d l =
     let h = a k d l in
     let p = dep_in_range-parts n (get_or ds k d) h.0 in
     (in_range m (get_or ds k d) (omega (arith, p.0)) (omega (arith, p.1)), h.1)
 
-new_dep : (n m earlier later : ℕ) → later < m → earlier < later → DepFits m (requires_end later earlier)
-new_dep n m earlier later l e = (in_range m (requires_end later earlier) l (omega arith), e)
+new_dep_fits : (n m earlier later : ℕ) → later < m → earlier < later → DepFits m (requires_end later earlier)
+new_dep_fits n m earlier later l e = (in_range m (requires_end later earlier) l (omega arith), e)
 
-last_fits : (n m : ℕ) → n < m → All (DepFits m) (after_last n)
-last_fits n m l = by (eqb n 0) refl
+dep_on_last_fits : (n m : ℕ) → n < m → All (DepFits m) (after_last n)
+dep_on_last_fits n m l = by (eqb n 0) refl
   where
     by : (b : Bool) → eqb n 0 ≡ b → All (DepFits m) (if b then [] else requires_end n (n - 1) ∷ [])
-    by true none = all_none (DepFits m)
+    by true none = all_of_empty (DepFits m)
     by false some =
-        all_cons (DepFits m) (requires_end n (n - 1)) [] (new_dep n m (n - 1) n l (omega (arith, eqb-false n 0 some))) (all_none (DepFits m))
+        all_cons (DepFits m) (requires_end n (n - 1)) [] (new_dep_fits n m (n - 1) n l (omega (arith, eqb-false n 0 some))) (all_of_empty (DepFits m))
 
 work_sound : (i : ℕ) (x : Round) (p : Plan) → IsSmall x → IsSound p → IsSound (with_work i x p)
 unfolding with_work
@@ -74,11 +74,11 @@ work_sound i x p small sound = record {
   ops =
       All-append OpFits p.ops (op_in i (Calc x.nanos) ∷ op_in i (Send x.bytes x.to i) ∷ []) sound.ops
       (all_cons OpFits (op_in i (Calc x.nanos)) (op_in i (Send x.bytes x.to i) ∷ []) (calc_value, refl)
-      (all_cons OpFits (op_in i (Send x.bytes x.to i)) [] (le-leb x.bytes MAX_BYTES (omega (arith, small.bytes)), lt-ltb x.to probe_ranks small.to) (all_none OpFits)));
+      (all_cons OpFits (op_in i (Send x.bytes x.to i)) [] (le-leb x.bytes MAX_BYTES (omega (arith, small.bytes)), lt-ltb x.to probe_ranks small.to) (all_of_empty OpFits)));
   deps =
-      All-append (DepFits total) p.deps (after_last (length p.ops) ++ requires_end (length p.ops + 1) (length p.ops) ∷ []) (wider (length p.ops) total p.deps (omega (arith, size)) sound.deps)
-      (All-append (DepFits total) (after_last (length p.ops)) (requires_end (length p.ops + 1) (length p.ops) ∷ []) (last_fits (length p.ops) total (omega (arith, size)))
-      (all_cons (DepFits total) (requires_end (length p.ops + 1) (length p.ops)) [] (new_dep 0 total (length p.ops) (length p.ops + 1) (omega (arith, size)) (omega arith)) (all_none (DepFits total))));
+      All-append (DepFits total) p.deps (after_last (length p.ops) ++ requires_end (length p.ops + 1) (length p.ops) ∷ []) (deps_fit_more_ops (length p.ops) total p.deps (omega (arith, size)) sound.deps)
+      (All-append (DepFits total) (after_last (length p.ops)) (requires_end (length p.ops + 1) (length p.ops) ∷ []) (dep_on_last_fits (length p.ops) total (omega (arith, size)))
+      (all_cons (DepFits total) (requires_end (length p.ops + 1) (length p.ops)) [] (new_dep_fits 0 total (length p.ops) (length p.ops + 1) (omega (arith, size)) (omega arith)) (all_of_empty (DepFits total))));
   notes = sound.notes;
 }
   where
@@ -96,8 +96,8 @@ unfolding with_receive
 receive_sound i x p small sound = record {
   ops =
       All-append OpFits p.ops (op_in i (Recv x.bytes (source_in i x) (Some i)) ∷ []) sound.ops
-      (all_cons OpFits (op_in i (Recv x.bytes (source_in i x) (Some i))) [] (le-leb x.bytes MAX_BYTES (omega (arith, small.bytes)), source (eqb (i % 8) 7)) (all_none OpFits));
-  deps = wider (length p.ops) (length (p.ops ++ op_in i (Recv x.bytes (source_in i x) (Some i)) ∷ [])) p.deps (omega (arith, size)) sound.deps;
+      (all_cons OpFits (op_in i (Recv x.bytes (source_in i x) (Some i))) [] (le-leb x.bytes MAX_BYTES (omega (arith, small.bytes)), source (eqb (i % 8) 7)) (all_of_empty OpFits));
+  deps = deps_fit_more_ops (length p.ops) (length (p.ops ++ op_in i (Recv x.bytes (source_in i x) (Some i)) ∷ [])) p.deps (omega (arith, size)) sound.deps;
   notes = sound.notes;
 }
   where
@@ -111,7 +111,7 @@ receive_sound i x p small sound = record {
 -- properties of plans of which one is changed
 all_at_rank : (P Q : Plan → Type 0) (r : ℕ) (f : Plan → Plan) (ps : List Plan) → ((p : Plan) → P p → Q p) → ((p : Plan) → P p → Q (f p)) → All P ps → All Q (at_rank r f ps)
 unfolding at_rank
-all_at_rank P Q r f [] stays changes h = all_none Q
+all_at_rank P Q r f [] stays changes h = all_of_empty Q
 all_at_rank P Q zero f (p ∷ ps) stays changes h =
     all_cons Q (f p) ps (changes p (All-head P p ps h)) (λ k d l. stays (get_or ps k d) (All-tail P p ps h k d l))
 all_at_rank P Q (suc r) f (p ∷ ps) stays changes h =
@@ -139,52 +139,52 @@ probed_ranks (suc n) seed =
     length_at_rank x.to (with_receive n x) (at_rank x.from (with_work n x) (probed n seed)) ∙ (length_at_rank x.from (with_work n x) (probed n seed) ∙ probed_ranks n seed)
 
 idle_sound : IsSound idle
-idle_sound = record { ops = all_none OpFits; deps = all_none (DepFits 0); notes = refl }
+idle_sound = record { ops = all_of_empty OpFits; deps = all_of_empty (DepFits 0); notes = refl }
 
-all_idle : (P : Plan → Type 0) (n : ℕ) → P idle → All P (idle_ranks n)
+all_of_idle_ranks : (P : Plan → Type 0) (n : ℕ) → P idle → All P (idle_ranks n)
 unfolding idle_ranks
-all_idle P zero h = all_none P
-all_idle P (suc n) h = all_cons P idle (idle_ranks n) h (all_idle P n h)
+all_of_idle_ranks P zero h = all_of_empty P
+all_of_idle_ranks P (suc n) h = all_cons P idle (idle_ranks n) h (all_of_idle_ranks P n h)
 
 probed_sound : (n seed : ℕ) → All IsSound (probed n seed)
 unfolding probed
-probed_sound zero seed = all_idle IsSound probe_ranks idle_sound
+probed_sound zero seed = all_of_idle_ranks IsSound probe_ranks idle_sound
 probed_sound (suc n) seed =
     let x = round_from (state_before seed n) in
     let small = small_round (state_before seed n) in
     all_at_rank IsSound IsSound x.to (with_receive n x) (at_rank x.from (with_work n x) (probed n seed)) (λ p h. h) (λ p h. receive_sound n x p small h)
     (all_at_rank IsSound IsSound x.from (with_work n x) (probed n seed) (λ p h. h) (λ p h. work_sound n x p small h) (probed_sound n seed))
 
-work_ops : (i : ℕ) (x : Round) (p : Plan) → length (with_work i x p).ops ≡ length p.ops + 2
+ops_after_work : (i : ℕ) (x : Round) (p : Plan) → length (with_work i x p).ops ≡ length p.ops + 2
 unfolding with_work
-work_ops i x p = length-append p.ops (op_in i (Calc x.nanos) ∷ op_in i (Send x.bytes x.to i) ∷ [])
+ops_after_work i x p = length-append p.ops (op_in i (Calc x.nanos) ∷ op_in i (Send x.bytes x.to i) ∷ [])
 
-receive_ops : (i : ℕ) (x : Round) (p : Plan) → length (with_receive i x p).ops ≡ length p.ops + 1
+ops_after_receive : (i : ℕ) (x : Round) (p : Plan) → length (with_receive i x p).ops ≡ length p.ops + 1
 unfolding with_receive
-receive_ops i x p = length-append p.ops (op_in i (Recv x.bytes (source_in i x) (Some i)) ∷ [])
+ops_after_receive i x p = length-append p.ops (op_in i (Recv x.bytes (source_in i x) (Some i)) ∷ [])
 
-last_few : (n : ℕ) → length (after_last n) ≤ 1
-last_few n = by (eqb n 0)
+at_most_one_dep_on_last : (n : ℕ) → length (after_last n) ≤ 1
+at_most_one_dep_on_last n = by (eqb n 0)
   where
     by : (b : Bool) → length (if b then [] else requires_end n (n - 1) ∷ []) ≤ 1
     by true = omega arith
     by false = omega arith
 
-work_deps : (i : ℕ) (x : Round) (p : Plan) → length (with_work i x p).deps ≤ length p.deps + 2
+deps_after_work : (i : ℕ) (x : Round) (p : Plan) → length (with_work i x p).deps ≤ length p.deps + 2
 unfolding with_work
-work_deps i x p =
+deps_after_work i x p =
     let n = length p.ops in
-    omega (arith, length-append p.deps (after_last n ++ requires_end (n + 1) n ∷ []), length-append (after_last n) (requires_end (n + 1) n ∷ []), last_few n)
+    omega (arith, length-append p.deps (after_last n ++ requires_end (n + 1) n ∷ []), length-append (after_last n) (requires_end (n + 1) n ∷ []), at_most_one_dep_on_last n)
 
 -- each rank has few operations
 pub probed_few : (n seed : ℕ) → All (λ (p : Plan). length p.ops ≤ 3 * n) (probed n seed)
 unfolding probed
-probed_few zero seed = all_idle (λ (p : Plan). length p.ops ≤ 0) probe_ranks (omega arith)
+probed_few zero seed = all_of_idle_ranks (λ (p : Plan). length p.ops ≤ 0) probe_ranks (omega arith)
 probed_few (suc n) seed =
     let x = round_from (state_before seed n) in
     all_at_rank (λ (p : Plan). length p.ops ≤ 3 * n + 2) (λ (p : Plan). length p.ops ≤ 3 * suc n) x.to (with_receive n x) (at_rank x.from (with_work n x) (probed n seed))
-    (λ p h. omega arith) (λ p h. omega (arith, receive_ops n x p, h))
-    (all_at_rank (λ (p : Plan). length p.ops ≤ 3 * n) (λ (p : Plan). length p.ops ≤ 3 * n + 2) x.from (with_work n x) (probed n seed) (λ p h. omega arith) (λ p h. omega (arith, work_ops n x p, h)) (probed_few n seed))
+    (λ p h. omega arith) (λ p h. omega (arith, ops_after_receive n x p, h))
+    (all_at_rank (λ (p : Plan). length p.ops ≤ 3 * n) (λ (p : Plan). length p.ops ≤ 3 * n + 2) x.from (with_work n x) (probed n seed) (λ p h. omega arith) (λ p h. omega (arith, ops_after_work n x p, h)) (probed_few n seed))
 
 idle_sum : (m : Plan → ℕ) (n : ℕ) → m idle ≡ 0 → sum_by m (idle_ranks n) ≡ 0
 unfolding idle_ranks
@@ -202,33 +202,33 @@ unfolding probed op_count
 probed_ops zero seed = omega (arith, idle_sum (λ (p : Plan). length p.ops) probe_ranks refl)
 probed_ops (suc n) seed =
     let x = round_from (state_before seed n) in
-    omega (arith, probed_ops n seed, round_sum (λ (p : Plan). length p.ops) 2 1 n x (probed n seed) (λ p. omega (arith, work_ops n x p)) (λ p. omega (arith, receive_ops n x p)))
+    omega (arith, probed_ops n seed, round_sum (λ (p : Plan). length p.ops) 2 1 n x (probed n seed) (λ p. omega (arith, ops_after_work n x p)) (λ p. omega (arith, ops_after_receive n x p)))
 
-same_deps : (i : ℕ) (x : Round) (p : Plan) → length (with_receive i x p).deps ≤ length p.deps + 0
+deps_after_receive : (i : ℕ) (x : Round) (p : Plan) → length (with_receive i x p).deps ≤ length p.deps + 0
 unfolding with_receive
-same_deps i x p = omega arith
+deps_after_receive i x p = omega arith
 
-work_notes : (i : ℕ) (x : Round) (p : Plan) → length (with_work i x p).notes ≤ length p.notes + 0
+notes_after_work : (i : ℕ) (x : Round) (p : Plan) → length (with_work i x p).notes ≤ length p.notes + 0
 unfolding with_work
-work_notes i x p = omega arith
+notes_after_work i x p = omega arith
 
-receive_notes : (i : ℕ) (x : Round) (p : Plan) → length (with_receive i x p).notes ≤ length p.notes + 0
+notes_after_receive : (i : ℕ) (x : Round) (p : Plan) → length (with_receive i x p).notes ≤ length p.notes + 0
 unfolding with_receive
-receive_notes i x p = omega arith
+notes_after_receive i x p = omega arith
 
 probed_deps : (n seed : ℕ) → dep_count (probed n seed) ≤ 2 * n
 unfolding probed dep_count
 probed_deps zero seed = omega (arith, idle_sum (λ (p : Plan). length p.deps) probe_ranks refl)
 probed_deps (suc n) seed =
     let x = round_from (state_before seed n) in
-    omega (arith, probed_deps n seed, round_sum (λ (p : Plan). length p.deps) 2 0 n x (probed n seed) (work_deps n x) (same_deps n x))
+    omega (arith, probed_deps n seed, round_sum (λ (p : Plan). length p.deps) 2 0 n x (probed n seed) (deps_after_work n x) (deps_after_receive n x))
 
 probed_notes : (n seed : ℕ) → note_count (probed n seed) ≤ 0
 unfolding probed note_count
 probed_notes zero seed = omega (arith, idle_sum (λ (p : Plan). length p.notes) probe_ranks refl)
 probed_notes (suc n) seed =
     let x = round_from (state_before seed n) in
-    omega (arith, probed_notes n seed, round_sum (λ (p : Plan). length p.notes) 0 0 n x (probed n seed) (work_notes n x) (receive_notes n x))
+    omega (arith, probed_notes n seed, round_sum (λ (p : Plan). length p.notes) 0 0 n x (probed n seed) (notes_after_work n x) (notes_after_receive n x))
 
 rank_sound : (n : ℕ) (p : Plan) → IsSound p → rank_fault probe_ranks n p ≡ None
 unfolding rank_fault first_fault
@@ -259,45 +259,45 @@ probed_accepted n seed few = record {
 }
 
 -- another idle rank at the end
-pub idle_more : (n : ℕ) → idle_ranks n ++ idle ∷ [] ≡ idle_ranks (suc n)
+pub idle_ranks_with_another : (n : ℕ) → idle_ranks n ++ idle ∷ [] ≡ idle_ranks (suc n)
 unfolding idle_ranks
-idle_more zero = refl
-idle_more (suc n) = ap (λ ps. idle ∷ ps) (idle_more n)
+idle_ranks_with_another zero = refl
+idle_ranks_with_another (suc n) = ap (λ ps. idle ∷ ps) (idle_ranks_with_another n)
 
-pub none_probed : (seed : ℕ) → idle_ranks probe_ranks ≡ probed 0 seed
+pub idle_ranks_are_probed : (seed : ℕ) → idle_ranks probe_ranks ≡ probed 0 seed
 unfolding probed
-none_probed seed = refl
+idle_ranks_are_probed seed = refl
 
-pub one_round : (n seed : ℕ) (x : Round) (ps qs : List Plan) → ps ≡ probed n seed → x ≡ round_from (state_before seed n) → qs ≡ with_round n x ps → qs ≡ probed (suc n) seed
+pub probed_with_another_round : (n seed : ℕ) (x : Round) (ps qs : List Plan) → ps ≡ probed n seed → x ≡ round_from (state_before seed n) → qs ≡ with_round n x ps → qs ≡ probed (suc n) seed
 unfolding probed
-one_round n seed x ps qs so_far drawn added = rw (added, so_far, drawn) refl
+probed_with_another_round n seed x ps qs so_far drawn added = rw (added, so_far, drawn) refl
 
-pub next_before : (n seed : ℕ) → next_state (next_state (next_state (next_state (state_before seed n)))) ≡ state_before seed (suc n)
+pub state_after_round : (n seed : ℕ) → next_state (next_state (next_state (next_state (state_before seed n)))) ≡ state_before seed (suc n)
 unfolding state_before
-next_before n seed = refl
+state_after_round n seed = refl
 
-pub first_before : (seed : ℕ) → seed ≡ state_before seed 0
+pub state_before_first : (seed : ℕ) → seed ≡ state_before seed 0
 unfolding state_before
-first_before seed = refl
+state_before_first seed = refl
 
-pub few_enough : (n seed : ℕ) → n ≤ MAX_ROUNDS → All (λ (p : Plan). length p.ops < 2 ^ 31) (probed n seed)
-few_enough n seed few k p l = omega (arith, probed_few n seed k p l)
+pub probed_ops_fit : (n seed : ℕ) → n ≤ MAX_ROUNDS → All (λ (p : Plan). length p.ops < 2 ^ 31) (probed n seed)
+probed_ops_fit n seed few k p l = omega (arith, probed_few n seed k p l)
 
 pub pushed_idle : (n : ℕ) (p : Plan) (old new : List Plan) → old ≡ idle_ranks n → p ≡ idle → new ≡ old ++ p ∷ [] → new ≡ idle_ranks (n + 1)
-pushed_idle n p old new so_far none pushed = rw (pushed, so_far, none, add-one) (idle_more n)
+pushed_idle n p old new so_far none pushed = rw (pushed, so_far, none, add-one) (idle_ranks_with_another n)
 
 -- replacing a plan in the list changes the plan of that rank
-pub written : (r : ℕ) (f : Plan → Plan) (ps : List Plan) (old new : Plan) → r < length ps → old ≡ get_or ps r old → new ≡ f old → set ps r new ≡ at_rank r f ps
+pub at_rank_by_set : (r : ℕ) (f : Plan → Plan) (ps : List Plan) (old new : Plan) → r < length ps → old ≡ get_or ps r old → new ≡ f old → set ps r new ≡ at_rank r f ps
 unfolding at_rank
-written r f [] old new inside here changed = absurd (omega arith)
-written zero f (p ∷ ps) old new inside here changed = rw (changed, here) refl
-written (suc r) f (p ∷ ps) old new inside here changed = ap (λ qs. p ∷ qs) (written r f ps old new (omega arith) here changed)
+at_rank_by_set r f [] old new inside here changed = absurd (omega arith)
+at_rank_by_set zero f (p ∷ ps) old new inside here changed = rw (changed, here) refl
+at_rank_by_set (suc r) f (p ∷ ps) old new inside here changed = ap (λ qs. p ∷ qs) (at_rank_by_set r f ps old new (omega arith) here changed)
 
-pub small_at : (s : ℕ) (x : Round) → x ≡ round_from s → IsSmall x
-small_at s x e = subst IsSmall (sym e) (small_round s)
+pub round_is_small : (s : ℕ) (x : Round) → x ≡ round_from s → IsSmall x
+round_is_small s x e = subst IsSmall (sym e) (small_round s)
 
-pub few_at : (n seed : ℕ) (ps : List Plan) → n ≤ MAX_ROUNDS → ps ≡ probed n seed → All (λ (p : Plan). length p.ops < 2 ^ 31) ps
-few_at n seed ps few e = rw e (few_enough n seed few)
+pub probed_ops_fit_in : (n seed : ℕ) (ps : List Plan) → n ≤ MAX_ROUNDS → ps ≡ probed n seed → All (λ (p : Plan). length p.ops < 2 ^ 31) ps
+probed_ops_fit_in n seed ps few e = rw e (probed_ops_fit n seed few)
 
 pub round_ranks : (i : ℕ) (x : Round) (ps : List Plan) → length (with_round i x ps) ≡ length ps
 round_ranks i x ps =
