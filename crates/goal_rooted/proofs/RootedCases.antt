@@ -26,31 +26,31 @@ rounds_of_other ranks v some =
     rw e refl
 
 -- a virtual rank has at most one parent
-pub upward_few : (v : ℕ) → upward v ≤ 1
-upward_few v = grind (arith, nat_tests)
+pub at_most_one_parent : (v : ℕ) → upward v ≤ 1
+at_most_one_parent v = grind (arith, nat_tests)
 
 -- a round of a virtual rank is below 16, and its child is a virtual rank
 pub record IsChild (ranks v j : ℕ) : Type 0 where
   pub few : j < 16
   pub child : v + 2 ^ j < ranks
 
-pub child_of : (ranks v j : ℕ) → ranks ≤ rank_limit → v < ranks → j < rounds ranks v → IsChild ranks v j
-child_of ranks v j few inside lt =
+pub round_has_child : (ranks v j : ℕ) → ranks ≤ rank_limit → v < ranks → j < rounds ranks v → IsChild ranks v j
+round_has_child ranks v j few inside lt =
     record { few = omega (arith, rounds_few ranks few v); child = child_below ranks few v j inside lt }
 
-pub in_one_span : (ranks x y : ℕ) → x ≤ y → record { lo = x; hi = y } ∷ [] ≡ span ranks x y
-in_one_span ranks x y le =
+pub span_without_wrap : (ranks x y : ℕ) → x ≤ y → record { lo = x; hi = y } ∷ [] ≡ span ranks x y
+span_without_wrap ranks x y le =
     let t : leb x y ≡ true = grind (arith, nat_tests) in
     rw t refl
 
-pub in_two_spans : (ranks x y : ℕ) → y < x → record { lo = x; hi = ranks - 1 } ∷ record { lo = 0; hi = y } ∷ [] ≡ span ranks x y
-in_two_spans ranks x y lt =
+pub span_with_wrap : (ranks x y : ℕ) → y < x → record { lo = x; hi = ranks - 1 } ∷ record { lo = 0; hi = y } ∷ [] ≡ span ranks x y
+span_with_wrap ranks x y lt =
     let t : leb x y ≡ false = grind (arith, nat_tests) in
     rw t refl
 
-pub share_is : (ranks root v s x y : ℕ) → x ≡ ahead ranks v root → y ≡ ahead ranks (min (v + s) ranks - 1) root → span ranks x y ≡ share ranks root v s
+pub share_by_spans : (ranks root v s x y : ℕ) → x ≡ ahead ranks v root → y ≡ ahead ranks (min (v + s) ranks - 1) root → span ranks x y ≡ share ranks root v s
 unfolding share
-share_is ranks root v s x y a b = rw (a, b) refl
+share_by_spans ranks root v s x y a b = rw (a, b) refl
 
 module _ (ranks bytes r i : ℕ) where
   pub part_sends : i % 3 ≡ 0 → sending bytes (ahead ranks r 1) (i / 3) (before_round (i / 3)) (slot (back ranks r (i / 3 + 1))) ≡ reduce_scatter_in ranks bytes r i
@@ -73,13 +73,13 @@ module _ (bytes : ℕ) where
   scan_begins zero i e = refl
   scan_begins (suc w) i e = absurd (omega arith)
 
-  pub scan_takes : (r i : ℕ) → 0 < r → i ≡ 0 → receiving bytes (r - 1) 0 (slot 1) ≡ scan_in bytes r i
+  pub scan_receives : (r i : ℕ) → 0 < r → i ≡ 0 → receiving bytes (r - 1) 0 (slot 1) ≡ scan_in bytes r i
   unfolding scan_in
-  scan_takes zero i some e = absurd (omega arith)
-  scan_takes (suc w) zero some e =
+  scan_receives zero i some e = absurd (omega arith)
+  scan_receives (suc w) zero some e =
       let same : suc w - 1 ≡ w = omega arith in
       rw same refl
-  scan_takes (suc w) (suc i) some e = absurd (omega arith)
+  scan_receives (suc w) (suc i) some e = absurd (omega arith)
 
   pub scan_sums : (r i : ℕ) → 0 < r → i ≡ 1 → summing (0 ∷ []) 1 0 ≡ scan_in bytes r i
   unfolding scan_in
@@ -88,12 +88,12 @@ module _ (bytes : ℕ) where
   scan_sums (suc w) (suc zero) some e = refl
   scan_sums (suc w) (suc (suc i)) some e = absurd (omega arith)
 
-  pub scan_gives : (r i : ℕ) → 0 < r → 1 < i → sending bytes (r + 1) 0 (1 ∷ []) (slot 0) ≡ scan_in bytes r i
+  pub scan_sends : (r i : ℕ) → 0 < r → 1 < i → sending bytes (r + 1) 0 (1 ∷ []) (slot 0) ≡ scan_in bytes r i
   unfolding scan_in
-  scan_gives zero i some e = absurd (omega arith)
-  scan_gives (suc w) zero some e = absurd (omega arith)
-  scan_gives (suc w) (suc zero) some e = absurd (omega arith)
-  scan_gives (suc w) (suc (suc i)) some e = refl
+  scan_sends zero i some e = absurd (omega arith)
+  scan_sends (suc w) zero some e = absurd (omega arith)
+  scan_sends (suc w) (suc zero) some e = absurd (omega arith)
+  scan_sends (suc w) (suc (suc i)) some e = refl
 
 -- no collective may have more than 65536 ranks
 pub most_ranks_few : (what : Collective) → most_ranks what ≤ 65536

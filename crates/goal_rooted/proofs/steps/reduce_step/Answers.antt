@@ -1,6 +1,6 @@
 use Rattle.std.proofs.Common.{◌/◌, arith}
 use Rattle.goal_blocks.proofs.ForCallers.{rounds_few, reduce_sends, reduce_hears, reduce_sums}
-use Rattle.goal_rooted.proofs.RootedCases.{child_of}
+use Rattle.goal_rooted.proofs.RootedCases.{round_has_child}
 use Rattle.goal_rooted.proofs.steps.reduce_step.Goals as goal
 
 pub earlier_sum-requires : goal.earlier_sum-requires
@@ -13,17 +13,17 @@ returns-then-rounds-round c =
 
 pub power-requires : goal.power-requires
 power-requires c =
-    let child = child_of c.args.ranks c.args.rank (c.args.number / 2) c.requires.few c.requires.rank (omega (arith, c.children-rounds.ensures)) in
+    let child = round_has_child c.args.ranks c.args.rank (c.args.number / 2) c.requires.few c.requires.rank (omega (arith, c.children-rounds.ensures)) in
     omega (arith, child.few)
 
 pub overflow_add-rank : goal.overflow_add-rank
 overflow_add-rank c =
-    let child = child_of c.args.ranks c.args.rank (c.args.number / 2) c.requires.few c.requires.rank (omega (arith, c.children-rounds.ensures)) in
+    let child = round_has_child c.args.ranks c.args.rank (c.args.number / 2) c.requires.few c.requires.rank (omega (arith, c.children-rounds.ensures)) in
     omega (arith, child.child, c.power.ensures)
 
 pub ahead-child-requires-clause-rank : goal.ahead-child-requires-clause-rank
 ahead-child-requires-clause-rank c =
-    let child = child_of c.args.ranks c.args.rank (c.args.number / 2) c.requires.few c.requires.rank (omega (arith, c.children-rounds.ensures)) in
+    let child = round_has_child c.args.ranks c.args.rank (c.args.number / 2) c.requires.few c.requires.rank (omega (arith, c.children-rounds.ensures)) in
     omega (arith, child.child, c.power.ensures)
 
 pub returns-then-number-eq0 : goal.returns-then-number-eq0
@@ -33,7 +33,7 @@ returns-then-number-eq0 c =
 
 pub before_sum-requires : goal.before_sum-requires
 before_sum-requires c =
-    let child = child_of c.args.ranks c.args.rank (c.args.number / 2) c.requires.few c.requires.rank (omega (arith, c.children-rounds.ensures)) in
+    let child = round_has_child c.args.ranks c.args.rank (c.args.number / 2) c.requires.few c.requires.rank (omega (arith, c.children-rounds.ensures)) in
     omega (arith, child.few)
 
 pub returns : goal.returns
