@@ -29,13 +29,13 @@ use Rattle.goal_blocks.proofs.Totals.{entries_few}
 use Rattle.goal_blocks.proofs.Blueprint.{moved, touches, writes, Precedes, now, IsThere, Origin, Final, IsBlueprint, IsBounded, blueprint_certified}
 
 -- the slots of one slot's span
-pub moved_slot : (k : ℕ) → flat_map slots_of_span (slot k) ≡ k ∷ []
+pub slots_of_single_slot : (k : ℕ) → flat_map slots_of_span (slot k) ≡ k ∷ []
 unfolding slots_from
-moved_slot k = let one : k + 1 - k ≡ 1 = omega arith in rw one refl
+slots_of_single_slot k = let one : k + 1 - k ≡ 1 = omega arith in rw one refl
 
 -- places in a ring
-pub back_once : (ranks r a b : ℕ) → r < ranks → a < ranks → b < ranks → back ranks r a ≡ back ranks r b → a ≡ b
-back_once ranks r a b p q s e = go (back_is ranks r a) (back_is ranks r b)
+pub back_injective : (ranks r a b : ℕ) → r < ranks → a < ranks → b < ranks → back ranks r a ≡ back ranks r b → a ≡ b
+back_injective ranks r a b p q s e = go (back_is ranks r a) (back_is ranks r b)
   where
     go : ((r < a) × (back ranks r a ≡ r + ranks - a)) ⊎ ((a ≤ r) × (back ranks r a ≡ r - a)) → ((r < b) × (back ranks r b ≡ r + ranks - b)) ⊎ ((b ≤ r) × (back ranks r b ≡ r - b)) → a ≡ b
     go (inl (l, f)) (inl (m, g)) = omega (arith, p, q, s, e, l, f, m, g)
@@ -74,16 +74,16 @@ module _ (ranks bytes : ℕ) (some : 0 < ranks) (few : ranks ≤ 512) where
   level r i = i / 2
 
   -- the operations of step s
-  sends : (r s : ℕ) → entry r (2 * s) ≡ sending bytes (ahead ranks r 1) s (before_send s) (slot (back ranks r s))
+  entry_sends : (r s : ℕ) → entry r (2 * s) ≡ sending bytes (ahead ranks r 1) s (before_send s) (slot (back ranks r s))
   unfolding allgather_in
-  sends r s =
+  entry_sends r s =
       let half : 2 * s / 2 ≡ s = omega arith in
       let even : 2 * s % 2 ≡ 0 = omega arith in
       rw (even, half) refl
 
-  receives : (r s : ℕ) → entry r (2 * s + 1) ≡ receiving bytes (back ranks r 1) s (slot (back ranks r (s + 1)))
+  entry_receives : (r s : ℕ) → entry r (2 * s + 1) ≡ receiving bytes (back ranks r 1) s (slot (back ranks r (s + 1)))
   unfolding allgather_in
-  receives r s =
+  entry_receives r s =
       let half : (2 * s + 1) / 2 ≡ s = omega arith in
       let odd : (2 * s + 1) % 2 ≡ 1 = omega arith in
       rw (odd, half) refl
@@ -103,35 +103,35 @@ module _ (ranks bytes : ℕ) (some : 0 < ranks) (few : ranks ≤ 512) where
       even : (s : ℕ) → moved (entry r (2 * s)) ≡ back ranks r ((2 * s + 1) / 2) ∷ []
       even s =
           let half : (2 * s + 1) / 2 ≡ s = omega arith in
-          rw half (ap moved (sends r s) ∙ moved_slot (back ranks r s))
+          rw half (ap moved (entry_sends r s) ∙ slots_of_single_slot (back ranks r s))
 
       odd : (s : ℕ) → moved (entry r (2 * s + 1)) ≡ back ranks r ((2 * s + 1 + 1) / 2) ∷ []
       odd s =
           let half : (2 * s + 1 + 1) / 2 ≡ s + 1 = omega arith in
-          rw half (ap moved (receives r s) ∙ moved_slot (back ranks r (s + 1)))
+          rw half (ap moved (entry_receives r s) ∙ slots_of_single_slot (back ranks r (s + 1)))
 
   -- a receive writes its slot, and a send none
   writes_place : (r i k : ℕ) → Mem k (writes (entry r i)) → (s : ℕ) × (i ≡ 2 * s + 1) × (back ranks r (s + 1) ≡ k)
-  writes_place r i k m = ⊎_elim (λ p. absurd (subst (λ (x : Entry). Mem k (writes x)) (ap (λ (n : ℕ). entry r n) p.1 ∙ sends r p.0) m)) (λ p. (p.0, p.1, at p.0 (subst (λ (x : Entry). Mem k (writes x)) (ap (λ (n : ℕ). entry r n) p.1 ∙ receives r p.0) m))) (cases_step i)
+  writes_place r i k m = ⊎_elim (λ p. absurd (subst (λ (x : Entry). Mem k (writes x)) (ap (λ (n : ℕ). entry r n) p.1 ∙ entry_sends r p.0) m)) (λ p. (p.0, p.1, at p.0 (subst (λ (x : Entry). Mem k (writes x)) (ap (λ (n : ℕ). entry r n) p.1 ∙ entry_receives r p.0) m))) (cases_step i)
     where
       at : (s : ℕ) → Mem k (flat_map slots_of_span (slot (back ranks r (s + 1)))) → back ranks r (s + 1) ≡ k
       at s n =
-          ⊎_elim (λ e. e) (λ none. absurd none) (subst (λ (ks : List ℕ). Mem k ks) (moved_slot (back ranks r (s + 1))) n)
+          ⊎_elim (λ e. e) (λ none. absurd none) (subst (λ (ks : List ℕ). Mem k ks) (slots_of_single_slot (back ranks r (s + 1))) n)
 
   writes_here : (r s : ℕ) → Mem (back ranks r (s + 1)) (writes (entry r (2 * s + 1)))
   writes_here r s =
-      subst (λ (x : Entry). Mem (back ranks r (s + 1)) (writes x)) (sym (receives r s)) (subst (λ (ks : List ℕ). Mem (back ranks r (s + 1)) ks) (sym (moved_slot (back ranks r (s + 1)))) (inl refl))
+      subst (λ (x : Entry). Mem (back ranks r (s + 1)) (writes x)) (sym (entry_receives r s)) (subst (λ (ks : List ℕ). Mem (back ranks r (s + 1)) ks) (sym (slots_of_single_slot (back ranks r (s + 1)))) (inl refl))
 
   -- a send or a receive touches its slot
   touches_place : (r i k : ℕ) → Mem k (touches (entry r i)) → ((s : ℕ) × (i ≡ 2 * s) × (back ranks r s ≡ k)) ⊎ ((s : ℕ) × (i ≡ 2 * s + 1) × (back ranks r (s + 1) ≡ k))
-  touches_place r i k m = ⊎_elim (λ p. inl (p.0, p.1, at (back ranks r p.0) (subst (λ (x : Entry). Mem k (touches x)) (ap (λ (n : ℕ). entry r n) p.1 ∙ sends r p.0) m))) (λ p. inr (p.0, p.1, at (back ranks r (p.0 + 1)) (subst (λ (x : Entry). Mem k (touches x)) (ap (λ (n : ℕ). entry r n) p.1 ∙ receives r p.0) m))) (cases_step i)
+  touches_place r i k m = ⊎_elim (λ p. inl (p.0, p.1, at (back ranks r p.0) (subst (λ (x : Entry). Mem k (touches x)) (ap (λ (n : ℕ). entry r n) p.1 ∙ entry_sends r p.0) m))) (λ p. inr (p.0, p.1, at (back ranks r (p.0 + 1)) (subst (λ (x : Entry). Mem k (touches x)) (ap (λ (n : ℕ). entry r n) p.1 ∙ entry_receives r p.0) m))) (cases_step i)
     where
       at : (j : ℕ) → Mem k (flat_map slots_of_span (slot j)) → j ≡ k
-      at j n = ⊎_elim (λ e. e) (λ none. absurd none) (subst (λ (ks : List ℕ). Mem k ks) (moved_slot j) n)
+      at j n = ⊎_elim (λ e. e) (λ none. absurd none) (subst (λ (ks : List ℕ). Mem k ks) (slots_of_single_slot j) n)
 
   -- what the send of step s + 1 requires is the receive of step s
   needs_step : (r i k : ℕ) → Mem k (entry r i).needs → (s : ℕ) × (i ≡ 2 * (s + 1)) × (k ≡ 2 * s + 1)
-  needs_step r i k m = ⊎_elim (λ p. even p.0 p.1 (subst (λ (x : Entry). Mem k x.needs) (ap (λ (n : ℕ). entry r n) p.1 ∙ sends r p.0) m)) (λ p. absurd (subst (λ (x : Entry). Mem k x.needs) (ap (λ (n : ℕ). entry r n) p.1 ∙ receives r p.0) m)) (cases_step i)
+  needs_step r i k m = ⊎_elim (λ p. even p.0 p.1 (subst (λ (x : Entry). Mem k x.needs) (ap (λ (n : ℕ). entry r n) p.1 ∙ entry_sends r p.0) m)) (λ p. absurd (subst (λ (x : Entry). Mem k x.needs) (ap (λ (n : ℕ). entry r n) p.1 ∙ entry_receives r p.0) m)) (cases_step i)
     where
       even : (s : ℕ) → i ≡ 2 * s → Mem k (before_send s) → (t : ℕ) × (i ≡ 2 * (t + 1)) × (k ≡ 2 * t + 1)
       even zero e n = absurd n
@@ -140,68 +140,68 @@ module _ (ranks bytes : ℕ) (some : 0 < ranks) (few : ranks ≤ 512) where
 
   needs_here : (r s : ℕ) → Precedes (entry r) (2 * s + 1) (2 * (s + 1))
   needs_here r s =
-      now (subst (λ (x : Entry). Mem (2 * s + 1) x.needs) (sym (sends r (s + 1))) (subst (λ (n : ℕ). Mem (2 * s + 1) (before_send n)) (sym (add-one s)) (inl (omega arith))))
+      now (subst (λ (x : Entry). Mem (2 * s + 1) x.needs) (sym (entry_sends r (s + 1))) (subst (λ (n : ℕ). Mem (2 * s + 1) (before_send n)) (sym (add-one s)) (inl (omega arith))))
 
   first_own : (r : ℕ) → r < ranks → first r r ≡ single r 0
   unfolding initial
   first_own r inside = rw (lt-ltb r ranks inside, eq-eqb r r refl) refl
 
-  at_end : (r k : ℕ) → r < ranks → k < ranks → wanted Allgather ranks r k (single k 0) ≡ true
+  wanted_at_end : (r k : ℕ) → r < ranks → k < ranks → wanted Allgather ranks r k (single k 0) ≡ true
   unfolding wanted is_value
-  at_end r k inside low = rw (lt-ltb r ranks inside, lt-ltb k ranks low, eq-eqb k k refl) refl
+  wanted_at_end r k inside low = rw (lt-ltb r ranks inside, lt-ltb k ranks low, eq-eqb k k refl) refl
 
-  beyond : (r k : ℕ) → ranks ≤ k → (v : Value) → wanted Allgather ranks r k v ≡ true
+  nothing_wanted_beyond : (r k : ℕ) → ranks ≤ k → (v : Value) → wanted Allgather ranks r k v ≡ true
   unfolding wanted
-  beyond r k high v = go (nat_lt r ranks) (nat_lt k ranks) refl
+  nothing_wanted_beyond r k high v = go (nat_lt r ranks) (nat_lt k ranks) refl
     where
       go : (a b : Bool) → nat_lt k ranks ≡ b → (if a then (if b then is_value v (single k 0) else true) else true) ≡ true
       go true true e = absurd (let low = ltb-true k ranks e in omega (arith, low, high))
       go true false e = refl
       go false b e = refl
 
-  lower : (r i k : ℕ) → IsThere ranks count entry r i → Mem k (entry r i).needs → (k < count r) × (level r k < level r i)
-  lower r i k there m =
+  needs_are_lower : (r i k : ℕ) → IsThere ranks count entry r i → Mem k (entry r i).needs → (k < count r) × (level r k < level r i)
+  needs_are_lower r i k there m =
       let p = needs_step r i k m in
       let inside = there.1 in
       let is = p.1 in
       let its = p.2 in
       (omega (arith, inside, is, its), omega (arith, is, its))
 
-  same_op : (r i j k : ℕ) → r < ranks → i < count r → (s t : ℕ) → i ≡ 2 * s + 1 → j ≡ 2 * t + 1 → j < count r → back ranks r (s + 1) ≡ k → back ranks r (t + 1) ≡ k → i ≡ j
-  same_op r i j k inside l s t p q m a b =
-      let same = back_once ranks r (s + 1) (t + 1) inside (omega (arith, l, p)) (omega (arith, m, q)) (a ∙ sym b) in
+  receives_write_once : (r i j k : ℕ) → r < ranks → i < count r → (s t : ℕ) → i ≡ 2 * s + 1 → j ≡ 2 * t + 1 → j < count r → back ranks r (s + 1) ≡ k → back ranks r (t + 1) ≡ k → i ≡ j
+  receives_write_once r i j k inside l s t p q m a b =
+      let same = back_injective ranks r (s + 1) (t + 1) inside (omega (arith, l, p)) (omega (arith, m, q)) (a ∙ sym b) in
       omega (arith, same, p, q)
 
   -- a send comes after the receive that writes its slot
-  after_write : (r i j k : ℕ) → r < ranks → i < count r → j < count r → (s t : ℕ) → i ≡ 2 * s → j ≡ 2 * t + 1 → back ranks r s ≡ k → back ranks r (t + 1) ≡ k → Precedes (entry r) j i
-  after_write r i j k inside l m s t p q a b =
-      let same : s ≡ t + 1 = back_once ranks r s (t + 1) inside (omega (arith, l, p)) (omega (arith, m, q)) (a ∙ sym b) in
+  send_after_write : (r i j k : ℕ) → r < ranks → i < count r → j < count r → (s t : ℕ) → i ≡ 2 * s → j ≡ 2 * t + 1 → back ranks r s ≡ k → back ranks r (t + 1) ≡ k → Precedes (entry r) j i
+  send_after_write r i j k inside l m s t p q a b =
+      let same : s ≡ t + 1 = back_injective ranks r s (t + 1) inside (omega (arith, l, p)) (omega (arith, m, q)) (a ∙ sym b) in
       subst (λ (n : ℕ). Precedes (entry r) n i) (sym q) (subst (λ (n : ℕ). Precedes (entry r) (2 * t + 1) n) (sym (p ∙ ap (λ (n : ℕ). 2 * n) same)) (needs_here r t))
 
-  race : (r i j k : ℕ) → r < ranks → i < count r → j < count r → (i ≡ j → ⊥) → Mem k (touches (entry r i)) → Mem k (writes (entry r j)) → Precedes (entry r) i j ⊎ Precedes (entry r) j i
-  race r i j k inside l m differ t w =
+  conflicts_are_ordered : (r i j k : ℕ) → r < ranks → i < count r → j < count r → (i ≡ j → ⊥) → Mem k (touches (entry r i)) → Mem k (writes (entry r j)) → Precedes (entry r) i j ⊎ Precedes (entry r) j i
+  conflicts_are_ordered r i j k inside l m differ t w =
       let writer = writes_place r j k w in
-      ⊎_elim (λ p. inr (after_write r i j k inside l m p.0 writer.0 p.1 writer.1 p.2 writer.2)) (λ p. absurd (differ (same_op r i j k inside l p.0 writer.0 p.1 writer.1 m p.2 writer.2))) (touches_place r i k t)
+      ⊎_elim (λ p. inr (send_after_write r i j k inside l m p.0 writer.0 p.1 writer.1 p.2 writer.2)) (λ p. absurd (differ (receives_write_once r i j k inside l p.0 writer.0 p.1 writer.1 m p.2 writer.2))) (touches_place r i k t)
 
-  source : (r i k : ℕ) → IsThere ranks count entry r i → ((room : ℕ) (from t : Option ℕ) → (entry r i).kind ≡ Recv room from t → ⊥) → Mem k (touches (entry r i)) → Origin ranks count entry first (wanted Allgather ranks) own_value own_value r i k
-  source r i k there not_receive t =
-      ⊎_elim (λ p. sent p.0 p.1 p.2) (λ p. absurd (not_receive _ _ _ (ap (λ (x : Entry). x.kind) (ap (λ (n : ℕ). entry r n) p.1 ∙ receives r p.0)))) (touches_place r i k t)
+  touched_has_origin : (r i k : ℕ) → IsThere ranks count entry r i → ((room : ℕ) (from t : Option ℕ) → (entry r i).kind ≡ Recv room from t → ⊥) → Mem k (touches (entry r i)) → Origin ranks count entry first (wanted Allgather ranks) own_value own_value r i k
+  touched_has_origin r i k there not_receive t =
+      ⊎_elim (λ p. sent p.0 p.1 p.2) (λ p. absurd (not_receive _ _ _ (ap (λ (x : Entry). x.kind) (ap (λ (n : ℕ). entry r n) p.1 ∙ entry_receives r p.0)))) (touches_place r i k t)
     where
       sent : (s : ℕ) → i ≡ 2 * s → back ranks r s ≡ k → Origin ranks count entry first (wanted Allgather ranks) own_value own_value r i k
       sent zero p q =
           let own : r ≡ k = sym (back_zero ranks r) ∙ q in
           let inside = there.0 in
-          inl (subst (λ (n : ℕ). first r n ≡ single n 0) own (first_own r there.0), λ j l w. let v = writes_place r j k w in let at = v.1 in absurd (let same = back_once ranks r (v.0 + 1) 0 there.0 (omega (arith, l, at)) (omega (arith, inside)) (v.2 ∙ sym q) in omega (arith, same)))
+          inl (subst (λ (n : ℕ). first r n ≡ single n 0) own (first_own r there.0), λ j l w. let v = writes_place r j k w in let at = v.1 in absurd (let same = back_injective ranks r (v.0 + 1) 0 there.0 (omega (arith, l, at)) (omega (arith, inside)) (v.2 ∙ sym q) in omega (arith, same)))
       sent (suc s) p q =
           let inside = there.1 in
-          inr (2 * s + 1, omega (arith, inside, p), subst (λ (n : ℕ). Mem n (writes (entry r (2 * s + 1)))) (ap (λ (n : ℕ). back ranks r n) (add-one s) ∙ q) (writes_here r s), subst (λ (n : ℕ). Precedes (entry r) (2 * s + 1) n) (ap (λ (n : ℕ). 2 * n) (add-one s) ∙ sym p) (needs_here r s), refl, λ l m w. let v = writes_place r l k w in inl (inr (same_op r l (2 * s + 1) k there.0 m v.0 s v.1 refl (omega (arith, inside, p)) v.2 (ap (λ (n : ℕ). back ranks r n) (add-one s) ∙ q))))
+          inr (2 * s + 1, omega (arith, inside, p), subst (λ (n : ℕ). Mem n (writes (entry r (2 * s + 1)))) (ap (λ (n : ℕ). back ranks r n) (add-one s) ∙ q) (writes_here r s), subst (λ (n : ℕ). Precedes (entry r) (2 * s + 1) n) (ap (λ (n : ℕ). 2 * n) (add-one s) ∙ sym p) (needs_here r s), refl, λ l m w. let v = writes_place r l k w in inl (inr (receives_write_once r l (2 * s + 1) k there.0 m v.0 s v.1 refl (omega (arith, inside, p)) v.2 (ap (λ (n : ℕ). back ranks r n) (add-one s) ∙ q))))
 
-  final : (r k : ℕ) → r < ranks → Final ranks count entry first (wanted Allgather ranks) own_value own_value r k
-  final r k inside = ⊎_elim (λ low. here low (cases_eq r k)) (λ high. inl (beyond r k high)) (cases_lt k ranks)
+  slots_end_as_wanted : (r k : ℕ) → r < ranks → Final ranks count entry first (wanted Allgather ranks) own_value own_value r k
+  slots_end_as_wanted r k inside = ⊎_elim (λ low. here low (cases_eq r k)) (λ high. inl (nothing_wanted_beyond r k high)) (cases_lt k ranks)
     where
       here : k < ranks → (r ≡ k) ⊎ (r ≡ k → ⊥) → Final ranks count entry first (wanted Allgather ranks) own_value own_value r k
       here low (inl own) =
-          inr (inl (λ j l w. let v = writes_place r j k w in let at = v.1 in absurd (let same = back_once ranks r (v.0 + 1) 0 inside (omega (arith, l, at)) some (v.2 ∙ sym own ∙ sym (back_zero ranks r)) in omega (arith, same)), subst (λ (n : ℕ). wanted Allgather ranks r n (first r n) ≡ true) own (subst (λ (v : Value). wanted Allgather ranks r r v ≡ true) (sym (first_own r inside)) (at_end r r inside inside))))
+          inr (inl (λ j l w. let v = writes_place r j k w in let at = v.1 in absurd (let same = back_injective ranks r (v.0 + 1) 0 inside (omega (arith, l, at)) some (v.2 ∙ sym own ∙ sym (back_zero ranks r)) in omega (arith, same)), subst (λ (n : ℕ). wanted Allgather ranks r n (first r n) ≡ true) own (subst (λ (v : Value). wanted Allgather ranks r r v ≡ true) (sym (first_own r inside)) (wanted_at_end r r inside inside))))
       here low (inr other) =
           let d = back ranks r k in
           let under = back_below ranks r k inside in
@@ -210,11 +210,11 @@ module _ (ranks bytes : ℕ) (some : 0 < ranks) (few : ranks ≤ 512) where
           let step : t + 1 ≡ d = omega (arith, above) in
           let at : back ranks r (t + 1) ≡ k = ap (λ (n : ℕ). back ranks r n) step ∙ back_back ranks r k inside low in
           let there : 2 * t + 1 < count r = omega (arith, step, under) in
-          inr (inr (2 * t + 1, there, subst (λ (n : ℕ). Mem n (writes (entry r (2 * t + 1)))) at (writes_here r t), λ l m w. let v = writes_place r l k w in inl (same_op r l (2 * t + 1) k inside m v.0 t v.1 refl there v.2 at), at_end r k inside low))
+          inr (inr (2 * t + 1, there, subst (λ (n : ℕ). Mem n (writes (entry r (2 * t + 1)))) at (writes_here r t), λ l m w. let v = writes_place r l k w in inl (receives_write_once r l (2 * t + 1) k inside m v.0 t v.1 refl there v.2 at), wanted_at_end r k inside low))
 
   no_calc : (r i nanos : ℕ) → (entry r i).kind ≡ Calc nanos → ⊥
   no_calc r i nanos e =
-      ⊎_elim (λ p. let f = sym (ap (λ (x : Entry). x.kind) (ap (λ (n : ℕ). entry r n) p.1 ∙ sends r p.0)) ∙ e in cc f) (λ p. let f = sym (ap (λ (x : Entry). x.kind) (ap (λ (n : ℕ). entry r n) p.1 ∙ receives r p.0)) ∙ e in cc f) (cases_step i)
+      ⊎_elim (λ p. let f = sym (ap (λ (x : Entry). x.kind) (ap (λ (n : ℕ). entry r n) p.1 ∙ entry_sends r p.0)) ∙ e in cc f) (λ p. let f = sym (ap (λ (x : Entry). x.kind) (ap (λ (n : ℕ). entry r n) p.1 ∙ entry_receives r p.0)) ∙ e in cc f) (cases_step i)
 
   -- a message goes from a slot to the one of the same number
   same_slot : (h : RingHop ranks bytes) → back ranks (ahead ranks h.from 1) (h.step + 1) ≡ back ranks h.from h.step
@@ -230,20 +230,20 @@ module _ (ranks bytes : ℕ) (some : 0 < ranks) (few : ranks ≤ 512) where
       go (inr (a, b)) (inr (c, d)) (inl (e, f)) = let i = h.inside in let s = h.few in omega (arith, a, b, c, d, e, f, i, s)
       go (inr (a, b)) (inr (c, d)) (inr (e, f)) = let i = h.inside in let s = h.few in omega (arith, a, b, c, d, e, f, i, s)
 
-  kept : (h : RingHop ranks bytes) → moved (entry h.from (2 * h.step)) ≡ moved (entry (ahead ranks h.from 1) (2 * h.step + 1))
-  kept h =
-      ap moved (sends h.from h.step) ∙ moved_slot (back ranks h.from h.step) ∙ ap (λ (n : ℕ). n ∷ []) (sym (same_slot h)) ∙ sym (ap moved (receives (ahead ranks h.from 1) h.step) ∙ moved_slot (back ranks (ahead ranks h.from 1) (h.step + 1)))
+  message_keeps_values : (h : RingHop ranks bytes) → moved (entry h.from (2 * h.step)) ≡ moved (entry (ahead ranks h.from 1) (2 * h.step + 1))
+  message_keeps_values h =
+      ap moved (entry_sends h.from h.step) ∙ slots_of_single_slot (back ranks h.from h.step) ∙ ap (λ (n : ℕ). n ∷ []) (sym (same_slot h)) ∙ sym (ap moved (entry_receives (ahead ranks h.from 1) h.step) ∙ slots_of_single_slot (back ranks (ahead ranks h.from 1) (h.step + 1)))
 
   blueprint : IsBlueprint ranks count entry first (wanted Allgather ranks) own_value own_value (RingHop ranks bytes) bytes (ring_send ranks bytes) (ring_recv ranks bytes) (λ h. h.step) level
   blueprint = record {
     messages = ring_messages ranks bytes;
-    lower = lower;
+    lower = needs_are_lower;
     same_level = λ h. omega arith;
-    race = race;
-    source = source;
+    race = conflicts_are_ordered;
+    source = touched_has_origin;
     summed = λ r i nanos there k. absurd (no_calc r i nanos k);
-    kept = λ h. ap (λ (ks : List ℕ). map (λ (k : ℕ). single k 0) ks) (kept h);
-    final = final;
+    kept = λ h. ap (λ (ks : List ℕ). map (λ (k : ℕ). single k 0) ks) (message_keeps_values h);
+    final = slots_end_as_wanted;
   }
 
   -- a contribution in each slot of a rank
@@ -279,33 +279,33 @@ module _ (ranks bytes : ℕ) (some : 0 < ranks) (few : ranks ≤ 512) where
       go true e false f = omega arith
       go false e b f = omega arith
 
-  total : bytes ≤ MAX_BYTES → sum_below ranks (λ r. sum_below (2 ^ 32) (cap r)) + sum_by (λ r. sum_by (load r) (range_with_len 0 (count r))) (range_with_len 0 ranks) ≤ weight_limit
-  total size =
+  total_within_limit : bytes ≤ MAX_BYTES → sum_below ranks (λ r. sum_below (2 ^ 32) (cap r)) + sum_by (λ r. sum_by (load r) (range_with_len 0 (count r))) (range_with_len 0 ranks) ≤ weight_limit
+  total_within_limit size =
       let stores = sum_below_few ranks 512 (λ r. sum_below (2 ^ 32) (cap r)) (λ r l. let s = sum_low_few (2 ^ 32) ranks 1 (cap r) (cap_few r) (cap_high r) in omega (arith, s, few)) in
       let loads = entries_few ranks count load 1 (λ r i l m. omega arith) in
       let ops = (allgather_fits ranks bytes size some few).few_ops in
       omega (arith, stores, loads, ops, few)
 
-  bounded : bytes ≤ MAX_BYTES → IsBounded ranks count entry first (wanted Allgather ranks) own_value own_value (RingHop ranks bytes) (ring_send ranks bytes) cap load
-  bounded size = record {
+  blueprint_is_bounded : bytes ≤ MAX_BYTES → IsBounded ranks count entry first (wanted Allgather ranks) own_value own_value (RingHop ranks bytes) (ring_send ranks bytes) cap load
+  blueprint_is_bounded size = record {
     first_cap = first_cap;
     leaves_cap = λ r i k there w. let v = writes_place r i k w in let low = cap_low r k (subst (λ (n : ℕ). n < ranks) v.2 (back_below ranks r (v.0 + 1) there.0)) in omega (arith, low);
     finds_load = λ h. subst (λ (ks : List ℕ). sum_by (λ (v : Value). length v) (map (λ (k : ℕ). single k 0) ks) ≤ 1) (sym (moves_place h.from (2 * h.step))) (omega arith);
-    total = total size;
+    total = total_within_limit size;
   }
 
   low_notes : (r i : ℕ) → r < ranks → All NamesLowSlots (notes_of i (entry r i)) × (sum_by moved_count (notes_of i (entry r i)) ≤ 1)
-  low_notes r i inside = ⊎_elim (λ p. subst (λ (x : Entry). All NamesLowSlots (notes_of i x) × (sum_by moved_count (notes_of i x) ≤ 1)) (sym (ap (λ (n : ℕ). entry r n) p.1 ∙ sends r p.0)) (one (back ranks r p.0) (back_below ranks r p.0 inside))) (λ p. subst (λ (x : Entry). All NamesLowSlots (notes_of i x) × (sum_by moved_count (notes_of i x) ≤ 1)) (sym (ap (λ (n : ℕ). entry r n) p.1 ∙ receives r p.0)) (one (back ranks r (p.0 + 1)) (back_below ranks r (p.0 + 1) inside))) (cases_step i)
+  low_notes r i inside = ⊎_elim (λ p. subst (λ (x : Entry). All NamesLowSlots (notes_of i x) × (sum_by moved_count (notes_of i x) ≤ 1)) (sym (ap (λ (n : ℕ). entry r n) p.1 ∙ entry_sends r p.0)) (one (back ranks r p.0) (back_below ranks r p.0 inside))) (λ p. subst (λ (x : Entry). All NamesLowSlots (notes_of i x) × (sum_by moved_count (notes_of i x) ≤ 1)) (sym (ap (λ (n : ℕ). entry r n) p.1 ∙ entry_receives r p.0)) (one (back ranks r (p.0 + 1)) (back_below ranks r (p.0 + 1) inside))) (cases_step i)
     where
       one : (k : ℕ) → k < ranks → All NamesLowSlots (Moves i k k ∷ []) × (sum_by moved_count (Moves i k k ∷ []) ≤ 1)
       one k l = (All_one NamesLowSlots (Moves i k k) (omega (arith, l, few), omega (arith, l, few)), omega arith)
 
-  small : bytes ≤ MAX_BYTES → IsSmall (made Allgather ranks bytes)
+  made_is_small : bytes ≤ MAX_BYTES → IsSmall (made Allgather ranks bytes)
   unfolding made
-  small size =
+  made_is_small size =
       entries_small ranks count entry 1 (λ r l. omega (arith, few)) (λ r i l m. (low_notes r i l).0) (λ r i l m. (low_notes r i l).1) (let ops = (allgather_fits ranks bytes size some few).few_ops in omega (arith, ops))
 
   pub allgather_certified : bytes ≤ MAX_BYTES → IsCertifiedFor Allgather (made Allgather ranks bytes)
   unfolding made
   allgather_certified size =
-      subst (λ (n : ℕ). IsCertified (made Allgather ranks bytes) (initial Allgather n) (wanted Allgather n)) (sym (length_plans ranks count entry)) (blueprint_certified ranks count entry first (wanted Allgather ranks) own_value own_value (RingHop ranks bytes) bytes (ring_send ranks bytes) (ring_recv ranks bytes) (λ h. h.step) level blueprint cap load (bounded size) (small size))
+      subst (λ (n : ℕ). IsCertified (made Allgather ranks bytes) (initial Allgather n) (wanted Allgather n)) (sym (length_plans ranks count entry)) (blueprint_certified ranks count entry first (wanted Allgather ranks) own_value own_value (RingHop ranks bytes) bytes (ring_send ranks bytes) (ring_recv ranks bytes) (λ h. h.step) level blueprint cap load (blueprint_is_bounded size) (made_is_small size))

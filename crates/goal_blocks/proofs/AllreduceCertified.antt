@@ -75,8 +75,8 @@ module _ (m bytes : ℕ) (few : 2 ^ m ≤ rank_limit) where
   abbrev n : ℕ
   n = digits (ranks - 1)
 
-  rounds_are : n ≡ m
-  rounds_are = ⊎_elim (λ less. absurd (below (m - 1) less (omega (arith, less)))) (λ more. omega (arith, more, at_most)) (cases_lt n m)
+  rounds_are_m : n ≡ m
+  rounds_are_m = ⊎_elim (λ less. absurd (below (m - 1) less (omega (arith, less)))) (λ more. omega (arith, more, at_most)) (cases_lt n m)
     where
       some : 0 < 2 ^ m
       some = pow_pos m
@@ -94,19 +94,19 @@ module _ (m bytes : ℕ) (few : 2 ^ m ≤ rank_limit) where
           omega (arith, high, le, twice, whole, one)
 
   to_rank : (r k : ℕ) → r < ranks → k < n → flipped r k < ranks
-  to_rank r k inside l = let same = rounds_are in flipped_below m r k inside (omega (arith, l, same))
+  to_rank r k inside l = let same = rounds_are_m in flipped_below m r k inside (omega (arith, l, same))
 
-  twice_is : (r k : ℕ) → r < ranks → k < n → flipped (flipped r k) k ≡ r
-  twice_is r k inside l = flipped_twice r k
+  flipped_twice_of_rank : (r k : ℕ) → r < ranks → k < n → flipped (flipped r k) k ≡ r
+  flipped_twice_of_rank r k inside l = flipped_twice r k
 
-  abbrev got : ℕ → ℕ → Value
-  got k r = gained ranks n bytes flipped flipped to_rank to_rank twice_is twice_is k r
+  abbrev value_after : ℕ → ℕ → Value
+  value_after k r = gained ranks n bytes flipped flipped to_rank to_rank flipped_twice_of_rank flipped_twice_of_rank k r
 
   -- two neighbouring runs are one, from either of their ranks
-  joined_low : (k q x : ℕ) → x < 2 ^ k → got k (2 * q * 2 ^ k + x) ≡ run (2 * q * 2 ^ k) (2 ^ k) → got k ((2 * q + 1) * 2 ^ k + x) ≡ run ((2 * q + 1) * 2 ^ k) (2 ^ k) → got (suc k) (q * 2 ^ suc k + x) ≡ run (q * 2 ^ suc k) (2 ^ suc k)
+  joined_low : (k q x : ℕ) → x < 2 ^ k → value_after k (2 * q * 2 ^ k + x) ≡ run (2 * q * 2 ^ k) (2 ^ k) → value_after k ((2 * q + 1) * 2 ^ k + x) ≡ run ((2 * q + 1) * 2 ^ k) (2 ^ k) → value_after (suc k) (q * 2 ^ suc k + x) ≡ run (q * 2 ^ suc k) (2 ^ suc k)
   unfolding gained
   joined_low k q x near mine others =
-      (λ i. merge (got k (same i)) (got k (flipped (same i) k))) ∙ (let other = ap (λ (r : ℕ). got k r) (flipped_even q k x near) ∙ others in λ i. merge (mine i) (other i)) ∙ ap (λ (a : ℕ). merge (run (2 * q * 2 ^ k) (2 ^ k)) (run a (2 ^ k))) next ∙ merge_before (2 * q * 2 ^ k) (2 ^ k) (2 ^ k) ∙ (λ i. run (start i) (size i))
+      (λ i. merge (value_after k (same i)) (value_after k (flipped (same i) k))) ∙ (let other = ap (λ (r : ℕ). value_after k r) (flipped_even q k x near) ∙ others in λ i. merge (mine i) (other i)) ∙ ap (λ (a : ℕ). merge (run (2 * q * 2 ^ k) (2 ^ k)) (run a (2 ^ k))) next ∙ merge_before (2 * q * 2 ^ k) (2 ^ k) (2 ^ k) ∙ (λ i. run (start i) (size i))
     where
       twice : 2 ^ suc k ≡ 2 ^ k * 2
       twice = pow-suc 2 k
@@ -123,10 +123,10 @@ module _ (m bytes : ℕ) (few : 2 ^ m ≤ rank_limit) where
       next : (2 * q + 1) * 2 ^ k ≡ 2 * q * 2 ^ k + 2 ^ k
       next = grind arith
 
-  joined_high : (k q x y : ℕ) → y < 2 ^ k → x ≡ 2 ^ k + y → got k ((2 * q + 1) * 2 ^ k + y) ≡ run ((2 * q + 1) * 2 ^ k) (2 ^ k) → got k (2 * q * 2 ^ k + y) ≡ run (2 * q * 2 ^ k) (2 ^ k) → got (suc k) (q * 2 ^ suc k + x) ≡ run (q * 2 ^ suc k) (2 ^ suc k)
+  joined_high : (k q x y : ℕ) → y < 2 ^ k → x ≡ 2 ^ k + y → value_after k ((2 * q + 1) * 2 ^ k + y) ≡ run ((2 * q + 1) * 2 ^ k) (2 ^ k) → value_after k (2 * q * 2 ^ k + y) ≡ run (2 * q * 2 ^ k) (2 ^ k) → value_after (suc k) (q * 2 ^ suc k + x) ≡ run (q * 2 ^ suc k) (2 ^ suc k)
   unfolding gained
   joined_high k q x y near far mine others =
-      (λ i. merge (got k (same i)) (got k (flipped (same i) k))) ∙ (let other = ap (λ (r : ℕ). got k r) (flipped_odd q k y near) ∙ others in λ i. merge (mine i) (other i)) ∙ ap (λ (a : ℕ). merge (run a (2 ^ k)) (run (2 * q * 2 ^ k) (2 ^ k))) next ∙ merge_after (2 * q * 2 ^ k) (2 ^ k) (2 ^ k) ∙ (λ i. run (start i) (size i))
+      (λ i. merge (value_after k (same i)) (value_after k (flipped (same i) k))) ∙ (let other = ap (λ (r : ℕ). value_after k r) (flipped_odd q k y near) ∙ others in λ i. merge (mine i) (other i)) ∙ ap (λ (a : ℕ). merge (run a (2 ^ k)) (run (2 * q * 2 ^ k) (2 ^ k))) next ∙ merge_after (2 * q * 2 ^ k) (2 ^ k) (2 ^ k) ∙ (λ i. run (start i) (size i))
     where
       twice : 2 ^ suc k ≡ 2 ^ k * 2
       twice = pow-suc 2 k
@@ -144,29 +144,29 @@ module _ (m bytes : ℕ) (few : 2 ^ m ≤ rank_limit) where
       same = omega (arith, start, next, far)
 
   -- after k rounds slot 0 has a contribution of each rank that agrees in the binary digits from that of 2^k on
-  got_is : (k q x : ℕ) → x < 2 ^ k → got k (q * 2 ^ k + x) ≡ run (q * 2 ^ k) (2 ^ k)
+  value_after_rounds : (k q x : ℕ) → x < 2 ^ k → value_after k (q * 2 ^ k + x) ≡ run (q * 2 ^ k) (2 ^ k)
   unfolding gained run
-  got_is zero q x l = let e : q * 2 ^ 0 + x ≡ q * 2 ^ 0 = omega (arith, l) in ap (λ (r : ℕ). single r 0) e
-  got_is (suc k) q x l =
-      ⊎_elim (λ near. joined_low k q x near (got_is k (2 * q) x near) (got_is k (2 * q + 1) x near)) (λ far. let twice = pow-suc 2 k in let small : x - 2 ^ k < 2 ^ k = omega (arith, l, twice, far) in joined_high k q x (x - 2 ^ k) small (omega (arith, far)) (got_is k (2 * q + 1) (x - 2 ^ k) small) (got_is k (2 * q) (x - 2 ^ k) small)) (cases_lt x (2 ^ k))
+  value_after_rounds zero q x l = let e : q * 2 ^ 0 + x ≡ q * 2 ^ 0 = omega (arith, l) in ap (λ (r : ℕ). single r 0) e
+  value_after_rounds (suc k) q x l =
+      ⊎_elim (λ near. joined_low k q x near (value_after_rounds k (2 * q) x near) (value_after_rounds k (2 * q + 1) x near)) (λ far. let twice = pow-suc 2 k in let small : x - 2 ^ k < 2 ^ k = omega (arith, l, twice, far) in joined_high k q x (x - 2 ^ k) small (omega (arith, far)) (value_after_rounds k (2 * q + 1) (x - 2 ^ k) small) (value_after_rounds k (2 * q) (x - 2 ^ k) small)) (cases_lt x (2 ^ k))
 
-  all_got : (r : ℕ) → r < ranks → got n r ≡ of_each ranks 0
+  value_after_all_rounds : (r : ℕ) → r < ranks → value_after n r ≡ of_each ranks 0
   unfolding of_each
-  all_got r inside =
-      let same = rounds_are in
+  value_after_all_rounds r inside =
+      let same = rounds_are_m in
       let power = ap (λ (k : ℕ). 2 ^ k) same in
       let at : 0 * 2 ^ n + r ≡ r = omega arith in
       let start : 0 * 2 ^ n ≡ 0 = omega arith in
-      ap (λ (s : ℕ). got n s) (sym at) ∙ got_is n 0 r (omega (arith, inside, power)) ∙ (λ i. run (start i) (power i)) ∙ run_is 0 ranks
+      ap (λ (s : ℕ). value_after n s) (sym at) ∙ value_after_rounds n 0 r (omega (arith, inside, power)) ∙ (λ i. run (start i) (power i)) ∙ run_is 0 ranks
 
-  end_is : (r : ℕ) → r < ranks → wanted Allreduce ranks r 0 (got n r) ≡ true
+  wanted_at_end : (r : ℕ) → r < ranks → wanted Allreduce ranks r 0 (value_after n r) ≡ true
   unfolding wanted
-  end_is r inside =
-      subst (λ (v : Value). wanted Allreduce ranks r 0 v ≡ true) (sym (all_got r inside)) (rw (lt-ltb r ranks inside) (is_value_reflexive (of_each ranks 0)))
+  wanted_at_end r inside =
+      subst (λ (v : Value). wanted Allreduce ranks r 0 v ≡ true) (sym (value_after_all_rounds r inside)) (rw (lt-ltb r ranks inside) (is_value_reflexive (of_each ranks 0)))
 
-  elsewhere : (r k : ℕ) (v : Value) → wanted Allreduce ranks r (suc k) v ≡ true
+  nothing_wanted_elsewhere : (r k : ℕ) (v : Value) → wanted Allreduce ranks r (suc k) v ≡ true
   unfolding wanted
-  elsewhere r k v = rw (ne_eqb (suc k) 0 (λ e. omega (arith, e))) (go (nat_lt r ranks))
+  nothing_wanted_elsewhere r k v = rw (ne_eqb (suc k) 0 (λ e. omega (arith, e))) (go (nat_lt r ranks))
     where
       go : (b : Bool) → (if b then true else true) ≡ true
       go true = refl
@@ -187,9 +187,9 @@ module _ (m bytes : ℕ) (few : 2 ^ m ≤ rank_limit) where
       go true = omega arith
       go false = omega arith
 
-  first_none : (r k : ℕ) → first r (suc k) ≡ []
+  first_empty_elsewhere : (r k : ℕ) → first r (suc k) ≡ []
   unfolding initial
-  first_none r k = rw (ne_eqb (suc k) 0 (λ e. omega (arith, e))) (go (nat_lt r ranks))
+  first_empty_elsewhere r k = rw (ne_eqb (suc k) 0 (λ e. omega (arith, e))) (go (nat_lt r ranks))
     where
       go : (b : Bool) → ◌≡◌ {A = Value} (if b then [] else []) []
       go true = refl
@@ -202,16 +202,16 @@ module _ (m bytes : ℕ) (few : 2 ^ m ≤ rank_limit) where
   unfolding made allreduce_in
   allreduce_certified light =
       let least = few_rounds light in
-      subst (λ (k : ℕ). IsCertified (made Allreduce ranks bytes) (initial Allreduce k) (wanted Allreduce k)) (sym (length_plans ranks (λ r. 3 * n) (λ r i. allreduce_in bytes r i))) (rounds_are_certified ranks n bytes flipped flipped to_rank to_rank twice_is twice_is first (wanted Allreduce ranks) first_is end_is (λ r s inside. inl (λ v. elsewhere r s v)) first_few first_none light (let le = pow_le n 11 least in omega (arith, le)) least)
+      subst (λ (k : ℕ). IsCertified (made Allreduce ranks bytes) (initial Allreduce k) (wanted Allreduce k)) (sym (length_plans ranks (λ r. 3 * n) (λ r i. allreduce_in bytes r i))) (rounds_are_certified ranks n bytes flipped flipped to_rank to_rank flipped_twice_of_rank flipped_twice_of_rank first (wanted Allreduce ranks) first_is wanted_at_end (λ r s inside. inl (λ v. nothing_wanted_elsewhere r s v)) first_few first_empty_elsewhere light (let le = pow_le n 11 least in omega (arith, le)) least)
 
   -- whatever the number of ranks
   pub allreduce_right : IsRightFor Allreduce (made Allreduce ranks bytes)
   unfolding made allreduce_in
   allreduce_right =
-      subst (λ (k : ℕ). IsRightEverywhere (made Allreduce ranks bytes) (initial Allreduce k) (wanted Allreduce k)) (sym (length_plans ranks (λ r. 3 * n) (λ r i. allreduce_in bytes r i))) (rounds_right ranks n bytes flipped flipped to_rank to_rank twice_is twice_is first (wanted Allreduce ranks) first_is end_is (λ r s inside. inl (λ v. elsewhere r s v)))
+      subst (λ (k : ℕ). IsRightEverywhere (made Allreduce ranks bytes) (initial Allreduce k) (wanted Allreduce k)) (sym (length_plans ranks (λ r. 3 * n) (λ r i. allreduce_in bytes r i))) (rounds_right ranks n bytes flipped flipped to_rank to_rank flipped_twice_of_rank flipped_twice_of_rank first (wanted Allreduce ranks) first_is wanted_at_end (λ r s inside. inl (λ v. nothing_wanted_elsewhere r s v)))
 
   -- with more ranks there are more than 11 rounds, and too much is held
   pub allreduce_heavy : certified_rank_limit < ranks → IsCertifiedFor Allreduce (made Allreduce ranks bytes) → ⊥
   unfolding made allreduce_in
   allreduce_heavy many c =
-      rounds_too_heavy ranks n bytes flipped flipped to_rank to_rank twice_is twice_is first first_is many few (many_rounds ranks many few) (wanted Allreduce ranks) (subst (λ (k : ℕ). IsCertified (made Allreduce ranks bytes) (initial Allreduce k) (wanted Allreduce k)) (length_plans ranks (λ r. 3 * n) (λ r i. allreduce_in bytes r i)) c)
+      rounds_too_heavy ranks n bytes flipped flipped to_rank to_rank flipped_twice_of_rank flipped_twice_of_rank first first_is many few (many_rounds ranks many few) (wanted Allreduce ranks) (subst (λ (k : ℕ). IsCertified (made Allreduce ranks bytes) (initial Allreduce k) (wanted Allreduce k)) (length_plans ranks (λ r. 3 * n) (λ r i. allreduce_in bytes r i)) c)

@@ -52,20 +52,20 @@ module _ (ranks root bytes : ℕ) (rooted : root < ranks) (few : ranks ≤ rank_
   abbrev level : ℕ → ℕ → ℕ
   level r i = tag_of (entry r i).kind
 
-  lower : (v i k : ℕ) → v < ranks → Mem k (bcast_in ranks root bytes v i).needs → (k < bcast_count ranks v) × (tag_of (bcast_in ranks root bytes v k).kind < tag_of (bcast_in ranks root bytes v i).kind)
+  needs_are_lower : (v i k : ℕ) → v < ranks → Mem k (bcast_in ranks root bytes v i).needs → (k < bcast_count ranks v) × (tag_of (bcast_in ranks root bytes v k).kind < tag_of (bcast_in ranks root bytes v i).kind)
   unfolding bcast_in bcast_count
-  lower zero i k inside m = absurd m
-  lower (suc w) zero k inside m = absurd m
-  lower (suc w) (suc i) k inside (inr m) = absurd m
-  lower (suc w) (suc i) k inside (inl e) =
+  needs_are_lower zero i k inside m = absurd m
+  needs_are_lower (suc w) zero k inside m = absurd m
+  needs_are_lower (suc w) (suc i) k inside (inr m) = absurd m
+  needs_are_lower (suc w) (suc i) k inside (inl e) =
       subst (λ (n : ℕ). (n < bcast_count ranks (suc w)) × (tag_of (bcast_in ranks root bytes (suc w) n).kind < digits (suc w) + i)) e (omega arith, (let some = digits_some (suc w) (omega arith) (omega arith) in omega arith))
 
-  race : (v i j k : ℕ) → (i ≡ j → ⊥) → Mem k (touches (bcast_in ranks root bytes v i)) → Mem k (writes (bcast_in ranks root bytes v j)) → Precedes (bcast_in ranks root bytes v) i j ⊎ Precedes (bcast_in ranks root bytes v) j i
+  conflicts_are_ordered : (v i j k : ℕ) → (i ≡ j → ⊥) → Mem k (touches (bcast_in ranks root bytes v i)) → Mem k (writes (bcast_in ranks root bytes v j)) → Precedes (bcast_in ranks root bytes v) i j ⊎ Precedes (bcast_in ranks root bytes v) j i
   unfolding bcast_in
-  race zero i j k differ t w = absurd w
-  race (suc v) zero zero k differ t w = absurd (differ refl)
-  race (suc v) (suc i) zero k differ t w = inr (now (inl refl))
-  race (suc v) i (suc j) k differ t w = absurd w
+  conflicts_are_ordered zero i j k differ t w = absurd w
+  conflicts_are_ordered (suc v) zero zero k differ t w = absurd (differ refl)
+  conflicts_are_ordered (suc v) (suc i) zero k differ t w = inr (now (inl refl))
+  conflicts_are_ordered (suc v) i (suc j) k differ t w = absurd w
 
   first_at_root : (r : ℕ) → r < ranks → back ranks r root ≡ 0 → first r 0 ≡ single root 0
   unfolding initial
@@ -105,33 +105,33 @@ module _ (ranks root bytes : ℕ) (rooted : root < ranks) (few : ranks ≤ rank_
   later_slot : (k : ℕ) → (suc k == 0) ≡ false
   later_slot k = ne_eqb (suc k) 0 (λ e. omega (arith, e))
 
-  at_end : (r : ℕ) → r < ranks → wanted (Bcast root) ranks r 0 (single root 0) ≡ true
+  wanted_at_end : (r : ℕ) → r < ranks → wanted (Bcast root) ranks r 0 (single root 0) ≡ true
   unfolding wanted is_value
-  at_end r inside = rw (lt-ltb r ranks inside, eq-eqb root root refl) refl
+  wanted_at_end r inside = rw (lt-ltb r ranks inside, eq-eqb root root refl) refl
 
-  elsewhere : (r k : ℕ) (v : Value) → wanted (Bcast root) ranks r (suc k) v ≡ true
+  nothing_wanted_elsewhere : (r k : ℕ) (v : Value) → wanted (Bcast root) ranks r (suc k) v ≡ true
   unfolding wanted
-  elsewhere r k v = rw (later_slot k) (go (nat_lt r ranks))
+  nothing_wanted_elsewhere r k v = rw (later_slot k) (go (nat_lt r ranks))
     where
       go : (b : Bool) → (if b then true else true) ≡ true
       go true = refl
       go false = refl
 
-  source : (r i k v : ℕ) → r < ranks → back ranks r root ≡ v → i < bcast_count ranks v → ((room : ℕ) (from t : Option ℕ) → (bcast_in ranks root bytes v i).kind ≡ Recv room from t → ⊥) → 0 ≡ k → Mem k (touches (bcast_in ranks root bytes v i)) → ((first r k ≡ root_value r i k) × ((j : ℕ) → j < bcast_count ranks v → Mem k (writes (bcast_in ranks root bytes v j)) → (j ≡ i) ⊎ Precedes (bcast_in ranks root bytes v) i j)) ⊎ ((j : ℕ) × (j < bcast_count ranks v) × Mem k (writes (bcast_in ranks root bytes v j)) × Precedes (bcast_in ranks root bytes v) j i × (root_value r j k ≡ root_value r i k) × ((l : ℕ) → l < bcast_count ranks v → Mem k (writes (bcast_in ranks root bytes v l)) → ((l ≡ i) ⊎ (l ≡ j)) ⊎ (Precedes (bcast_in ranks root bytes v) l j ⊎ Precedes (bcast_in ranks root bytes v) i l)))
+  touched_has_origin : (r i k v : ℕ) → r < ranks → back ranks r root ≡ v → i < bcast_count ranks v → ((room : ℕ) (from t : Option ℕ) → (bcast_in ranks root bytes v i).kind ≡ Recv room from t → ⊥) → 0 ≡ k → Mem k (touches (bcast_in ranks root bytes v i)) → ((first r k ≡ root_value r i k) × ((j : ℕ) → j < bcast_count ranks v → Mem k (writes (bcast_in ranks root bytes v j)) → (j ≡ i) ⊎ Precedes (bcast_in ranks root bytes v) i j)) ⊎ ((j : ℕ) × (j < bcast_count ranks v) × Mem k (writes (bcast_in ranks root bytes v j)) × Precedes (bcast_in ranks root bytes v) j i × (root_value r j k ≡ root_value r i k) × ((l : ℕ) → l < bcast_count ranks v → Mem k (writes (bcast_in ranks root bytes v l)) → ((l ≡ i) ⊎ (l ≡ j)) ⊎ (Precedes (bcast_in ranks root bytes v) l j ⊎ Precedes (bcast_in ranks root bytes v) i l)))
   unfolding bcast_in
-  source r i k zero inside e there not_receive z t =
+  touched_has_origin r i k zero inside e there not_receive z t =
       inl (subst (λ (n : ℕ). first r n ≡ single root 0) z (first_at_root r inside e), λ j l w. absurd (writes_none zero j k refl w))
-  source r zero k (suc w) inside e there not_receive z t = absurd (not_receive _ _ _ refl)
-  source r (suc i) k (suc w) inside e there not_receive z t =
+  touched_has_origin r zero k (suc w) inside e there not_receive z t = absurd (not_receive _ _ _ refl)
+  touched_has_origin r (suc i) k (suc w) inside e there not_receive z t =
       inr (0, omega (arith, there), subst (λ (n : ℕ). Mem n (writes (bcast_in ranks root bytes (suc w) 0))) z (first_writes w), now (inl refl), refl, λ l m u. inl (inr (writes_first w l k u).0))
 
-  final : (r k v : ℕ) → r < ranks → back ranks r root ≡ v → ((u : Value) → wanted (Bcast root) ranks r k u ≡ true) ⊎ ((((j : ℕ) → j < bcast_count ranks v → Mem k (writes (bcast_in ranks root bytes v j)) → ⊥) × (wanted (Bcast root) ranks r k (first r k) ≡ true)) ⊎ ((j : ℕ) × (j < bcast_count ranks v) × Mem k (writes (bcast_in ranks root bytes v j)) × ((l : ℕ) → l < bcast_count ranks v → Mem k (writes (bcast_in ranks root bytes v l)) → (l ≡ j) ⊎ Precedes (bcast_in ranks root bytes v) l j) × (wanted (Bcast root) ranks r k (root_value r j k) ≡ true)))
+  slots_end_as_wanted : (r k v : ℕ) → r < ranks → back ranks r root ≡ v → ((u : Value) → wanted (Bcast root) ranks r k u ≡ true) ⊎ ((((j : ℕ) → j < bcast_count ranks v → Mem k (writes (bcast_in ranks root bytes v j)) → ⊥) × (wanted (Bcast root) ranks r k (first r k) ≡ true)) ⊎ ((j : ℕ) × (j < bcast_count ranks v) × Mem k (writes (bcast_in ranks root bytes v j)) × ((l : ℕ) → l < bcast_count ranks v → Mem k (writes (bcast_in ranks root bytes v l)) → (l ≡ j) ⊎ Precedes (bcast_in ranks root bytes v) l j) × (wanted (Bcast root) ranks r k (root_value r j k) ≡ true)))
   unfolding bcast_count
-  final r (suc k) v inside e = inl (λ u. elsewhere r k u)
-  final r zero zero inside e =
-      inr (inl (λ j l w. writes_none zero j 0 refl w, subst (λ (u : Value). wanted (Bcast root) ranks r 0 u ≡ true) (sym (first_at_root r inside e)) (at_end r inside)))
-  final r zero (suc w) inside e =
-      inr (inr (0, omega arith, first_writes w, λ l m u. inl (writes_first w l 0 u).0, at_end r inside))
+  slots_end_as_wanted r (suc k) v inside e = inl (λ u. nothing_wanted_elsewhere r k u)
+  slots_end_as_wanted r zero zero inside e =
+      inr (inl (λ j l w. writes_none zero j 0 refl w, subst (λ (u : Value). wanted (Bcast root) ranks r 0 u ≡ true) (sym (first_at_root r inside e)) (wanted_at_end r inside)))
+  slots_end_as_wanted r zero (suc w) inside e =
+      inr (inr (0, omega arith, first_writes w, λ l m u. inl (writes_first w l 0 u).0, wanted_at_end r inside))
 
   no_calc : (v i nanos : ℕ) → (bcast_in ranks root bytes v i).kind ≡ Calc nanos → ⊥
   unfolding bcast_in
@@ -142,13 +142,13 @@ module _ (ranks root bytes : ℕ) (rooted : root < ranks) (few : ranks ≤ rank_
   blueprint : IsBlueprint ranks count entry first (wanted (Bcast root) ranks) root_value root_value (TreeHop ranks root bytes rooted few) bytes (tree_send ranks root bytes rooted few) (tree_recv ranks root bytes rooted few) (λ h. h.round) level
   blueprint = record {
     messages = tree_messages ranks root bytes rooted few;
-    lower = λ r i k there m. lower (back ranks r root) i k (back_below ranks r root there.0) m;
+    lower = λ r i k there m. needs_are_lower (back ranks r root) i k (back_below ranks r root there.0) m;
     same_level = λ h. ap tag_of ((tree_messages ranks root bytes rooted few).sent h) ∙ sym (ap tag_of ((tree_messages ranks root bytes rooted few).received h));
-    race = λ r i j k inside l m differ t w. race (back ranks r root) i j k differ t w;
-    source = λ r i k there not_receive t. source r i k (back ranks r root) there.0 refl there.1 not_receive (touches_zero (back ranks r root) i k t) t;
+    race = λ r i j k inside l m differ t w. conflicts_are_ordered (back ranks r root) i j k differ t w;
+    source = λ r i k there not_receive t. touched_has_origin r i k (back ranks r root) there.0 refl there.1 not_receive (touches_zero (back ranks r root) i k t) t;
     summed = λ r i nanos there k. absurd (no_calc (back ranks r root) i nanos k);
     kept = λ h. ap (λ (ks : List ℕ). map (λ (k : ℕ). single root 0) ks) (moved_one (back ranks (tree_send ranks root bytes rooted few h).rank root) (tree_send ranks root bytes rooted few h).op ∙ sym (moved_one (back ranks (tree_recv ranks root bytes rooted few h).rank root) (tree_recv ranks root bytes rooted few h).op));
-    final = λ r k inside. final r k (back ranks r root) inside refl;
+    final = λ r k inside. slots_end_as_wanted r k (back ranks r root) inside refl;
   }
 
   -- a contribution in slot 0 of each rank
@@ -190,9 +190,9 @@ module _ (ranks root bytes : ℕ) (rooted : root < ranks) (few : ranks ≤ rank_
   abbrev load : ℕ → ℕ → ℕ
   load r i = 1
 
-  bounded : bytes ≤ MAX_BYTES → IsBounded ranks count entry first (wanted (Bcast root) ranks) root_value root_value (TreeHop ranks root bytes rooted few) (tree_send ranks root bytes rooted few) cap load
+  blueprint_is_bounded : bytes ≤ MAX_BYTES → IsBounded ranks count entry first (wanted (Bcast root) ranks) root_value root_value (TreeHop ranks root bytes rooted few) (tree_send ranks root bytes rooted few) cap load
   unfolding cap
-  bounded size = record {
+  blueprint_is_bounded size = record {
     first_cap = first_cap;
     leaves_cap = λ r i k there w. subst (λ (n : ℕ). 1 ≤ cap r n) (writes_zero (back ranks r root) i k w) (omega arith);
     finds_load = λ h. subst (λ (ks : List ℕ). sum_by (λ (v : Value). length v) (map (λ (k : ℕ). single root 0) ks) ≤ 1) (sym (moved_one (back ranks (tree_send ranks root bytes rooted few h).rank root) (tree_send ranks root bytes rooted few h).op)) (omega arith);
@@ -212,18 +212,18 @@ module _ (ranks root bytes : ℕ) (rooted : root < ranks) (few : ranks ≤ rank_
   low_notes (suc v) zero n = All_one NamesLowSlots (Moves n 0 0) (omega arith, omega arith)
   low_notes (suc v) (suc i) n = All_one NamesLowSlots (Moves n 0 0) (omega arith, omega arith)
 
-  one_move : (v i n : ℕ) → sum_by moved_count (notes_of n (bcast_in ranks root bytes v i)) ≤ 1
+  at_most_one_moved : (v i n : ℕ) → sum_by moved_count (notes_of n (bcast_in ranks root bytes v i)) ≤ 1
   unfolding bcast_in
-  one_move zero i n = omega arith
-  one_move (suc v) zero n = omega arith
-  one_move (suc v) (suc i) n = omega arith
+  at_most_one_moved zero i n = omega arith
+  at_most_one_moved (suc v) zero n = omega arith
+  at_most_one_moved (suc v) (suc i) n = omega arith
 
-  small : bytes ≤ MAX_BYTES → IsSmall (made (Bcast root) ranks bytes)
+  made_is_small : bytes ≤ MAX_BYTES → IsSmall (made (Bcast root) ranks bytes)
   unfolding made
-  small size =
-      entries_small ranks count entry 1 (λ r l. let few_here = bcast_few ranks bytes size root rooted few (back ranks r root) (back_below ranks r root l) in omega (arith, few_here)) (λ r i l m. low_notes (back ranks r root) i i) (λ r i l m. one_move (back ranks r root) i i) (let ops = (bcast_fits ranks bytes size root rooted few).few_ops in omega (arith, ops))
+  made_is_small size =
+      entries_small ranks count entry 1 (λ r l. let few_here = bcast_few ranks bytes size root rooted few (back ranks r root) (back_below ranks r root l) in omega (arith, few_here)) (λ r i l m. low_notes (back ranks r root) i i) (λ r i l m. at_most_one_moved (back ranks r root) i i) (let ops = (bcast_fits ranks bytes size root rooted few).few_ops in omega (arith, ops))
 
   pub bcast_certified : bytes ≤ MAX_BYTES → IsCertifiedFor (Bcast root) (made (Bcast root) ranks bytes)
   unfolding made
   bcast_certified size =
-      subst (λ (n : ℕ). IsCertified (made (Bcast root) ranks bytes) (initial (Bcast root) n) (wanted (Bcast root) n)) (sym (length_plans ranks count entry)) (blueprint_certified ranks count entry first (wanted (Bcast root) ranks) root_value root_value (TreeHop ranks root bytes rooted few) bytes (tree_send ranks root bytes rooted few) (tree_recv ranks root bytes rooted few) (λ h. h.round) level blueprint cap load (bounded size) (small size))
+      subst (λ (n : ℕ). IsCertified (made (Bcast root) ranks bytes) (initial (Bcast root) n) (wanted (Bcast root) n)) (sym (length_plans ranks count entry)) (blueprint_certified ranks count entry first (wanted (Bcast root) ranks) root_value root_value (TreeHop ranks root bytes rooted few) bytes (tree_send ranks root bytes rooted few) (tree_recv ranks root bytes rooted few) (λ h. h.round) level blueprint cap load (blueprint_is_bounded size) (made_is_small size))

@@ -15,7 +15,7 @@ pub use Rattle.goal_blocks.proofs.Channels.{fits_channel, channel_fits, channels
 pub use Rattle.goal_blocks.proofs.Walk.{IsTail, whole, newer, one_tail, complete_tail, one_walk}
 pub use Rattle.goal_blocks.proofs.Faults.{heavy_not}
 pub use Rattle.goal_blocks.proofs.SomeWalk.{IsFirst, takes_first, nothing_left, some_walk}
-pub use Rattle.goal_blocks.proofs.MadeCertified.{made_certified, made_right, all_made_right}
+pub use Rattle.goal_blocks.proofs.MadeCertified.{made_certified, made_right, made_right_at_any_weight}
 pub use Rattle.goal_blocks.proofs.Sorted.{length_merge, sorted_merge, merge_none, lower_still, not_lower_still, not_lower_is_equal, all_from}
 pub use Rattle.goal_blocks.proofs.SlotSums.{stored_most, stored_set}
 pub use Rattle.goal_blocks.proofs.Exchange.{first_initial, first_wanted, none_exchanged, stored_exchanged, exchange_twice}

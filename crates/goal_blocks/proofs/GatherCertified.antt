@@ -32,59 +32,59 @@ use Rattle.goal_blocks.proofs.BcastCertified.{tag_of}
 use Rattle.goal_blocks.proofs.Blueprint.{moved, touches, writes, Precedes, now, Origin, Final, IsBlueprint, blueprint_certified}
 
 module _ (ranks root bytes : ℕ) (rooted : root < ranks) (few : ranks ≤ rank_limit) where
-  abbrev each : ℕ → ℕ → Entry
-  each v i = gather_in ranks root bytes v i
+  abbrev entry_in : ℕ → ℕ → Entry
+  entry_in v i = gather_in ranks root bytes v i
 
-  abbrev many : ℕ → ℕ
-  many v = rounds ranks v + upward v
+  abbrev count_in : ℕ → ℕ
+  count_in v = rounds ranks v + upward v
 
   abbrev count : ℕ → ℕ
-  count r = many (back ranks r root)
+  count r = count_in (back ranks r root)
 
   abbrev entry : ℕ → ℕ → Entry
-  entry r i = each (back ranks r root) i
+  entry r i = entry_in (back ranks r root) i
 
   abbrev first : Store
   first = initial (Gather root) ranks
 
   -- a slot that is touched holds the item of its rank
-  abbrev own : ℕ → ℕ → ℕ → Value
-  own r i k = single k 0
+  abbrev item_of_slot : ℕ → ℕ → ℕ → Value
+  item_of_slot r i k = single k 0
 
   abbrev level : ℕ → ℕ → ℕ
   level r i = tag_of (entry r i).kind
 
-  hears : (v i : ℕ) → i < rounds ranks v → each v i ≡ receiving bytes (ahead ranks (v + 2 ^ i) root) i (share ranks root (v + 2 ^ i) (2 ^ i))
-  hears v i lt = sym (gather_hears ranks root bytes v i lt)
+  entry_receives : (v i : ℕ) → i < rounds ranks v → entry_in v i ≡ receiving bytes (ahead ranks (v + 2 ^ i) root) i (share ranks root (v + 2 ^ i) (2 ^ i))
+  entry_receives v i lt = sym (gather_hears ranks root bytes v i lt)
 
-  gives : (v i : ℕ) → rounds ranks v ≤ i → each v i ≡ sending bytes (parent ranks root v) (low v) (range_with_len 0 (rounds ranks v)) (share ranks root v (2 ^ low v))
-  gives v i le = sym (gather_sends ranks root bytes v i le)
+  entry_sends : (v i : ℕ) → rounds ranks v ≤ i → entry_in v i ≡ sending bytes (parent ranks root v) (low v) (range_with_len 0 (rounds ranks v)) (share ranks root v (2 ^ low v))
+  entry_sends v i le = sym (gather_sends ranks root bytes v i le)
 
   -- what is no receive is the send of a virtual rank above 0
   record IsGiving (v i : ℕ) : Type 0 where
     some : 0 < v
     last : rounds ranks v ≡ i
 
-  giving : (v i : ℕ) → i < many v → rounds ranks v ≤ i → IsGiving v i
-  giving zero i lt le = absurd (omega (arith, lt, le))
-  giving (suc w) i lt le =
+  late_entry_is_giving : (v i : ℕ) → i < count_in v → rounds ranks v ≤ i → IsGiving v i
+  late_entry_is_giving zero i lt le = absurd (omega (arith, lt, le))
+  late_entry_is_giving (suc w) i lt le =
       let one = upward_few (suc w) in record { some = omega arith; last = omega (arith, lt, le, one) }
 
-  ends : AreTreeEnds ranks root bytes rooted few many each (rounds ranks) (λ v j. j)
-  ends = record {
+  tree_ends : AreTreeEnds ranks root bytes rooted few count_in entry_in (rounds ranks) (λ v j. j)
+  tree_ends = record {
     up_there = λ v some inside. let one = upward_some v some in omega (arith, one);
     down_there = λ v j inside lt. omega (arith, lt);
-    each = λ v i inside there. ⊎_elim (λ lt. inr (inr (i, lt, refl))) (λ ge. let is = giving v i there ge in inr (inl (is.some, is.last))) (cases_lt i (rounds ranks v));
+    each = λ v i inside there. ⊎_elim (λ lt. inr (inr (i, lt, refl))) (λ ge. let is = late_entry_is_giving v i there ge in inr (inl (is.some, is.last))) (cases_lt i (rounds ranks v));
   }
 
   abbrev give_end : TreeEdge ranks → OpId
-  give_end = child_end ranks root bytes rooted few many each (rounds ranks) (λ v j. j)
+  give_end = child_end ranks root bytes rooted few count_in entry_in (rounds ranks) (λ v j. j)
 
   abbrev hear_end : TreeEdge ranks → OpId
-  hear_end = parent_end ranks root bytes rooted few many each (rounds ranks) (λ v j. j)
+  hear_end = parent_end ranks root bytes rooted few count_in entry_in (rounds ranks) (λ v j. j)
 
-  messages : AreMessages ranks count entry (TreeEdge ranks) bytes give_end hear_end (λ m. low m.child)
-  messages = up_messages ranks root bytes rooted few many each (rounds ranks) (λ v j. j) ends (λ v some inside. ap (λ (x : Entry). x.kind) (gives v (rounds ranks v) (omega arith))) (λ v j inside lt. ap (λ (x : Entry). x.kind) (hears v j lt))
+  tree_messages : AreMessages ranks count entry (TreeEdge ranks) bytes give_end hear_end (λ m. low m.child)
+  tree_messages = up_messages ranks root bytes rooted few count_in entry_in (rounds ranks) (λ v j. j) tree_ends (λ v some inside. ap (λ (x : Entry). x.kind) (entry_sends v (rounds ranks v) (omega arith))) (λ v j inside lt. ap (λ (x : Entry). x.kind) (entry_receives v j lt))
 
   in_range : (a n k : ℕ) → Mem k (range_with_len a n) → k < a + n
   in_range a zero k m = absurd m
@@ -96,13 +96,13 @@ module _ (ranks root bytes : ℕ) (rooted : root < ranks) (few : ranks ≤ rank_
   range_has a (suc n) k le lt =
       ⊎_elim (λ l. inr (range_has (a + 1) n k (omega (arith, l)) (omega (arith, lt)))) (λ ge. inl (omega (arith, le, ge))) (cases_lt a k)
 
-  lower : (v i k : ℕ) → i < many v → Mem k (each v i).needs → (k < many v) × (tag_of (each v k).kind < tag_of (each v i).kind)
-  lower v i k there m = ⊎_elim (λ lt. absurd (subst (λ (x : Entry). Mem k x.needs) (hears v i lt) m)) (λ ge. go ge (in_range 0 (rounds ranks v) k (subst (λ (x : Entry). Mem k x.needs) (gives v i ge) m))) (cases_lt i (rounds ranks v))
+  needs_are_lower : (v i k : ℕ) → i < count_in v → Mem k (entry_in v i).needs → (k < count_in v) × (tag_of (entry_in v k).kind < tag_of (entry_in v i).kind)
+  needs_are_lower v i k there m = ⊎_elim (λ lt. absurd (subst (λ (x : Entry). Mem k x.needs) (entry_receives v i lt) m)) (λ ge. go ge (in_range 0 (rounds ranks v) k (subst (λ (x : Entry). Mem k x.needs) (entry_sends v i ge) m))) (cases_lt i (rounds ranks v))
     where
-      go : rounds ranks v ≤ i → k < 0 + rounds ranks v → (k < many v) × (tag_of (each v k).kind < tag_of (each v i).kind)
+      go : rounds ranks v ≤ i → k < 0 + rounds ranks v → (k < count_in v) × (tag_of (entry_in v k).kind < tag_of (entry_in v i).kind)
       go ge lt =
-          let a = ap (λ (x : Entry). tag_of x.kind) (hears v k (omega (arith, lt))) in
-          let b = ap (λ (x : Entry). tag_of x.kind) (gives v i ge) in
+          let a = ap (λ (x : Entry). tag_of x.kind) (entry_receives v k (omega (arith, lt))) in
+          let b = ap (λ (x : Entry). tag_of x.kind) (entry_sends v i ge) in
           let most = rounds_low ranks few v in
           (omega (arith, lt), omega (arith, a, b, most, lt))
 
@@ -112,18 +112,18 @@ module _ (ranks root bytes : ℕ) (rooted : root < ranks) (few : ranks ≤ rank_
     slot : k < ranks
     round : IsInRound ranks v (back ranks k root) j
 
-  writes_round : (v j k : ℕ) → v < ranks → Mem k (writes (each v j)) → IsWritten v j k
-  writes_round v j k inside w = ⊎_elim (λ lt. go lt (share_in ranks root (v + 2 ^ j) (2 ^ j) rooted (child_below ranks few v j inside lt) (pow_pos j) k (subst (λ (x : Entry). Mem k (writes x)) (hears v j lt) w))) (λ ge. absurd (subst (λ (x : Entry). Mem k (writes x)) (gives v j ge) w)) (cases_lt j (rounds ranks v))
+  writes_round : (v j k : ℕ) → v < ranks → Mem k (writes (entry_in v j)) → IsWritten v j k
+  writes_round v j k inside w = ⊎_elim (λ lt. go lt (share_in ranks root (v + 2 ^ j) (2 ^ j) rooted (child_below ranks few v j inside lt) (pow_pos j) k (subst (λ (x : Entry). Mem k (writes x)) (entry_receives v j lt) w))) (λ ge. absurd (subst (λ (x : Entry). Mem k (writes x)) (entry_sends v j ge) w)) (cases_lt j (rounds ranks v))
     where
       go : j < rounds ranks v → IsInShare ranks root (v + 2 ^ j) (2 ^ j) k → IsWritten v j k
       go lt is = record { slot = is.slot; round = record { round = lt; from = is.from; before = is.before } }
 
-  round_writes : (v j k : ℕ) → v < ranks → k < ranks → IsInRound ranks v (back ranks k root) j → Mem k (writes (each v j))
+  round_writes : (v j k : ℕ) → v < ranks → k < ranks → IsInRound ranks v (back ranks k root) j → Mem k (writes (entry_in v j))
   round_writes v j k inside slot is =
-      subst (λ (x : Entry). Mem k (writes x)) (sym (hears v j is.round)) (in_share ranks root (v + 2 ^ j) (2 ^ j) rooted (child_below ranks few v j inside is.round) (pow_pos j) k slot is.from is.before)
+      subst (λ (x : Entry). Mem k (writes x)) (sym (entry_receives v j is.round)) (in_share ranks root (v + 2 ^ j) (2 ^ j) rooted (child_below ranks few v j inside is.round) (pow_pos j) k slot is.from is.before)
 
-  race : (v i j k : ℕ) → v < ranks → (i ≡ j → ⊥) → Mem k (touches (each v i)) → Mem k (writes (each v j)) → Precedes (each v) i j ⊎ Precedes (each v) j i
-  race v i j k inside differ t w = ⊎_elim (λ lt. absurd (differ (one_round ranks few v (back ranks k root) i j (heard lt) by_j.round))) (λ ge. inr (now (subst (λ (x : Entry). Mem j x.needs) (sym (gives v i ge)) (range_has 0 (rounds ranks v) j (omega arith) (let lt = by_j.round.round in omega (arith, lt)))))) (cases_lt i (rounds ranks v))
+  conflicts_are_ordered : (v i j k : ℕ) → v < ranks → (i ≡ j → ⊥) → Mem k (touches (entry_in v i)) → Mem k (writes (entry_in v j)) → Precedes (entry_in v) i j ⊎ Precedes (entry_in v) j i
+  conflicts_are_ordered v i j k inside differ t w = ⊎_elim (λ lt. absurd (differ (one_round ranks few v (back ranks k root) i j (heard lt) by_j.round))) (λ ge. inr (now (subst (λ (x : Entry). Mem j x.needs) (sym (entry_sends v i ge)) (range_has 0 (rounds ranks v) j (omega arith) (let lt = by_j.round.round in omega (arith, lt)))))) (cases_lt i (rounds ranks v))
     where
       by_j : IsWritten v j k
       by_j = writes_round v j k inside w
@@ -131,7 +131,7 @@ module _ (ranks root bytes : ℕ) (rooted : root < ranks) (few : ranks ≤ rank_
       -- a receive touches what it writes
       heard : i < rounds ranks v → IsInRound ranks v (back ranks k root) i
       heard lt =
-          (writes_round v i k inside (subst (λ (x : Entry). Mem k (writes x)) (sym (hears v i lt)) (subst (λ (x : Entry). Mem k (touches x)) (hears v i lt) t))).round
+          (writes_round v i k inside (subst (λ (x : Entry). Mem k (writes x)) (sym (entry_receives v i lt)) (subst (λ (x : Entry). Mem k (touches x)) (entry_receives v i lt) t))).round
 
   first_own : (r k : ℕ) → r < ranks → k ≡ r → first r k ≡ single k 0
   unfolding initial
@@ -139,11 +139,11 @@ module _ (ranks root bytes : ℕ) (rooted : root < ranks) (few : ranks ≤ rank_
       rw (lt-ltb r ranks inside, eq-eqb k r e) (ap (λ (q : ℕ). single q 0) (sym e))
 
   abbrev Traced : ℕ → ℕ → ℕ → Type 0
-  Traced r i k = Origin ranks count entry first (wanted (Gather root) ranks) own own r i k
+  Traced r i k = Origin ranks count entry first (wanted (Gather root) ranks) item_of_slot item_of_slot r i k
 
-  source : (r i k : ℕ) → r < ranks → i < count r → ((room : ℕ) (from t : Option ℕ) → (entry r i).kind ≡ Recv room from t → ⊥) → Mem k (touches (entry r i)) → Traced r i k
-  source r i k inside there not_receive t =
-      ⊎_elim (λ lt. absurd (not_receive _ _ _ (ap (λ (x : Entry). x.kind) (hears (back ranks r root) i lt)))) (λ ge. given ge (share_in ranks root (back ranks r root) (2 ^ low (back ranks r root)) rooted low_rank (pow_pos (low (back ranks r root))) k (subst (λ (x : Entry). Mem k (touches x)) (gives (back ranks r root) i ge) t))) (cases_lt i (rounds ranks (back ranks r root)))
+  touched_has_origin : (r i k : ℕ) → r < ranks → i < count r → ((room : ℕ) (from t : Option ℕ) → (entry r i).kind ≡ Recv room from t → ⊥) → Mem k (touches (entry r i)) → Traced r i k
+  touched_has_origin r i k inside there not_receive t =
+      ⊎_elim (λ lt. absurd (not_receive _ _ _ (ap (λ (x : Entry). x.kind) (entry_receives (back ranks r root) i lt)))) (λ ge. given ge (share_in ranks root (back ranks r root) (2 ^ low (back ranks r root)) rooted low_rank (pow_pos (low (back ranks r root))) k (subst (λ (x : Entry). Mem k (touches x)) (entry_sends (back ranks r root) i ge) t))) (cases_lt i (rounds ranks (back ranks r root)))
     where
       low_rank : back ranks r root < ranks
       low_rank = back_below ranks r root inside
@@ -152,13 +152,13 @@ module _ (ranks root bytes : ℕ) (rooted : root < ranks) (few : ranks ≤ rank_
       given ge is = ⊎_elim (λ lt. heard ge is (round_of ranks few (back ranks r root) (back ranks k root) lt (back_below ranks k root is.slot) is.before)) (λ le. inl (first_own r k inside (back_same ranks r k root inside is.slot rooted (let from = is.from in omega (arith, le, from))), λ j l w. absurd (let above_v = (writes_round (back ranks r root) j k low_rank w).round.from in let some = pow_pos j in omega (arith, above_v, some, le)))) (cases_lt (back ranks r root) (back ranks k root))
         where
           heard : rounds ranks (back ranks r root) ≤ i → IsInShare ranks root (back ranks r root) (2 ^ low (back ranks r root)) k → (j : ℕ) × IsInRound ranks (back ranks r root) (back ranks k root) j → Traced r i k
-          heard ge is (j, at) = inr (j, (let lt = at.round in omega (arith, lt)), round_writes (back ranks r root) j k low_rank is.slot at, now (subst (λ (x : Entry). Mem j x.needs) (sym (gives (back ranks r root) i ge)) (range_has 0 (rounds ranks (back ranks r root)) j (omega arith) (let lt = at.round in omega (arith, lt)))), refl, λ l m w. inl (inr (one_round ranks few (back ranks r root) (back ranks k root) l j (writes_round (back ranks r root) l k low_rank w).round at)))
+          heard ge is (j, at) = inr (j, (let lt = at.round in omega (arith, lt)), round_writes (back ranks r root) j k low_rank is.slot at, now (subst (λ (x : Entry). Mem j x.needs) (sym (entry_sends (back ranks r root) i ge)) (range_has 0 (rounds ranks (back ranks r root)) j (omega arith) (let lt = at.round in omega (arith, lt)))), refl, λ l m w. inl (inr (one_round ranks few (back ranks r root) (back ranks k root) l j (writes_round (back ranks r root) l k low_rank w).round at)))
 
   -- the end: the root has each slot, and of the others nothing is wanted
 
-  elsewhere : (r k : ℕ) (u : Value) → (r ≡ root → ⊥) ⊎ (ranks ≤ k) → wanted (Gather root) ranks r k u ≡ true
+  nothing_wanted_elsewhere : (r k : ℕ) (u : Value) → (r ≡ root → ⊥) ⊎ (ranks ≤ k) → wanted (Gather root) ranks r k u ≡ true
   unfolding wanted
-  elsewhere r k u out = go (nat_lt r ranks) (nat_lt k ranks) refl (nat_lt root ranks) (lt-ltb root ranks rooted) (r == root) refl
+  nothing_wanted_elsewhere r k u out = go (nat_lt r ranks) (nat_lt k ranks) refl (nat_lt root ranks) (lt-ltb root ranks rooted) (r == root) refl
     where
       go : (a b : Bool) → nat_lt k ranks ≡ b → (c : Bool) → c ≡ true → (d : Bool) → (r == root) ≡ d → (if a then (if b then (if c then (if d then is_value u (single k 0) else true) else (if (r == 0) && (k == 0) then is_value u (single root 0) else true)) else true) else true) ≡ true
       go true true e true t true f = absurd (⊎_elim (λ other. other (eqb-true r root f)) (λ past. let lt = ltb-true k ranks e in omega (arith, past, lt)) out)
@@ -167,16 +167,16 @@ module _ (ranks root bytes : ℕ) (rooted : root < ranks) (few : ranks ≤ rank_
       go true false e c t d f = refl
       go false b e c t d f = refl
 
-  at_root : (r k : ℕ) → r < ranks → k < ranks → r ≡ root → wanted (Gather root) ranks r k (single k 0) ≡ true
+  wanted_at_root : (r k : ℕ) → r < ranks → k < ranks → r ≡ root → wanted (Gather root) ranks r k (single k 0) ≡ true
   unfolding wanted is_value
-  at_root r k inside slot e =
+  wanted_at_root r k inside slot e =
       rw (lt-ltb r ranks inside, lt-ltb k ranks slot, lt-ltb root ranks rooted, eq-eqb r root e, eq-eqb k k refl) refl
 
   abbrev Ended : ℕ → ℕ → Type 0
-  Ended r k = Final ranks count entry first (wanted (Gather root) ranks) own own r k
+  Ended r k = Final ranks count entry first (wanted (Gather root) ranks) item_of_slot item_of_slot r k
 
   final_root : (k : ℕ) → k < ranks → Ended root k
-  final_root k slot = ⊎_elim (λ some. heard (round_of ranks few (back ranks root root) (back ranks k root) (omega (arith, some, none)) (back_below ranks k root slot) (let high = back_below ranks k root slot in let top : low (back ranks root root) ≡ 32 = ap low (root_virtual ranks root) ∙ low_zero in subst (λ (n : ℕ). back ranks k root < back ranks root root + 2 ^ n) (sym top) (omega (arith, high, few))))) (λ zero. inr (inl (λ j l w. absurd (let from = (writes_round (back ranks root root) j k low_root w).round.from in let some = pow_pos j in omega (arith, from, some, zero)), subst (λ (u : Value). wanted (Gather root) ranks root k u ≡ true) (sym (first_own root k rooted (back_same ranks root k root rooted slot rooted (omega (arith, zero, none))))) (at_root root k rooted slot refl)))) (cases_lt 0 (back ranks k root))
+  final_root k slot = ⊎_elim (λ some. heard (round_of ranks few (back ranks root root) (back ranks k root) (omega (arith, some, none)) (back_below ranks k root slot) (let high = back_below ranks k root slot in let top : low (back ranks root root) ≡ 32 = ap low (root_virtual ranks root) ∙ low_zero in subst (λ (n : ℕ). back ranks k root < back ranks root root + 2 ^ n) (sym top) (omega (arith, high, few))))) (λ zero. inr (inl (λ j l w. absurd (let from = (writes_round (back ranks root root) j k low_root w).round.from in let some = pow_pos j in omega (arith, from, some, zero)), subst (λ (u : Value). wanted (Gather root) ranks root k u ≡ true) (sym (first_own root k rooted (back_same ranks root k root rooted slot rooted (omega (arith, zero, none))))) (wanted_at_root root k rooted slot refl)))) (cases_lt 0 (back ranks k root))
     where
       none : back ranks root root ≡ 0
       none = root_virtual ranks root
@@ -185,48 +185,48 @@ module _ (ranks root bytes : ℕ) (rooted : root < ranks) (few : ranks ≤ rank_
       low_root = back_below ranks root root rooted
 
       heard : (j : ℕ) × IsInRound ranks (back ranks root root) (back ranks k root) j → Ended root k
-      heard (j, at) = inr (inr (j, (let lt = at.round in omega (arith, lt)), round_writes (back ranks root root) j k low_root slot at, λ l m w. inl (one_round ranks few (back ranks root root) (back ranks k root) l j (writes_round (back ranks root root) l k low_root w).round at), at_root root k rooted slot refl))
+      heard (j, at) = inr (inr (j, (let lt = at.round in omega (arith, lt)), round_writes (back ranks root root) j k low_root slot at, λ l m w. inl (one_round ranks few (back ranks root root) (back ranks k root) l j (writes_round (back ranks root root) l k low_root w).round at), wanted_at_root root k rooted slot refl))
 
-  final : (r k : ℕ) → r < ranks → Ended r k
-  final r k inside = ⊎_elim (λ same. ⊎_elim (λ slot. subst (λ (q : ℕ). Ended q k) (sym same) (final_root k slot)) (λ past. inl (λ u. elsewhere r k u (inr past))) (cases_lt k ranks)) (λ other. inl (λ u. elsewhere r k u (inl other))) (cases_eq r root)
+  slots_end_as_wanted : (r k : ℕ) → r < ranks → Ended r k
+  slots_end_as_wanted r k inside = ⊎_elim (λ same. ⊎_elim (λ slot. subst (λ (q : ℕ). Ended q k) (sym same) (final_root k slot)) (λ past. inl (λ u. nothing_wanted_elsewhere r k u (inr past))) (cases_lt k ranks)) (λ other. inl (λ u. nothing_wanted_elsewhere r k u (inl other))) (cases_eq r root)
 
-  no_calc : (v i nanos : ℕ) → (each v i).kind ≡ Calc nanos → ⊥
+  no_calc : (v i nanos : ℕ) → (entry_in v i).kind ≡ Calc nanos → ⊥
   no_calc v i nanos e =
-      ⊎_elim (λ lt. let f = sym (ap (λ (x : Entry). x.kind) (hears v i lt)) ∙ e in cc f) (λ ge. let f = sym (ap (λ (x : Entry). x.kind) (gives v i ge)) ∙ e in cc f) (cases_lt i (rounds ranks v))
+      ⊎_elim (λ lt. let f = sym (ap (λ (x : Entry). x.kind) (entry_receives v i lt)) ∙ e in cc f) (λ ge. let f = sym (ap (λ (x : Entry). x.kind) (entry_sends v i ge)) ∙ e in cc f) (cases_lt i (rounds ranks v))
 
   -- both ends of a message have the slots of the child's block
   module _ (m : TreeEdge ranks) where
     block : List ℕ
     block = flat_map slots_of_span (share ranks root m.child (2 ^ low m.child))
 
-    given_slots : moved (each m.child (rounds ranks m.child)) ≡ block
+    given_slots : moved (entry_in m.child (rounds ranks m.child)) ≡ block
     unfolding block
-    given_slots = ap moved (gives m.child (rounds ranks m.child) (omega arith))
+    given_slots = ap moved (entry_sends m.child (rounds ranks m.child) (omega arith))
 
-    heard_slots : moved (each (above ranks root bytes rooted few m) (low m.child)) ≡ block
+    heard_slots : moved (entry_in (above ranks root bytes rooted few m) (low m.child)) ≡ block
     unfolding block
     heard_slots =
-        ap moved (hears (above ranks root bytes rooted few m) (low m.child) (above_is ranks root bytes rooted few m).round) ∙ ap (λ (c : ℕ). flat_map slots_of_span (share ranks root c (2 ^ low m.child))) (above_is ranks root bytes rooted few m).child
+        ap moved (entry_receives (above ranks root bytes rooted few m) (low m.child) (above_is ranks root bytes rooted few m).round) ∙ ap (λ (c : ℕ). flat_map slots_of_span (share ranks root c (2 ^ low m.child))) (above_is ranks root bytes rooted few m).child
 
-  kept : (m : TreeEdge ranks) → map (λ (k : ℕ). single k 0) (moved (entry (ahead ranks m.child root) (rounds ranks m.child))) ≡ map (λ (k : ℕ). single k 0) (moved (entry (ahead ranks (above ranks root bytes rooted few m) root) (low m.child)))
-  kept m =
+  message_keeps_values : (m : TreeEdge ranks) → map (λ (k : ℕ). single k 0) (moved (entry (ahead ranks m.child root) (rounds ranks m.child))) ≡ map (λ (k : ℕ). single k 0) (moved (entry (ahead ranks (above ranks root bytes rooted few m) root) (low m.child)))
+  message_keeps_values m =
       ap (λ (ks : List ℕ). map (λ (k : ℕ). single k 0) ks) (rw (virtual ranks root bytes rooted few m.child m.inside, virtual ranks root bytes rooted few (above ranks root bytes rooted few m) (above_inside ranks root bytes rooted few m)) (given_slots m ∙ sym (heard_slots m)))
 
-  blueprint : IsBlueprint ranks count entry first (wanted (Gather root) ranks) own own (TreeEdge ranks) bytes give_end hear_end (λ m. low m.child) level
+  blueprint : IsBlueprint ranks count entry first (wanted (Gather root) ranks) item_of_slot item_of_slot (TreeEdge ranks) bytes give_end hear_end (λ m. low m.child) level
   blueprint = record {
-    messages = messages;
-    lower = λ r i k there m. lower (back ranks r root) i k there.1 m;
-    same_level = λ m. ap tag_of (messages.sent m) ∙ sym (ap tag_of (messages.received m));
-    race = λ r i j k inside l m differ t w. race (back ranks r root) i j k (back_below ranks r root inside) differ t w;
-    source = λ r i k there not_receive t. source r i k there.0 there.1 not_receive t;
+    messages = tree_messages;
+    lower = λ r i k there m. needs_are_lower (back ranks r root) i k there.1 m;
+    same_level = λ m. ap tag_of (tree_messages.sent m) ∙ sym (ap tag_of (tree_messages.received m));
+    race = λ r i j k inside l m differ t w. conflicts_are_ordered (back ranks r root) i j k (back_below ranks r root inside) differ t w;
+    source = λ r i k there not_receive t. touched_has_origin r i k there.0 there.1 not_receive t;
     summed = λ r i nanos there k. absurd (no_calc (back ranks r root) i nanos k);
-    kept = kept;
-    final = final;
+    kept = message_keeps_values;
+    final = slots_end_as_wanted;
   }
 
-  first_none : (r k : ℕ) → (ranks ≤ r) ⊎ (k ≡ r → ⊥) → first r k ≡ []
+  first_empty_elsewhere : (r k : ℕ) → (ranks ≤ r) ⊎ (k ≡ r → ⊥) → first r k ≡ []
   unfolding initial
-  first_none r k out = go (nat_lt r ranks) refl (k == r) refl
+  first_empty_elsewhere r k out = go (nat_lt r ranks) refl (k == r) refl
     where
       go : (a : Bool) → nat_lt r ranks ≡ a → (b : Bool) → (k == r) ≡ b → (if a then (if b then single r 0 else []) else []) ≡ []
       go true e true f = absurd (⊎_elim (λ past. let lt = ltb-true r ranks e in omega (arith, past, lt)) (λ other. other (eqb-true k r f)) out)
@@ -234,17 +234,17 @@ module _ (ranks root bytes : ℕ) (rooted : root < ranks) (few : ranks ≤ rank_
       go false e b f = refl
 
   first_cap : (r k : ℕ) → length (first r k) ≤ block_cap ranks few root rooted r k
-  first_cap r k = ⊎_elim (λ inside. ⊎_elim (λ same. let one = cap_of_block ranks few root rooted r k (omega (arith, same, inside)) (let e = ap (λ (q : ℕ). back ranks q root) same in omega (arith, e)) (let e = ap (λ (q : ℕ). back ranks q root) same in let some = pow_pos (low (back ranks r root)) in omega (arith, e, some)) in let is = ap length (first_own r k inside same) in omega (arith, one, is)) (λ other. let none = ap length (first_none r k (inr other)) in omega (arith, none)) (cases_eq k r)) (λ past. let none = ap length (first_none r k (inl past)) in omega (arith, none)) (cases_lt r ranks)
+  first_cap r k = ⊎_elim (λ inside. ⊎_elim (λ same. let one = cap_of_block ranks few root rooted r k (omega (arith, same, inside)) (let e = ap (λ (q : ℕ). back ranks q root) same in omega (arith, e)) (let e = ap (λ (q : ℕ). back ranks q root) same in let some = pow_pos (low (back ranks r root)) in omega (arith, e, some)) in let is = ap length (first_own r k inside same) in omega (arith, one, is)) (λ other. let none = ap length (first_empty_elsewhere r k (inr other)) in omega (arith, none)) (cases_eq k r)) (λ past. let none = ap length (first_empty_elsewhere r k (inl past)) in omega (arith, none)) (cases_lt r ranks)
 
-  many_few : (v : ℕ) → many v ≤ 17
-  many_few v = let most = rounds_few ranks few v in let one = upward_few v in omega (arith, most, one)
+  count_in_few : (v : ℕ) → count_in v ≤ 17
+  count_in_few v = let most = rounds_few ranks few v in let one = upward_few v in omega (arith, most, one)
 
-  moving : (v i n : ℕ) → v < ranks → i < many v → IsMoving ranks few root rooted v n (each v i)
+  moving : (v i n : ℕ) → v < ranks → i < count_in v → IsMoving ranks few root rooted v n (entry_in v i)
   moving v i n inside there =
-      ⊎_elim (λ lt. subst (λ (x : Entry). IsMoving ranks few root rooted v n x) (sym (hears v i lt)) (child_block ranks few root rooted v n (Recv bytes (Some (ahead ranks (v + 2 ^ i) root)) (Some i)) [] inside i lt)) (λ ge. subst (λ (x : Entry). IsMoving ranks few root rooted v n x) (sym (gives v i ge)) (own_block ranks few root rooted v n (Send bytes (parent ranks root v) (low v)) (range_with_len 0 (rounds ranks v)) inside)) (cases_lt i (rounds ranks v))
+      ⊎_elim (λ lt. subst (λ (x : Entry). IsMoving ranks few root rooted v n x) (sym (entry_receives v i lt)) (child_block ranks few root rooted v n (Recv bytes (Some (ahead ranks (v + 2 ^ i) root)) (Some i)) [] inside i lt)) (λ ge. subst (λ (x : Entry). IsMoving ranks few root rooted v n x) (sym (entry_sends v i ge)) (own_block ranks few root rooted v n (Send bytes (parent ranks root v) (low v)) (range_with_len 0 (rounds ranks v)) inside)) (cases_lt i (rounds ranks v))
 
-  written : (v i k : ℕ) → v < ranks → i < many v → Mem k (writes (each v i)) → IsInShare ranks root v (2 ^ low v) k
-  written v i k inside there w =
+  writes_in_share : (v i k : ℕ) → v < ranks → i < count_in v → Mem k (writes (entry_in v i)) → IsInShare ranks root v (2 ^ low v) k
+  writes_in_share v i k inside there w =
       let is = writes_round v i k inside w in
       let from = is.round.from in
       record { slot = is.slot; from = omega (arith, from); before = round_in_block ranks few v (back ranks k root) i is.round }
@@ -252,4 +252,4 @@ module _ (ranks root bytes : ℕ) (rooted : root < ranks) (few : ranks ≤ rank_
   pub gather_certified : IsCertifiedFor (Gather root) (made (Gather root) ranks bytes)
   unfolding made
   gather_certified =
-      subst (λ (n : ℕ). IsCertified (made (Gather root) ranks bytes) (initial (Gather root) n) (wanted (Gather root) n)) (sym (length_plans ranks count entry)) (blueprint_certified ranks count entry first (wanted (Gather root) ranks) own own (TreeEdge ranks) bytes give_end hear_end (λ m. low m.child) level blueprint (block_cap ranks few root rooted) (block_load ranks few root rooted) (blocks_bounded ranks few root rooted many many_few each moving first (wanted (Gather root) ranks) (λ (k : ℕ). single k 0) (TreeEdge ranks) give_end (λ k. refl) first_cap written messages.send_there) (blocks_small ranks few root rooted many many_few each moving))
+      subst (λ (n : ℕ). IsCertified (made (Gather root) ranks bytes) (initial (Gather root) n) (wanted (Gather root) n)) (sym (length_plans ranks count entry)) (blueprint_certified ranks count entry first (wanted (Gather root) ranks) item_of_slot item_of_slot (TreeEdge ranks) bytes give_end hear_end (λ m. low m.child) level blueprint (block_cap ranks few root rooted) (block_load ranks few root rooted) (blocks_bounded ranks few root rooted count_in count_in_few entry_in moving first (wanted (Gather root) ranks) (λ (k : ℕ). single k 0) (TreeEdge ranks) give_end (λ k. refl) first_cap writes_in_share tree_messages.send_there) (blocks_small ranks few root rooted count_in count_in_few entry_in moving))

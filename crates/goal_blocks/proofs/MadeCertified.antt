@@ -22,8 +22,8 @@ use Rattle.goal_blocks.proofs.GatherCertified.{gather_certified}
 use Rattle.goal_blocks.proofs.ScatterCertified.{scatter_certified}
 use Rattle.goal_blocks.proofs.ScanCertified.{scan_certified}
 
-power_few : (ranks : ℕ) (p : IsPossible Allreduce ranks) → 2 ^ p.power.0 ≤ rank_limit
-power_few ranks p = let few = p.few_ranks in let is = p.power.1 in omega (arith, few, is)
+power_within_limit : (ranks : ℕ) (p : IsPossible Allreduce ranks) → 2 ^ p.power.0 ≤ rank_limit
+power_within_limit ranks p = let few = p.few_ranks in let is = p.power.1 in omega (arith, few, is)
 
 pub made_certified : (what : Collective) (ranks bytes : ℕ) → IsPossible what ranks → bytes ≤ MAX_BYTES → IsCertifiedByProof what ranks → IsCertifiedFor what (made what ranks bytes)
 made_certified (Bcast root) ranks bytes p small proved = bcast_certified ranks root bytes p.root p.few_ranks small
@@ -31,7 +31,7 @@ made_certified Allgather ranks bytes p small proved = allgather_certified ranks 
 made_certified Scan ranks bytes p small proved = scan_certified ranks bytes p.some_rank p.few_ranks small
 made_certified Barrier ranks bytes p small proved = let few = p.few_ranks in barrier_certified ranks bytes p.some_rank (omega (arith, few)) proved
 made_certified Allreduce ranks bytes p small proved =
-    subst (λ (n : ℕ). IsCertifiedFor Allreduce (made Allreduce n bytes)) (sym p.power.1) (allreduce_certified p.power.0 bytes (power_few ranks p) (subst (λ (n : ℕ). n ≤ certified_rank_limit) p.power.1 proved))
+    subst (λ (n : ℕ). IsCertifiedFor Allreduce (made Allreduce n bytes)) (sym p.power.1) (allreduce_certified p.power.0 bytes (power_within_limit ranks p) (subst (λ (n : ℕ). n ≤ certified_rank_limit) p.power.1 proved))
 made_certified Alltoall ranks bytes p small proved = alltoall_certified ranks bytes p.some_rank p.few_ranks small
 made_certified (Reduce root) ranks bytes p small proved = reduce_certified ranks root bytes p.root p.few_ranks small
 made_certified (Gather root) ranks bytes p small proved = gather_certified ranks root bytes p.root p.few_ranks
@@ -43,31 +43,31 @@ made_right what ranks bytes p small proved =
     certified_right (made what ranks bytes) (initial what (length (made what ranks bytes))) (wanted what (length (made what ranks bytes))) (made_certified what ranks bytes p small proved)
 
 -- only those of few ranks are, of the two that hold more and more
-pub only_certified : (what : Collective) (ranks bytes : ℕ) → IsPossible what ranks → IsCertifiedFor what (made what ranks bytes) → IsCertifiedByProof what ranks
-only_certified Barrier ranks bytes p c =
+pub certified_only_by_proof : (what : Collective) (ranks bytes : ℕ) → IsPossible what ranks → IsCertifiedFor what (made what ranks bytes) → IsCertifiedByProof what ranks
+certified_only_by_proof Barrier ranks bytes p c =
     let few = p.few_ranks in
     ⊎_elim (λ many. absurd (barrier_heavy ranks bytes p.some_rank (omega (arith, few)) many c)) (λ light. light) (cases_lt certified_rank_limit ranks)
-only_certified Allreduce ranks bytes p c =
-    ⊎_elim (λ many. absurd (allreduce_heavy p.power.0 bytes (power_few ranks p) (subst (λ (n : ℕ). certified_rank_limit < n) p.power.1 many) (subst (λ (n : ℕ). IsCertifiedFor Allreduce (made Allreduce n bytes)) p.power.1 c))) (λ light. light) (cases_lt certified_rank_limit ranks)
-only_certified (Bcast root) ranks bytes p c = tt
-only_certified Allgather ranks bytes p c = tt
-only_certified Alltoall ranks bytes p c = tt
-only_certified (Reduce root) ranks bytes p c = tt
-only_certified (Gather root) ranks bytes p c = tt
-only_certified (Scatter root) ranks bytes p c = tt
-only_certified ReduceScatter ranks bytes p c = tt
-only_certified Scan ranks bytes p c = tt
+certified_only_by_proof Allreduce ranks bytes p c =
+    ⊎_elim (λ many. absurd (allreduce_heavy p.power.0 bytes (power_within_limit ranks p) (subst (λ (n : ℕ). certified_rank_limit < n) p.power.1 many) (subst (λ (n : ℕ). IsCertifiedFor Allreduce (made Allreduce n bytes)) p.power.1 c))) (λ light. light) (cases_lt certified_rank_limit ranks)
+certified_only_by_proof (Bcast root) ranks bytes p c = tt
+certified_only_by_proof Allgather ranks bytes p c = tt
+certified_only_by_proof Alltoall ranks bytes p c = tt
+certified_only_by_proof (Reduce root) ranks bytes p c = tt
+certified_only_by_proof (Gather root) ranks bytes p c = tt
+certified_only_by_proof (Scatter root) ranks bytes p c = tt
+certified_only_by_proof ReduceScatter ranks bytes p c = tt
+certified_only_by_proof Scan ranks bytes p c = tt
 
 -- all are right everywhere, whatever they weigh
-pub all_made_right : (what : Collective) (ranks bytes : ℕ) → IsPossible what ranks → bytes ≤ MAX_BYTES → IsRightFor what (made what ranks bytes)
-all_made_right Barrier ranks bytes p small = let few = p.few_ranks in barrier_right ranks bytes p.some_rank (omega (arith, few))
-all_made_right Allreduce ranks bytes p small =
-    subst (λ (n : ℕ). IsRightFor Allreduce (made Allreduce n bytes)) (sym p.power.1) (allreduce_right p.power.0 bytes (power_few ranks p))
-all_made_right (Bcast root) ranks bytes p small = made_right (Bcast root) ranks bytes p small tt
-all_made_right Allgather ranks bytes p small = made_right Allgather ranks bytes p small tt
-all_made_right Alltoall ranks bytes p small = made_right Alltoall ranks bytes p small tt
-all_made_right (Reduce root) ranks bytes p small = made_right (Reduce root) ranks bytes p small tt
-all_made_right (Gather root) ranks bytes p small = made_right (Gather root) ranks bytes p small tt
-all_made_right (Scatter root) ranks bytes p small = made_right (Scatter root) ranks bytes p small tt
-all_made_right ReduceScatter ranks bytes p small = made_right ReduceScatter ranks bytes p small tt
-all_made_right Scan ranks bytes p small = made_right Scan ranks bytes p small tt
+pub made_right_at_any_weight : (what : Collective) (ranks bytes : ℕ) → IsPossible what ranks → bytes ≤ MAX_BYTES → IsRightFor what (made what ranks bytes)
+made_right_at_any_weight Barrier ranks bytes p small = let few = p.few_ranks in barrier_right ranks bytes p.some_rank (omega (arith, few))
+made_right_at_any_weight Allreduce ranks bytes p small =
+    subst (λ (n : ℕ). IsRightFor Allreduce (made Allreduce n bytes)) (sym p.power.1) (allreduce_right p.power.0 bytes (power_within_limit ranks p))
+made_right_at_any_weight (Bcast root) ranks bytes p small = made_right (Bcast root) ranks bytes p small tt
+made_right_at_any_weight Allgather ranks bytes p small = made_right Allgather ranks bytes p small tt
+made_right_at_any_weight Alltoall ranks bytes p small = made_right Alltoall ranks bytes p small tt
+made_right_at_any_weight (Reduce root) ranks bytes p small = made_right (Reduce root) ranks bytes p small tt
+made_right_at_any_weight (Gather root) ranks bytes p small = made_right (Gather root) ranks bytes p small tt
+made_right_at_any_weight (Scatter root) ranks bytes p small = made_right (Scatter root) ranks bytes p small tt
+made_right_at_any_weight ReduceScatter ranks bytes p small = made_right ReduceScatter ranks bytes p small tt
+made_right_at_any_weight Scan ranks bytes p small = made_right Scan ranks bytes p small tt

@@ -60,20 +60,20 @@ module _ (f : Plan → ℕ) where
           ap (λ (o : Option Plan). f (unwrap_or o (record { ops = []; deps = []; notes = [] }))) (slice_get-get_or (placed to back plans) r d (omega (arith, low, size)) ∙ ap (λ (p : Plan). Some p) (plan_placed_at to back plans perm r d low)) ∙ same (plan_at plans (back r))
 
 module _ (to back : ℕ → ℕ) (plans : List Plan) (perm : IsPermutation (length plans) to back) where
-  abbrev other : List Plan
-  other = placed to back plans
+  abbrev placed_plans : List Plan
+  placed_plans = placed to back plans
 
-  abbrev is : IsPlaced to plans other
-  is = placed_is to back plans perm
+  abbrev placed_is_placed : IsPlaced to plans placed_plans
+  placed_is_placed = placed_is to back plans perm
 
   abbrev perm_back : IsPermutation (length plans) back to
   perm_back = inverse_permutation (length plans) to back perm
 
-  abbrev is_back : IsPlaced back other plans
-  is_back = placed_back (length plans) to back perm plans other is
+  abbrev placed_is_back : IsPlaced back placed_plans plans
+  placed_is_back = placed_back (length plans) to back perm plans placed_plans placed_is_placed
 
   -- what is true of each plan is true of each on other ranks
-  all_placed : (P : Plan → Type 0) → ((p : Plan) → P p → P (placed_plan to p)) → All P plans → All P other
+  all_placed : (P : Plan → Type 0) → ((p : Plan) → P p → P (placed_plan to p)) → All P plans → All P placed_plans
   all_placed P same all r d low =
       let size = length_placed to back plans perm in
       let inside : r < length plans = omega (arith, low, size) in
@@ -87,7 +87,7 @@ module _ (to back : ℕ → ℕ) (plans : List Plan) (perm : IsPermutation (leng
           go None e = cc e
           go (Some p) e = cc e
 
-  small_placed : IsSmall plans → IsSmall other
+  small_placed : IsSmall plans → IsSmall placed_plans
   small_placed small = record {
     operations = all_placed (λ (p : Plan). length p.ops ≤ certified_op_limit) (λ p few. subst (λ (n : ℕ). n ≤ certified_op_limit) (sym (length-map p.ops (placed_of to))) few) small.operations;
     slots = all_placed (λ (p : Plan). All NamesLowSlots p.notes) (λ p low. low) small.slots;
@@ -99,40 +99,40 @@ module _ (to back : ℕ → ℕ) (plans : List Plan) (perm : IsPermutation (leng
       sym (there_and_back (length plans) to back perm x) ∙ (ap (placed_op to) e ∙ there_and_back (length plans) to back perm y)
 
   -- an operation, seen from the original ranks
-  send_back : (m : OpId) → IsSend other m → IsSend plans (placed_op back m)
-  send_back m s = send_placed (length plans) back to perm_back other plans is_back m s
+  send_back : (m : OpId) → IsSend placed_plans m → IsSend plans (placed_op back m)
+  send_back m s = send_placed (length plans) back to perm_back placed_plans plans placed_is_back m s
 
-  receive_back : (x : OpId) → IsReceive other x → IsReceive plans (placed_op back x)
+  receive_back : (x : OpId) → IsReceive placed_plans x → IsReceive plans (placed_op back x)
   receive_back x r =
-      receive_placed (length plans) back to perm_back other plans is_back x r
+      receive_placed (length plans) back to perm_back placed_plans plans placed_is_back x r
 
-  channel_back : (x : OpId) (c : Channel) → channel other x ≡ Some c → channel plans (placed_op back x) ≡ Some (placed_channel (length plans) back to perm_back other plans is_back c)
+  channel_back : (x : OpId) (c : Channel) → channel placed_plans x ≡ Some c → channel plans (placed_op back x) ≡ Some (placed_channel (length plans) back to perm_back placed_plans plans placed_is_back c)
   channel_back x c e =
-      channel_placed (length plans) back to perm_back other plans is_back x ∙ ap (option_map (placed_channel (length plans) back to perm_back other plans is_back)) e
+      channel_placed (length plans) back to perm_back placed_plans plans placed_is_back x ∙ ap (option_map (placed_channel (length plans) back to perm_back placed_plans plans placed_is_back)) e
 
-  joined_to : (m x : OpId) → AreOfOneChannel plans (placed_op back m) x → AreOfOneChannel other m (placed_op to x)
-  joined_to m x one =
-      subst (λ (z : OpId). AreOfOneChannel other z (placed_op to x)) (there_and_back (length plans) to back perm m) (joined_placed (length plans) to back perm plans other is (placed_op back m) x one)
+  channel_joined_to : (m x : OpId) → AreOfOneChannel plans (placed_op back m) x → AreOfOneChannel placed_plans m (placed_op to x)
+  channel_joined_to m x one =
+      subst (λ (z : OpId). AreOfOneChannel placed_plans z (placed_op to x)) (there_and_back (length plans) to back perm m) (joined_placed (length plans) to back perm plans placed_plans placed_is_placed (placed_op back m) x one)
 
-  joined_from : (m x : OpId) → AreOfOneChannel plans m (placed_op back x) → AreOfOneChannel other (placed_op to m) x
-  joined_from m x one =
-      subst (λ (z : OpId). AreOfOneChannel other (placed_op to m) z) (there_and_back (length plans) to back perm x) (joined_placed (length plans) to back perm plans other is m (placed_op back x) one)
+  channel_joined_from : (m x : OpId) → AreOfOneChannel plans m (placed_op back x) → AreOfOneChannel placed_plans (placed_op to m) x
+  channel_joined_from m x one =
+      subst (λ (z : OpId). AreOfOneChannel placed_plans (placed_op to m) z) (there_and_back (length plans) to back perm x) (joined_placed (length plans) to back perm plans placed_plans placed_is_placed m (placed_op back x) one)
 
-  abbrev matched_placed : IsMatched plans → IsMatched other
+  abbrev matched_placed : IsMatched plans → IsMatched placed_plans
   matched_placed m = record {
-    no_wildcard = λ x room from tag e. wildcard from tag (m.no_wildcard (placed_op back x) room (option_map back from) tag (kinds (length plans) back to perm_back other plans is_back x ∙ ap (option_map (placed_kind back)) e));
+    no_wildcard = λ x room from tag e. wildcard from tag (m.no_wildcard (placed_op back x) room (option_map back from) tag (kinds (length plans) back to perm_back placed_plans plans placed_is_back x ∙ ap (option_map (placed_kind back)) e));
     no_double_channel = record {
-      sends = λ x y c is_x is_y of_x of_y. same_op_of x y (m.no_double_channel.sends (placed_op back x) (placed_op back y) (placed_channel (length plans) back to perm_back other plans is_back c) (send_back x is_x) (send_back y is_y) (channel_back x c of_x) (channel_back y c of_y));
-      receives = λ x y c is_x is_y of_x of_y. same_op_of x y (m.no_double_channel.receives (placed_op back x) (placed_op back y) (placed_channel (length plans) back to perm_back other plans is_back c) (receive_back x is_x) (receive_back y is_y) (channel_back x c of_x) (channel_back y c of_y));
+      sends = λ x y c is_x is_y of_x of_y. same_op_of x y (m.no_double_channel.sends (placed_op back x) (placed_op back y) (placed_channel (length plans) back to perm_back placed_plans plans placed_is_back c) (send_back x is_x) (send_back y is_y) (channel_back x c of_x) (channel_back y c of_y));
+      receives = λ x y c is_x is_y of_x of_y. same_op_of x y (m.no_double_channel.receives (placed_op back x) (placed_op back y) (placed_channel (length plans) back to perm_back placed_plans plans placed_is_back c) (receive_back x is_x) (receive_back y is_y) (channel_back x c of_x) (channel_back y c of_y));
     };
     no_unpaired = record {
-      sends = λ x s. let p = m.no_unpaired.sends (placed_op back x) (send_back x s) in (placed_op to p.0, joined_to x p.0 p.1);
-      receives = λ x r. let p = m.no_unpaired.receives (placed_op back x) (receive_back x r) in (placed_op to p.0, joined_from p.0 x p.1);
+      sends = λ x s. let p = m.no_unpaired.sends (placed_op back x) (send_back x s) in (placed_op to p.0, channel_joined_to x p.0 p.1);
+      receives = λ x r. let p = m.no_unpaired.receives (placed_op back x) (receive_back x r) in (placed_op to p.0, channel_joined_from p.0 x p.1);
     };
-    no_stall = let w = some_walk other in record {
+    no_stall = let w = some_walk placed_plans in record {
       walk = w.0;
       is_walk = w.1;
-      all_end = (ends_placed (length plans) to back perm plans other is no_send w.0 (ends_in_its_pairs plans no_send (before (length plans) to back perm plans other is no_send w.0) m (complete_before (length plans) to back perm plans other is no_send w.0 w.1.complete))).all_end;
+      all_end = (ends_placed (length plans) to back perm plans placed_plans placed_is_placed no_send w.0 (ends_in_its_pairs plans no_send (before (length plans) to back perm plans placed_plans placed_is_placed no_send w.0) m (complete_before (length plans) to back perm plans placed_plans placed_is_placed no_send w.0 w.1.complete))).all_end;
     };
   }
     where
@@ -140,52 +140,52 @@ module _ (to back : ℕ → ℕ) (plans : List Plan) (perm : IsPermutation (leng
       wildcard None tag p = p
       wildcard (Some source) tag p = (refl, p.1)
 
-  lengths_placed : HasEqualLengths plans → HasEqualLengths other
+  lengths_placed : HasEqualLengths plans → HasEqualLengths placed_plans
   lengths_placed same m x one =
-      ap length (sym (is_back.moves m)) ∙ (same (placed_op back m) (placed_op back x) (joined_placed (length plans) back to perm_back other plans is_back m x one) ∙ ap length (is_back.moves x))
+      ap length (sym (placed_is_back.moves m)) ∙ (same (placed_op back m) (placed_op back x) (joined_placed (length plans) back to perm_back placed_plans plans placed_is_back m x one) ∙ ap length (placed_is_back.moves x))
 
-  touched_back : (x : OpId) → touched plans (placed_op back x) ≡ touched other x
+  touched_back : (x : OpId) → touched plans (placed_op back x) ≡ touched placed_plans x
   unfolding touched
   touched_back x =
-      (λ i. touched_in (kinds (length plans) back to perm_back other plans is_back x i) (is_back.moves x i) (is_back.adds x i)) ∙ go (kind_at other x)
+      (λ i. touched_in (kinds (length plans) back to perm_back placed_plans plans placed_is_back x i) (placed_is_back.moves x i) (placed_is_back.adds x i)) ∙ go (kind_at placed_plans x)
     where
-      go : (k : Option Kind) → touched_in (option_map (placed_kind back) k) (slots other x) (adds other x) ≡ touched_in k (slots other x) (adds other x)
+      go : (k : Option Kind) → touched_in (option_map (placed_kind back) k) (slots placed_plans x) (adds placed_plans x) ≡ touched_in k (slots placed_plans x) (adds placed_plans x)
       go None = refl
       go (Some (Calc nanos)) = refl
       go (Some (Send bytes target tag)) = refl
       go (Some (Recv room source tag)) = refl
 
-  written_back : (x : OpId) → written plans (placed_op back x) ≡ written other x
+  written_back : (x : OpId) → written plans (placed_op back x) ≡ written placed_plans x
   unfolding written
   written_back x =
-      (λ i. written_in (kinds (length plans) back to perm_back other plans is_back x i) (is_back.moves x i) (is_back.adds x i)) ∙ go (kind_at other x)
+      (λ i. written_in (kinds (length plans) back to perm_back placed_plans plans placed_is_back x i) (placed_is_back.moves x i) (placed_is_back.adds x i)) ∙ go (kind_at placed_plans x)
     where
-      go : (k : Option Kind) → written_in (option_map (placed_kind back) k) (slots other x) (adds other x) ≡ written_in k (slots other x) (adds other x)
+      go : (k : Option Kind) → written_in (option_map (placed_kind back) k) (slots placed_plans x) (adds placed_plans x) ≡ written_in k (slots placed_plans x) (adds placed_plans x)
       go None = refl
       go (Some (Calc nanos)) = refl
       go (Some (Send bytes target tag)) = refl
       go (Some (Recv room source tag)) = refl
 
-  reaches_placed : {y z : OpId} → Reaches plans y z → Reaches other (placed_op to y) (placed_op to z)
+  reaches_placed : {y z : OpId} → Reaches plans y z → Reaches placed_plans (placed_op to y) (placed_op to z)
   reaches_placed here = here
   reaches_placed (through {y = y} d has more) =
-      through d (subst (λ (ns : List Need). Contains ns d) (sym (is.needs y)) has) (reaches_placed more)
+      through d (subst (λ (ns : List Need). Contains ns d) (sym (placed_is_placed.needs y)) has) (reaches_placed more)
 
-  before_placed : (x y : OpId) → EndsBefore plans x y → EndsBefore other (placed_op to x) (placed_op to y)
-  before_placed x y b = record {
+  ends_before_placed : (x y : OpId) → EndsBefore plans x y → EndsBefore placed_plans (placed_op to x) (placed_op to y)
+  ends_before_placed x y b = record {
     by = placed_op to b.by;
     reached = reaches_placed b.reached;
     need = b.need;
-    is_need = subst (λ (ns : List Need). Contains ns b.need) (sym (is.needs b.by)) b.is_need;
+    is_need = subst (λ (ns : List Need). Contains ns b.need) (sym (placed_is_placed.needs b.by)) b.is_need;
     at_end = b.at_end;
     names = ap (placed_op to) b.names;
   }
 
-  before_there : (x y : OpId) → EndsBefore plans (placed_op back x) (placed_op back y) → EndsBefore other x y
-  before_there x y b =
-      subst (λ (z : OpId). EndsBefore other z y) (there_and_back (length plans) to back perm x) (subst (λ (z : OpId). EndsBefore other (placed_op to (placed_op back x)) z) (there_and_back (length plans) to back perm y) (before_placed (placed_op back x) (placed_op back y) b))
+  ends_before_from_original : (x y : OpId) → EndsBefore plans (placed_op back x) (placed_op back y) → EndsBefore placed_plans x y
+  ends_before_from_original x y b =
+      subst (λ (z : OpId). EndsBefore placed_plans z y) (there_and_back (length plans) to back perm x) (subst (λ (z : OpId). EndsBefore placed_plans (placed_op to (placed_op back x)) z) (there_and_back (length plans) to back perm y) (ends_before_placed (placed_op back x) (placed_op back y) b))
 
-  conflict_back : (x y : OpId) → Conflict other x y → Conflict plans (placed_op back x) (placed_op back y)
+  conflict_back : (x y : OpId) → Conflict placed_plans x y → Conflict plans (placed_op back x) (placed_op back y)
   conflict_back x y c = record {
     one_rank = ap back c.one_rank;
     two = λ e. c.two (same_op_of x y e);
@@ -194,23 +194,23 @@ module _ (to back : ℕ → ℕ) (plans : List Plan) (perm : IsPermutation (leng
     is_written = subst (λ (ks : List ℕ). Contains ks c.slot) (sym (written_back y)) c.is_written;
   }
 
-  no_race_placed : HasNoRace plans → HasNoRace other
+  no_race_placed : HasNoRace plans → HasNoRace placed_plans
   no_race_placed none x y c =
-      ⊎_elim (λ b. inl (before_there x y b)) (λ b. inr (before_there y x b)) (none (placed_op back x) (placed_op back y) (conflict_back x y c))
+      ⊎_elim (λ b. inl (ends_before_from_original x y b)) (λ b. inr (ends_before_from_original y x b)) (none (placed_op back x) (placed_op back y) (conflict_back x y c))
 
   pub placed_certified : (label : Contribution → Contribution) (first start : Store) (wanted wish : ℕ → ℕ → Value → Bool)
       → ((rank slot : ℕ) → start (to rank) slot ≡ relabelled label (first rank slot))
       → AsksNoMore to label (length plans) wanted wish
-      → ((w : List Act) → IsWalk other w → IsLight other start w)
+      → ((w : List Act) → IsWalk placed_plans w → IsLight placed_plans start w)
       → IsCertified plans first wanted
-      → IsCertified other start wish
+      → IsCertified placed_plans start wish
   placed_certified label first start wanted wish starts asks light c =
-      let w = some_walk other in
+      let w = some_walk placed_plans in
       record {
         small = small_placed c.small;
         matched = matched_placed c.matched;
         lengths = lengths_placed c.lengths;
         no_race = no_race_placed c.no_race;
         light = light w.0 w.1;
-        right = (placed_right to back plans other label first start wanted wish perm is starts asks (certified_right plans first wanted c) no_send w.0 w.1.complete).wanted_held;
+        right = (placed_right to back plans placed_plans label first start wanted wish perm placed_is_placed starts asks (certified_right plans first wanted c) no_send w.0 w.1.complete).wanted_held;
       }

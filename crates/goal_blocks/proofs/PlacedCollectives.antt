@@ -11,7 +11,7 @@ use Rattle.goal_blocks.specs.Right.{IsRightEverywhere, IsRightFor}
 use Rattle.goal_blocks.specs.Renamed.{under, renamed}
 use Rattle.goal_blocks.specs.Laws.{IsUndoneBy, IsRenamed}
 use Rattle.goal_blocks.specs.Placed.{IsPermutation, IsPlaced, placed, relabelled, moved_along, CanBePlaced, placed_slot, placed_for}
-use Rattle.goal_blocks.proofs.BarrierCertified.{has_new, has_still, has_none}
+use Rattle.goal_blocks.proofs.BarrierCertified.{has_one_inserted, has_one_kept_by_insert, has_one_of_empty}
 use Rattle.goal_blocks.proofs.Wishes.{is_one_means_equal, is_one_reflexive, value_equal, is_value_reflexive, each_item_passes, one_item_fails}
 use Rattle.goal_blocks.proofs.Picked.{picked, insert_picked, picked_none, picked_all}
 use Rattle.goal_blocks.proofs.RenamedNotes.{renamed_is, renamed_back}
@@ -36,14 +36,14 @@ has_rest v c d e has = sym (ap (λ (b : Bool). if b then true else has_one v c) 
 
 has_placed : (label : Contribution → Contribution) (v : Value) (c : Contribution) → has_one v c ≡ true → has_one (relabelled label v) (label c) ≡ true
 unfolding relabelled
-has_placed label [] c has = absurd (both_ways _ (has_none c) has)
+has_placed label [] c has = absurd (both_ways _ (has_one_of_empty c) has)
 has_placed label (d ∷ v) c has = go (λ h. has_placed label v c h) (is_one c d) refl
   where
     go : (has_one v c ≡ true → has_one (relabelled label v) (label c) ≡ true) → (b : Bool) → is_one c d ≡ b → has_one (insert_one (label d) (relabelled label v)) (label c) ≡ true
     go rest true e =
-        has_new (label d) (label c) (relabelled label v) (ap (λ (x : Contribution). is_one (label c) (label x)) (sym (is_one_means_equal c d e)) ∙ is_one_reflexive (label c))
+        has_one_inserted (label d) (label c) (relabelled label v) (ap (λ (x : Contribution). is_one (label c) (label x)) (sym (is_one_means_equal c d e)) ∙ is_one_reflexive (label c))
     go rest false e =
-        has_still (label d) (label c) (relabelled label v) (rest (has_rest v c d e has))
+        has_one_kept_by_insert (label d) (label c) (relabelled label v) (rest (has_rest v c d e has))
 
 module _ (n : ℕ) (to back : ℕ → ℕ) (perm : IsPermutation n to back) where
   abbrev perm_back : IsPermutation n back to

@@ -24,7 +24,7 @@ use Rattle.goal_blocks.specs.Messages.{AreMessages}
 use Rattle.goal_blocks.specs.Generated.{made}
 use Rattle.goal_blocks.proofs.Orders.{Mem}
 use Rattle.goal_blocks.proofs.EntryFacts.{slots_of_span, length_plans}
-use Rattle.goal_blocks.proofs.AllgatherCertified.{moved_slot}
+use Rattle.goal_blocks.proofs.AllgatherCertified.{slots_of_single_slot}
 use Rattle.goal_blocks.proofs.Slim.{All_one}
 use Rattle.goal_blocks.proofs.Ring.{ahead_back, root_virtual}
 use Rattle.goal_blocks.proofs.RingAndTree.{back_below, upward_some, upward_few}
@@ -69,18 +69,18 @@ module _ (ranks root bytes : ℕ) (rooted : root < ranks) (few : ranks ≤ rank_
   abbrev first : Store
   first = initial (Reduce root) ranks
 
-  hears : (v j : ℕ) → j < children v → step v (j + j) ≡ receiving bytes (ahead ranks (v + 2 ^ j) root) j (slot (j + 1))
-  hears v j l =
+  entry_receives : (v j : ℕ) → j < children v → step v (j + j) ≡ receiving bytes (ahead ranks (v + 2 ^ j) root) j (slot (j + 1))
+  entry_receives v j l =
       let half : (j + j) / 2 ≡ j = omega arith in
       sym (reduce_hears ranks root bytes v (j + j) (omega (arith, half, l)) (omega arith)) ∙ ap (λ (k : ℕ). receiving bytes (ahead ranks (v + 2 ^ k) root) k (slot (k + 1))) half
 
-  adds_up : (v j : ℕ) → j < children v → step v (j + j + 1) ≡ summing ((j + j) ∷ earlier_sum j) (j + 1) 0
-  adds_up v j l =
+  entry_sums : (v j : ℕ) → j < children v → step v (j + j + 1) ≡ summing ((j + j) ∷ earlier_sum j) (j + 1) 0
+  entry_sums v j l =
       let half : (j + j + 1) / 2 ≡ j = omega arith in
       sym (reduce_sums ranks root bytes v (j + j + 1) (omega (arith, half, l)) (λ e. omega (arith, e))) ∙ ap (λ (k : ℕ). summing ((k + k) ∷ earlier_sum k) (k + 1) 0) half
 
-  sends : (v : ℕ) → step v (children v + children v) ≡ sending bytes (parent ranks root v) (low v) (earlier_sum (children v)) (slot 0)
-  sends v = sym (reduce_sends ranks root bytes v (children v + children v) (omega arith))
+  entry_sends : (v : ℕ) → step v (children v + children v) ≡ sending bytes (parent ranks root v) (low v) (earlier_sum (children v)) (slot 0)
+  entry_sends v = sym (reduce_sends ranks root bytes v (children v + children v) (omega arith))
 
   -- which operation a number is
   data Part (v i : ℕ) : Type 0 where
@@ -124,12 +124,12 @@ module _ (ranks root bytes : ℕ) (rooted : root < ranks) (few : ranks ≤ rank_
     where
       go : (v i : ℕ) → Part v i → ((nanos : ℕ) × ((step v i).kind ≡ Calc nanos)) ⊎ (((0 < v) × (children v + children v ≡ i)) ⊎ ((j : ℕ) × (j < children v) × (j + j ≡ i)))
       go v i (hearing j l e) = inr (inr (j, l, sym e))
-      go v i (adding j l e) = inl (0, ap (λ (n : ℕ). (step v n).kind) e ∙ ap (λ (y : Entry). y.kind) (adds_up v j l))
+      go v i (adding j l e) = inl (0, ap (λ (n : ℕ). (step v n).kind) e ∙ ap (λ (y : Entry). y.kind) (entry_sums v j l))
       go v i (rising some e) = inr (inl (some, sym e))
 
   edge_messages : AreMessages ranks count entry (TreeEdge ranks) bytes edge_send edge_recv (λ m. low m.child)
   edge_messages =
-      up_messages ranks root bytes rooted few tree_count step (λ v. children v + children v) (λ v j. j + j) edge_ends (λ v some inside. ap (λ (y : Entry). y.kind) (sends v)) (λ v j inside l. ap (λ (y : Entry). y.kind) (hears v j l))
+      up_messages ranks root bytes rooted few tree_count step (λ v. children v + children v) (λ v j. j + j) edge_ends (λ v some inside. ap (λ (y : Entry). y.kind) (entry_sends v)) (λ v j inside l. ap (λ (y : Entry). y.kind) (entry_receives v j l))
 
   -- levels: a message at an even one, the calc after it at the odd one above
   tree_level : ℕ → ℕ → ℕ
@@ -176,13 +176,13 @@ module _ (ranks root bytes : ℕ) (rooted : root < ranks) (few : ranks ≤ rank_
 
   -- an entry by its number
   as_hearing : (v i j : ℕ) → j < children v → i ≡ j + j → step v i ≡ receiving bytes (ahead ranks (v + 2 ^ j) root) j (slot (j + 1))
-  as_hearing v i j l e = ap (λ (n : ℕ). step v n) e ∙ hears v j l
+  as_hearing v i j l e = ap (λ (n : ℕ). step v n) e ∙ entry_receives v j l
 
   as_adding : (v i j : ℕ) → j < children v → i ≡ j + j + 1 → step v i ≡ summing ((j + j) ∷ earlier_sum j) (j + 1) 0
-  as_adding v i j l e = ap (λ (n : ℕ). step v n) e ∙ adds_up v j l
+  as_adding v i j l e = ap (λ (n : ℕ). step v n) e ∙ entry_sums v j l
 
   as_rising : (v i : ℕ) → i ≡ children v + children v → step v i ≡ sending bytes (parent ranks root v) (low v) (earlier_sum (children v)) (slot 0)
-  as_rising v i e = ap (λ (n : ℕ). step v n) e ∙ sends v
+  as_rising v i e = ap (λ (n : ℕ). step v n) e ∙ entry_sends v
 
   -- orders
   sum_before : (n k : ℕ) → Mem k (earlier_sum n) → (t : ℕ) × (n ≡ suc t) × (k ≡ t + t + 1)
@@ -190,31 +190,31 @@ module _ (ranks root bytes : ℕ) (rooted : root < ranks) (few : ranks ≤ rank_
   sum_before (suc t) k (inl e) = (t, refl, sym e)
   sum_before (suc t) k (inr m) = absurd m
 
-  receive_sum : (v j : ℕ) → j < children v → Precedes (step v) (j + j) (j + j + 1)
-  receive_sum v j l = now (subst (λ (x : Entry). Mem (j + j) x.needs) (sym (adds_up v j l)) (inl refl))
+  receive_precedes_sum : (v j : ℕ) → j < children v → Precedes (step v) (j + j) (j + j + 1)
+  receive_precedes_sum v j l = now (subst (λ (x : Entry). Mem (j + j) x.needs) (sym (entry_sums v j l)) (inl refl))
 
-  sum_next : (v t : ℕ) → suc t < children v → Mem (t + t + 1) (step v (suc t + suc t + 1)).needs
-  sum_next v t l = subst (λ (x : Entry). Mem (t + t + 1) x.needs) (sym (adds_up v (suc t) l)) (inr (inl refl))
+  sum_needs_previous_sum : (v t : ℕ) → suc t < children v → Mem (t + t + 1) (step v (suc t + suc t + 1)).needs
+  sum_needs_previous_sum v t l = subst (λ (x : Entry). Mem (t + t + 1) x.needs) (sym (entry_sums v (suc t) l)) (inr (inl refl))
 
-  sum_last : (v t : ℕ) → children v ≡ suc t → Mem (t + t + 1) (step v (children v + children v)).needs
-  sum_last v t e =
-      subst (λ (x : Entry). Mem (t + t + 1) x.needs) (sym (sends v)) (subst (λ (n : ℕ). Mem (t + t + 1) (earlier_sum n)) (sym e) (inl refl))
+  send_needs_last_sum : (v t : ℕ) → children v ≡ suc t → Mem (t + t + 1) (step v (children v + children v)).needs
+  send_needs_last_sum v t e =
+      subst (λ (x : Entry). Mem (t + t + 1) x.needs) (sym (entry_sends v)) (subst (λ (n : ℕ). Mem (t + t + 1) (earlier_sum n)) (sym e) (inl refl))
 
-  sum_sum : (v t u : ℕ) → t < u → u < children v → Precedes (step v) (t + t + 1) (u + u + 1)
-  sum_sum v t zero l m = absurd (omega (arith, l))
-  sum_sum v t (suc u) l m =
-      ⊎_elim (λ e. subst (λ (n : ℕ). Precedes (step v) (n + n + 1) (suc u + suc u + 1)) (sym e) (now (sum_next v u m))) (λ d. after (u + u + 1) (sum_next v u m) (sum_sum v t u (omega (arith, l, d)) (omega (arith, m)))) (cases_eq t u)
+  sum_precedes_sum : (v t u : ℕ) → t < u → u < children v → Precedes (step v) (t + t + 1) (u + u + 1)
+  sum_precedes_sum v t zero l m = absurd (omega (arith, l))
+  sum_precedes_sum v t (suc u) l m =
+      ⊎_elim (λ e. subst (λ (n : ℕ). Precedes (step v) (n + n + 1) (suc u + suc u + 1)) (sym e) (now (sum_needs_previous_sum v u m))) (λ d. after (u + u + 1) (sum_needs_previous_sum v u m) (sum_precedes_sum v t u (omega (arith, l, d)) (omega (arith, m)))) (cases_eq t u)
 
-  sum_send : (v t : ℕ) → t < children v → Precedes (step v) (t + t + 1) (children v + children v)
-  sum_send v t l = go (children v) refl
+  sum_precedes_send : (v t : ℕ) → t < children v → Precedes (step v) (t + t + 1) (children v + children v)
+  sum_precedes_send v t l = go (children v) refl
     where
       go : (n : ℕ) → children v ≡ n → Precedes (step v) (t + t + 1) (children v + children v)
       go zero e = absurd (omega (arith, l, e))
       go (suc u) e =
-          ⊎_elim (λ same. subst (λ (n : ℕ). Precedes (step v) (n + n + 1) (children v + children v)) (sym same) (now (sum_last v u e))) (λ d. after (u + u + 1) (sum_last v u e) (sum_sum v t u (omega (arith, l, e, d)) (omega (arith, e)))) (cases_eq t u)
+          ⊎_elim (λ same. subst (λ (n : ℕ). Precedes (step v) (n + n + 1) (children v + children v)) (sym same) (now (send_needs_last_sum v u e))) (λ d. after (u + u + 1) (send_needs_last_sum v u e) (sum_precedes_sum v t u (omega (arith, l, e, d)) (omega (arith, e)))) (cases_eq t u)
 
-  placed : (v i j a b : ℕ) → i ≡ a → j ≡ b → Precedes (step v) a b → Precedes (step v) i j
-  placed v i j a b e f p =
+  precedes_at_numbers : (v i j a b : ℕ) → i ≡ a → j ≡ b → Precedes (step v) a b → Precedes (step v) i j
+  precedes_at_numbers v i j a b e f p =
       subst (λ (m : ℕ). Precedes (step v) m j) (sym e) (subst (λ (m : ℕ). Precedes (step v) a m) (sym f) p)
 
   -- what is written: by a receive the slot of its round, by a sum slot 0
@@ -223,11 +223,11 @@ module _ (ranks root bytes : ℕ) (rooted : root < ranks) (few : ranks ≤ rank_
     by_adding : (j : ℕ) → j < children v → i ≡ j + j + 1 → 0 ≡ s → Writing v i s
 
   at_slot : (k s : ℕ) → Mem s (flat_map slots_of_span (slot k)) → k ≡ s
-  at_slot k s m = ⊎_elim (λ e. e) (λ none. absurd none) (subst (λ (ks : List ℕ). Mem s ks) (moved_slot k) m)
+  at_slot k s m = ⊎_elim (λ e. e) (λ none. absurd none) (subst (λ (ks : List ℕ). Mem s ks) (slots_of_single_slot k) m)
 
-  one_of : (k s : ℕ) → Mem s (k ∷ []) → k ≡ s
-  one_of k s (inl e) = e
-  one_of k s (inr none) = absurd none
+  member_of_single : (k s : ℕ) → Mem s (k ∷ []) → k ≡ s
+  member_of_single k s (inl e) = e
+  member_of_single k s (inr none) = absurd none
 
   writes_are : (v i s : ℕ) → i < tree_count v → Mem s (writes (step v i)) → Writing v i s
   writes_are v i s l m = go (part_of v i l)
@@ -236,15 +236,15 @@ module _ (ranks root bytes : ℕ) (rooted : root < ranks) (few : ranks ≤ rank_
       go (hearing j k e) =
           by_hearing j k e (at_slot (j + 1) s (subst (λ (x : Entry). Mem s (writes x)) (as_hearing v i j k e) m))
       go (adding j k e) =
-          by_adding j k e (one_of 0 s (subst (λ (x : Entry). Mem s (writes x)) (as_adding v i j k e) m))
+          by_adding j k e (member_of_single 0 s (subst (λ (x : Entry). Mem s (writes x)) (as_adding v i j k e) m))
       go (rising some e) = absurd (subst (λ (x : Entry). Mem s (writes x)) (as_rising v i e) m)
 
   hearing_writes : (v j : ℕ) → j < children v → Mem (j + 1) (writes (step v (j + j)))
   hearing_writes v j l =
-      subst (λ (x : Entry). Mem (j + 1) (writes x)) (sym (hears v j l)) (subst (λ (ks : List ℕ). Mem (j + 1) ks) (sym (moved_slot (j + 1))) (inl refl))
+      subst (λ (x : Entry). Mem (j + 1) (writes x)) (sym (entry_receives v j l)) (subst (λ (ks : List ℕ). Mem (j + 1) ks) (sym (slots_of_single_slot (j + 1))) (inl refl))
 
   adding_writes : (v j : ℕ) → j < children v → Mem 0 (writes (step v (j + j + 1)))
-  adding_writes v j l = subst (λ (x : Entry). Mem 0 (writes x)) (sym (adds_up v j l)) (inl refl)
+  adding_writes v j l = subst (λ (x : Entry). Mem 0 (writes x)) (sym (entry_sums v j l)) (inl refl)
 
   -- what is touched: by a receive the slot of its round, by a sum that and slot 0, by a send slot 0
   data Touching (v i s : ℕ) : Type 0 where
@@ -267,25 +267,25 @@ module _ (ranks root bytes : ℕ) (rooted : root < ranks) (few : ranks ≤ rank_
       go (adding j k e) = two j k e (subst (λ (x : Entry). Mem s (touches x)) (as_adding v i j k e) m)
       go (rising some e) = at_rising some e (at_slot 0 s (subst (λ (x : Entry). Mem s (touches x)) (as_rising v i e) m))
 
-  race : (v i j s : ℕ) → i < tree_count v → j < tree_count v → (i ≡ j → ⊥) → Mem s (touches (step v i)) → Mem s (writes (step v j)) → Precedes (step v) i j ⊎ Precedes (step v) j i
-  race v i j s in_i in_j differ t w = go (touches_are v i s in_i t) (writes_are v j s in_j w)
+  conflicts_are_ordered : (v i j s : ℕ) → i < tree_count v → j < tree_count v → (i ≡ j → ⊥) → Mem s (touches (step v i)) → Mem s (writes (step v j)) → Precedes (step v) i j ⊎ Precedes (step v) j i
+  conflicts_are_ordered v i j s in_i in_j differ t w = go (touches_are v i s in_i t) (writes_are v j s in_j w)
     where
       sums : (k u : ℕ) → k < children v → u < children v → i ≡ k + k + 1 → j ≡ u + u + 1 → Precedes (step v) i j ⊎ Precedes (step v) j i
       sums k u m n e f =
-          ⊎_elim (λ l. inl (placed v i j (k + k + 1) (u + u + 1) e f (sum_sum v k u l n))) (λ g. inr (placed v j i (u + u + 1) (k + k + 1) f e (sum_sum v u k (⊎_elim (λ same. absurd (differ (e ∙ ap (λ (a : ℕ). a + a + 1) same ∙ sym f))) (λ other. omega (arith, g, other)) (cases_eq k u)) m))) (cases_lt k u)
+          ⊎_elim (λ l. inl (precedes_at_numbers v i j (k + k + 1) (u + u + 1) e f (sum_precedes_sum v k u l n))) (λ g. inr (precedes_at_numbers v j i (u + u + 1) (k + k + 1) f e (sum_precedes_sum v u k (⊎_elim (λ same. absurd (differ (e ∙ ap (λ (a : ℕ). a + a + 1) same ∙ sym f))) (λ other. omega (arith, g, other)) (cases_eq k u)) m))) (cases_lt k u)
 
       go : Touching v i s → Writing v j s → Precedes (step v) i j ⊎ Precedes (step v) j i
       go (at_hearing k m e f) (by_hearing u n g h) =
           absurd (differ (let same : k ≡ u = omega (arith, f, h) in e ∙ ap (λ (a : ℕ). a + a) same ∙ sym g))
       go (at_hearing k m e f) (by_adding u n g h) = absurd (omega (arith, f, h))
       go (at_term k m e f) (by_hearing u n g h) =
-          inr (placed v j i (k + k) (k + k + 1) (let same : u ≡ k = omega (arith, f, h) in g ∙ ap (λ (a : ℕ). a + a) same) e (receive_sum v k m))
+          inr (precedes_at_numbers v j i (k + k) (k + k + 1) (let same : u ≡ k = omega (arith, f, h) in g ∙ ap (λ (a : ℕ). a + a) same) e (receive_precedes_sum v k m))
       go (at_term k m e f) (by_adding u n g h) = absurd (omega (arith, f, h))
       go (at_sum k m e f) (by_hearing u n g h) = absurd (omega (arith, f, h))
       go (at_sum k m e f) (by_adding u n g h) = sums k u m n e g
       go (at_rising some e f) (by_hearing u n g h) = absurd (omega (arith, f, h))
       go (at_rising some e f) (by_adding u n g h) =
-          inr (placed v j i (u + u + 1) (children v + children v) g e (sum_send v u n))
+          inr (precedes_at_numbers v j i (u + u + 1) (children v + children v) g e (sum_precedes_send v u n))
 
   -- the place of a virtual rank's rank
   placed_at : (v : ℕ) → v < ranks → place (ahead ranks v root) ≡ v
@@ -355,17 +355,17 @@ module _ (ranks root bytes : ℕ) (rooted : root < ranks) (few : ranks ≤ rank_
       writer : (l : ℕ) → Writing (place r) l 0 → (l ≡ i) ⊎ Precedes (entry r) i l
       writer l (by_hearing k m f g) = absurd (omega (arith, g))
       writer l (by_adding k m f g) =
-          ⊎_elim (λ same. inl (f ∙ same)) (λ p. inr (placed (place r) i l i (k + k + 1) refl f p)) (later k (omega arith) m)
+          ⊎_elim (λ same. inl (f ∙ same)) (λ p. inr (precedes_at_numbers (place r) i l i (k + k + 1) refl f p)) (later k (omega arith) m)
   zero_origin r i (suc t) in_rank few_rounds e later earlier =
       inr (t + t + 1, adding_there (place r) t (omega (arith, few_rounds)), adding_writes (place r) t (omega (arith, few_rounds)), earlier t (omega arith), leaves_zero (place r) (t + t + 1) t (omega arith) ∙ sym (finds_zero (place r) i (suc t) e), λ l m w. writer l (writes_are (place r) l 0 m w))
     where
       writer : (l : ℕ) → Writing (place r) l 0 → ((l ≡ i) ⊎ (l ≡ t + t + 1)) ⊎ (Precedes (entry r) l (t + t + 1) ⊎ Precedes (entry r) i l)
       writer l (by_hearing k m f g) = absurd (omega (arith, g))
       writer l (by_adding k m f g) =
-          ⊎_elim (λ less. inr (inl (placed (place r) l (t + t + 1) (k + k + 1) (t + t + 1) f refl (sum_sum (place r) k t less (omega (arith, few_rounds)))))) (λ more. ⊎_elim (λ same. inl (inr (f ∙ ap (λ (a : ℕ). a + a + 1) same))) (λ other. ⊎_elim (λ same. inl (inl (f ∙ same))) (λ p. inr (inr (placed (place r) i l i (k + k + 1) refl f p))) (later k (omega (arith, more, other)) m)) (cases_eq k t)) (cases_lt k t)
+          ⊎_elim (λ less. inr (inl (precedes_at_numbers (place r) l (t + t + 1) (k + k + 1) (t + t + 1) f refl (sum_precedes_sum (place r) k t less (omega (arith, few_rounds)))))) (λ more. ⊎_elim (λ same. inl (inr (f ∙ ap (λ (a : ℕ). a + a + 1) same))) (λ other. ⊎_elim (λ same. inl (inl (f ∙ same))) (λ p. inr (inr (precedes_at_numbers (place r) i l i (k + k + 1) refl f p))) (later k (omega (arith, more, other)) m)) (cases_eq k t)) (cases_lt k t)
 
-  source : (r i s : ℕ) → IsThere ranks count entry r i → ((room : ℕ) (from t : Option ℕ) → (entry r i).kind ≡ Recv room from t → ⊥) → Mem s (touches (entry r i)) → Origin ranks count entry first (wanted (Reduce root) ranks) finds leaves r i s
-  source r i s there not_receive m = go (touches_are (place r) i s there.1 m)
+  touched_has_origin : (r i s : ℕ) → IsThere ranks count entry r i → ((room : ℕ) (from t : Option ℕ) → (entry r i).kind ≡ Recv room from t → ⊥) → Mem s (touches (entry r i)) → Origin ranks count entry first (wanted (Reduce root) ranks) finds leaves r i s
+  touched_has_origin r i s there not_receive m = go (touches_are (place r) i s there.1 m)
     where
       at_zero : 0 ≡ s → Origin ranks count entry first (wanted (Reduce root) ranks) finds leaves r i 0 → Origin ranks count entry first (wanted (Reduce root) ranks) finds leaves r i s
       at_zero e o =
@@ -375,15 +375,15 @@ module _ (ranks root bytes : ℕ) (rooted : root < ranks) (few : ranks ≤ rank_
       go (at_hearing j l e f) = absurd (not_receive _ _ _ (ap (λ (x : Entry). x.kind) (as_hearing (place r) i j l e)))
       go (at_term j l e f) =
           let high : 0 < s = omega (arith, f) in
-          inr (j + j, hearing_there (place r) j l, subst (λ (k : ℕ). Mem k (writes (entry r (j + j)))) f (hearing_writes (place r) j l), placed (place r) (j + j) i (j + j) (j + j + 1) refl e (receive_sum (place r) j l), leaves_other (place r) (j + j) j s (omega arith) high ∙ sym (finds_other (place r) i j s (omega (arith, e)) high), λ k n w. inl (inr (writer k (writes_are (place r) k s n w))))
+          inr (j + j, hearing_there (place r) j l, subst (λ (k : ℕ). Mem k (writes (entry r (j + j)))) f (hearing_writes (place r) j l), precedes_at_numbers (place r) (j + j) i (j + j) (j + j + 1) refl e (receive_precedes_sum (place r) j l), leaves_other (place r) (j + j) j s (omega arith) high ∙ sym (finds_other (place r) i j s (omega (arith, e)) high), λ k n w. inl (inr (writer k (writes_are (place r) k s n w))))
         where
           writer : (k : ℕ) → Writing (place r) k s → k ≡ j + j
           writer k (by_hearing u n g h) = omega (arith, f, g, h)
           writer k (by_adding u n g h) = absurd (omega (arith, f, h))
       go (at_sum j l e f) =
-          at_zero f (zero_origin r i j there.0 (omega (arith, l)) (omega (arith, e)) (λ u g n. ⊎_elim (λ same. inl (ap (λ (a : ℕ). a + a + 1) same ∙ sym e)) (λ d. inr (placed (place r) i (u + u + 1) (j + j + 1) (u + u + 1) e refl (sum_sum (place r) j u (omega (arith, g, d)) n))) (cases_eq u j)) (λ u g. placed (place r) (u + u + 1) i (u + u + 1) (j + j + 1) refl e (sum_sum (place r) u j g l)))
+          at_zero f (zero_origin r i j there.0 (omega (arith, l)) (omega (arith, e)) (λ u g n. ⊎_elim (λ same. inl (ap (λ (a : ℕ). a + a + 1) same ∙ sym e)) (λ d. inr (precedes_at_numbers (place r) i (u + u + 1) (j + j + 1) (u + u + 1) e refl (sum_precedes_sum (place r) j u (omega (arith, g, d)) n))) (cases_eq u j)) (λ u g. precedes_at_numbers (place r) (u + u + 1) i (u + u + 1) (j + j + 1) refl e (sum_precedes_sum (place r) u j g l)))
       go (at_rising some e f) =
-          at_zero f (zero_origin r i (children (place r)) there.0 (omega arith) (omega (arith, e)) (λ u g n. absurd (omega (arith, g, n))) (λ u g. placed (place r) (u + u + 1) i (u + u + 1) (children (place r) + children (place r)) refl e (sum_send (place r) u g)))
+          at_zero f (zero_origin r i (children (place r)) there.0 (omega arith) (omega (arith, e)) (λ u g n. absurd (omega (arith, g, n))) (λ u g. precedes_at_numbers (place r) (u + u + 1) i (u + u + 1) (children (place r) + children (place r)) refl e (sum_precedes_send (place r) u g)))
 
   summed : (r i nanos : ℕ) → IsThere ranks count entry r i → (entry r i).kind ≡ Calc nanos → (a : Adding) × ((entry r i).adds ≡ a ∷ []) × (merge (finds r i a.to) (finds r i a.from) ≡ leaves r i a.to)
   summed r i nanos there c = go (part_of (place r) i there.1)
@@ -399,31 +399,31 @@ module _ (ranks root bytes : ℕ) (rooted : root < ranks) (few : ranks ≤ rank_
           (record { from = j + 1; to = 0 }, ap (λ (x : Entry). x.adds) (as_adding (place r) i j l e), (λ n. merge (to_is n) (from_is n)) ∙ block_more ranks root j (place r) child ∙ sym (leaves_zero (place r) i j half))
 
   -- after its rounds there are no further virtual ranks in its part of the tree
-  no_more : (v : ℕ) → (children v ≡ low v) ⊎ (ranks ≤ v + 2 ^ children v)
-  no_more v =
+  rounds_cover_part : (v : ℕ) → (children v ≡ low v) ⊎ (ranks ≤ v + 2 ^ children v)
+  rounds_cover_part v =
       let most = rounds_low ranks few v in
       ⊎_elim (λ e. inl e) (λ d. ⊎_elim (λ child. absurd (let again = round_there ranks few v (children v) (omega (arith, most, d)) child in omega (arith, again))) (λ none. inr none) (cases_lt (v + 2 ^ children v) ranks)) (cases_eq (children v) (low v))
 
   -- so what it has then is all that its part has
-  has_all : (v : ℕ) → block ranks root (children v) v ≡ block ranks root (low v) v
-  has_all v =
-      ⊎_elim (λ e. ap (λ (j : ℕ). block ranks root j v) e) (λ g. block_same ranks root (children v) (low v) v g (let more : 2 ^ children v ≤ 2 ^ low v = pow_mono (rounds_low ranks few v) in omega (arith, g, more))) (no_more v)
+  part_is_complete : (v : ℕ) → block ranks root (children v) v ≡ block ranks root (low v) v
+  part_is_complete v =
+      ⊎_elim (λ e. ap (λ (j : ℕ). block ranks root j v) e) (λ g. block_same ranks root (children v) (low v) v g (let more : 2 ^ children v ≤ 2 ^ low v = pow_mono (rounds_low ranks few v) in omega (arith, g, more))) (rounds_cover_part v)
 
-  kept : (m : TreeEdge ranks) → map (finds (edge_send m).rank (edge_send m).op) (moved (entry (edge_send m).rank (edge_send m).op)) ≡ map (leaves (edge_recv m).rank (edge_recv m).op) (moved (entry (edge_recv m).rank (edge_recv m).op))
-  kept m =
+  message_keeps_values : (m : TreeEdge ranks) → map (finds (edge_send m).rank (edge_send m).op) (moved (entry (edge_send m).rank (edge_send m).op)) ≡ map (leaves (edge_recv m).rank (edge_recv m).op) (moved (entry (edge_recv m).rank (edge_recv m).op))
+  message_keeps_values m =
       sent ∙ ap (λ (v : Value). v ∷ []) same ∙ sym received
     where
       sent : map (finds (edge_send m).rank (edge_send m).op) (moved (entry (edge_send m).rank (edge_send m).op)) ≡ tree_finds m.child (children m.child + children m.child) 0 ∷ []
       sent =
-          ap (λ (v : ℕ). map (tree_finds v (children m.child + children m.child)) (moved (step v (children m.child + children m.child)))) (placed_at m.child m.inside) ∙ ap (λ (ks : List ℕ). map (tree_finds m.child (children m.child + children m.child)) ks) (ap moved (sends m.child) ∙ moved_slot 0)
+          ap (λ (v : ℕ). map (tree_finds v (children m.child + children m.child)) (moved (step v (children m.child + children m.child)))) (placed_at m.child m.inside) ∙ ap (λ (ks : List ℕ). map (tree_finds m.child (children m.child + children m.child)) ks) (ap moved (entry_sends m.child) ∙ slots_of_single_slot 0)
 
       received : map (leaves (edge_recv m).rank (edge_recv m).op) (moved (entry (edge_recv m).rank (edge_recv m).op)) ≡ tree_leaves (up m) (low m.child + low m.child) (low m.child + 1) ∷ []
       received =
-          ap (λ (v : ℕ). map (tree_leaves v (low m.child + low m.child)) (moved (step v (low m.child + low m.child)))) (placed_at (up m) (up_inside m)) ∙ ap (λ (ks : List ℕ). map (tree_leaves (up m) (low m.child + low m.child)) ks) (ap moved (hears (up m) (low m.child) (up_round m)) ∙ moved_slot (low m.child + 1))
+          ap (λ (v : ℕ). map (tree_leaves v (low m.child + low m.child)) (moved (step v (low m.child + low m.child)))) (placed_at (up m) (up_inside m)) ∙ ap (λ (ks : List ℕ). map (tree_leaves (up m) (low m.child + low m.child)) ks) (ap moved (entry_receives (up m) (low m.child) (up_round m)) ∙ slots_of_single_slot (low m.child + 1))
 
       same : tree_finds m.child (children m.child + children m.child) 0 ≡ tree_leaves (up m) (low m.child + low m.child) (low m.child + 1)
       same =
-          finds_zero m.child (children m.child + children m.child) (children m.child) (omega arith) ∙ has_all m.child ∙ ap (λ (v : ℕ). block ranks root (low m.child) v) (sym (up_child m)) ∙ sym (leaves_other (up m) (low m.child + low m.child) (low m.child) (low m.child + 1) (omega arith) (omega arith))
+          finds_zero m.child (children m.child + children m.child) (children m.child) (omega arith) ∙ part_is_complete m.child ∙ ap (λ (v : ℕ). block ranks root (low m.child) v) (sym (up_child m)) ∙ sym (leaves_other (up m) (low m.child + low m.child) (low m.child) (low m.child + 1) (omega arith) (omega arith))
 
   wanted_root : (r : ℕ) → r < ranks → r ≡ root → wanted (Reduce root) ranks r 0 (of_each ranks 0) ≡ true
   unfolding wanted
@@ -450,11 +450,11 @@ module _ (ranks root bytes : ℕ) (rooted : root < ranks) (few : ranks ≤ rank_
   root_has_all : (r n : ℕ) → r ≡ root → children (place r) ≡ n → block ranks root n (place r) ≡ of_each ranks 0
   root_has_all r n e f =
       let zero_is : place r ≡ 0 = ap (λ (q : ℕ). place q) e ∙ root_virtual ranks root in
-      ap (λ (j : ℕ). block ranks root j (place r)) (sym f) ∙ ap (λ (v : ℕ). block ranks root (children v) v) zero_is ∙ has_all 0 ∙ block_all ranks root (low 0) rooted (let all = low_zero in let whole = ap (λ (j : ℕ). 2 ^ j) all in omega (arith, whole, few))
+      ap (λ (j : ℕ). block ranks root j (place r)) (sym f) ∙ ap (λ (v : ℕ). block ranks root (children v) v) zero_is ∙ part_is_complete 0 ∙ block_all ranks root (low 0) rooted (let all = low_zero in let whole = ap (λ (j : ℕ). 2 ^ j) all in omega (arith, whole, few))
 
-  final : (r s : ℕ) → r < ranks → Final ranks count entry first (wanted (Reduce root) ranks) finds leaves r s
-  final r (suc s) l = inl (λ v. wanted_elsewhere r s v)
-  final r zero l = ⊎_elim (λ e. at_root e (children (place r)) refl) (λ differ. inl (λ v. wanted_other r differ v)) (cases_eq r root)
+  slots_end_as_wanted : (r s : ℕ) → r < ranks → Final ranks count entry first (wanted (Reduce root) ranks) finds leaves r s
+  slots_end_as_wanted r (suc s) l = inl (λ v. wanted_elsewhere r s v)
+  slots_end_as_wanted r zero l = ⊎_elim (λ e. at_root e (children (place r)) refl) (λ differ. inl (λ v. wanted_other r differ v)) (cases_eq r root)
     where
       at_root : r ≡ root → (n : ℕ) → children (place r) ≡ n → Final ranks count entry first (wanted (Reduce root) ranks) finds leaves r 0
       at_root e zero f =
@@ -469,18 +469,18 @@ module _ (ranks root bytes : ℕ) (rooted : root < ranks) (few : ranks ≤ rank_
           last : (j : ℕ) → Writing (place r) j 0 → (j ≡ t + t + 1) ⊎ Precedes (entry r) j (t + t + 1)
           last j (by_hearing k n g h) = absurd (omega (arith, h))
           last j (by_adding k n g h) =
-              ⊎_elim (λ same. inl (g ∙ ap (λ (a : ℕ). a + a + 1) same)) (λ d. inr (placed (place r) j (t + t + 1) (k + k + 1) (t + t + 1) g refl (sum_sum (place r) k t (omega (arith, n, f, d)) (omega (arith, f))))) (cases_eq k t)
+              ⊎_elim (λ same. inl (g ∙ ap (λ (a : ℕ). a + a + 1) same)) (λ d. inr (precedes_at_numbers (place r) j (t + t + 1) (k + k + 1) (t + t + 1) g refl (sum_precedes_sum (place r) k t (omega (arith, n, f, d)) (omega (arith, f))))) (cases_eq k t)
 
   blueprint : IsBlueprint ranks count entry first (wanted (Reduce root) ranks) finds leaves (TreeEdge ranks) bytes edge_send edge_recv (λ m. low m.child) (λ r i. tree_level (place r) i)
   blueprint = record {
     messages = edge_messages;
     lower = λ r i k there m. needs_lower (place r) i k there.1 m;
     same_level = same_level;
-    race = λ r i j k inside l m differ t w. race (place r) i j k l m differ t w;
-    source = source;
+    race = λ r i j k inside l m differ t w. conflicts_are_ordered (place r) i j k l m differ t w;
+    source = touched_has_origin;
     summed = summed;
-    kept = kept;
-    final = final;
+    kept = message_keeps_values;
+    final = slots_end_as_wanted;
   }
 
   -- bounds: what a rank gathers in slot 0, and sends; and what each child sends in the slot of its round
@@ -498,8 +498,8 @@ module _ (ranks root bytes : ℕ) (rooted : root < ranks) (few : ranks ≤ rank_
   unfolding load
   load_other r i differ = rw (ne_eqb i (children (place r) + children (place r)) (λ e. differ (sym e))) refl
 
-  loads : (r : ℕ) → sum_by (load r) (range_with_len 0 (count r)) ≤ 2 ^ children (place r)
-  loads r =
+  loads_of_rank_few : (r : ℕ) → sum_by (load r) (range_with_len 0 (count r)) ≤ 2 ^ children (place r)
+  loads_of_rank_few r =
       let only = (sum_only (load r) (children (place r) + children (place r)) (λ i differ. load_other r i differ) 0 (count r)).0 in
       let most = load_send r (children (place r) + children (place r)) refl in
       omega (arith, only, most)
@@ -512,9 +512,9 @@ module _ (ranks root bytes : ℕ) (rooted : root < ranks) (few : ranks ≤ rank_
       go true = omega arith
       go false = omega arith
 
-  first_none : (r k : ℕ) → first r (suc k) ≡ []
+  first_empty_elsewhere : (r k : ℕ) → first r (suc k) ≡ []
   unfolding initial
-  first_none r k = rw (ne_eqb (suc k) 0 (λ e. omega (arith, e))) (go (nat_lt r ranks))
+  first_empty_elsewhere r k = rw (ne_eqb (suc k) 0 (λ e. omega (arith, e))) (go (nat_lt r ranks))
     where
       go : (b : Bool) → ◌≡◌ {A = Value} (if b then [] else []) []
       go true = refl
@@ -526,7 +526,7 @@ module _ (ranks root bytes : ℕ) (rooted : root < ranks) (few : ranks ≤ rank_
       let some = pow_pos (children (place r)) in
       let room = doubling_zero (children (place r)) in
       omega (arith, one, some, room)
-  first_cap r (suc k) = subst (λ (v : Value). length v ≤ cap r (suc k)) (sym (first_none r k)) (omega arith)
+  first_cap r (suc k) = subst (λ (v : Value). length v ≤ cap r (suc k)) (sym (first_empty_elsewhere r k)) (omega arith)
 
   leaves_cap : (r i s : ℕ) → IsThere ranks count entry r i → Mem s (writes (entry r i)) → length (leaves r i s) ≤ cap r s
   leaves_cap r i s there w = go (writes_are (place r) i s there.1 w)
@@ -546,7 +546,7 @@ module _ (ranks root bytes : ℕ) (rooted : root < ranks) (few : ranks ≤ rank_
       let is = ap length (finds_zero m.child (children m.child + children m.child) (children m.child) (omega arith)) in
       let size = length-block ranks root (children m.child) m.child in
       let room : load (ahead ranks m.child root) (children m.child + children m.child) ≡ 2 ^ children m.child = load_send (ahead ranks m.child root) (children m.child + children m.child) (ap (λ (v : ℕ). children v + children v) (sym (placed_at m.child m.inside))) ∙ ap (λ (v : ℕ). 2 ^ children v) (placed_at m.child m.inside) in
-      subst (λ (vs : List Value). sum_by (λ (v : Value). length v) vs ≤ load (ahead ranks m.child root) (children m.child + children m.child)) (sym (ap (λ (v : ℕ). map (tree_finds v (children m.child + children m.child)) (moved (step v (children m.child + children m.child)))) (placed_at m.child m.inside) ∙ ap (λ (ks : List ℕ). map (tree_finds m.child (children m.child + children m.child)) ks) (ap moved (sends m.child) ∙ moved_slot 0))) (omega (arith, is, size, room))
+      subst (λ (vs : List Value). sum_by (λ (v : Value). length v) vs ≤ load (ahead ranks m.child root) (children m.child + children m.child)) (sym (ap (λ (v : ℕ). map (tree_finds v (children m.child + children m.child)) (moved (step v (children m.child + children m.child)))) (placed_at m.child m.inside) ∙ ap (λ (ks : List ℕ). map (tree_finds m.child (children m.child + children m.child)) ks) (ap moved (entry_sends m.child) ∙ slots_of_single_slot 0))) (omega (arith, is, size, room))
 
   -- the rounds of a virtual rank double no further than to twice its part of the tree
   power_few : (v : ℕ) → v < ranks → 2 ^ children v ≤ 2 * block_size ranks v
@@ -565,11 +565,11 @@ module _ (ranks root bytes : ℕ) (rooted : root < ranks) (few : ranks ≤ rank_
           let twice = pow-suc 2 t in
           omega (arith, child, low_many, twice)
 
-  total : sum_below ranks (λ r. sum_below (2 ^ 32) (cap r)) + sum_by (λ r. sum_by (load r) (range_with_len 0 (count r))) (range_with_len 0 ranks) ≤ weight_limit
-  total =
+  total_within_limit : sum_below ranks (λ r. sum_below (2 ^ 32) (cap r)) + sum_by (λ r. sum_by (load r) (range_with_len 0 (count r))) (range_with_len 0 ranks) ≤ weight_limit
+  total_within_limit =
       let sizes = sizes_sum ranks few root rooted in
       let stores = sum_below_le (λ r. sum_below (2 ^ 32) (cap r)) (λ r. 4 * block_size ranks (place r)) ranks (λ r l. store_few r l) in
-      let sent = sum_below_le (λ r. sum_by (load r) (range_with_len 0 (count r))) (λ r. 2 * block_size ranks (place r)) ranks (λ r l. let s = loads r in let p = power_few (place r) (back_below ranks r root l) in omega (arith, s, p)) in
+      let sent = sum_below_le (λ r. sum_by (load r) (range_with_len 0 (count r))) (λ r. 2 * block_size ranks (place r)) ranks (λ r l. let s = loads_of_rank_few r in let p = power_few (place r) (back_below ranks r root l) in omega (arith, s, p)) in
       let four = sum_below_times 4 (λ r. block_size ranks (place r)) ranks in
       let two = sum_below_times 2 (λ r. block_size ranks (place r)) ranks in
       let range = sum_range (λ r. sum_by (load r) (range_with_len 0 (count r))) ranks in
@@ -581,12 +581,12 @@ module _ (ranks root bytes : ℕ) (rooted : root < ranks) (few : ranks ≤ rank_
           let p = power_few (place r) (back_below ranks r root l) in
           omega (arith, s, p)
 
-  bounded : IsBounded ranks count entry first (wanted (Reduce root) ranks) finds leaves (TreeEdge ranks) edge_send cap load
-  bounded = record {
+  blueprint_is_bounded : IsBounded ranks count entry first (wanted (Reduce root) ranks) finds leaves (TreeEdge ranks) edge_send cap load
+  blueprint_is_bounded = record {
     first_cap = first_cap;
     leaves_cap = leaves_cap;
     finds_load = finds_load;
-    total = total;
+    total = total_within_limit;
   }
 
   low_notes : (v i : ℕ) → i < tree_count v → All NamesLowSlots (notes_of i (step v i)) × (sum_by moved_count (notes_of i (step v i)) ≤ 1)
@@ -606,12 +606,12 @@ module _ (ranks root bytes : ℕ) (rooted : root < ranks) (few : ranks ≤ rank_
           subst (λ (x : Entry). Low x) (sym (as_adding v i j m e)) (All_one NamesLowSlots (Adds i (j + 1) 0) (omega (arith, m, n), omega arith), omega arith)
       go (rising some e) = subst (λ (x : Entry). Low x) (sym (as_rising v i e)) (one 0 (omega arith))
 
-  small : bytes ≤ MAX_BYTES → IsSmall (made (Reduce root) ranks bytes)
+  made_is_small : bytes ≤ MAX_BYTES → IsSmall (made (Reduce root) ranks bytes)
   unfolding made
-  small size =
+  made_is_small size =
       entries_small ranks count entry 1 (λ r l. let n = rounds_few ranks few (place r) in let u = upward_few (place r) in omega (arith, n, u)) (λ r i l m. (low_notes (place r) i m).0) (λ r i l m. (low_notes (place r) i m).1) (let ops = tree_total ranks few root rooted tree_count (λ v. let u = upward_few v in omega (arith, u)) in omega (arith, ops))
 
   pub reduce_certified : bytes ≤ MAX_BYTES → IsCertifiedFor (Reduce root) (made (Reduce root) ranks bytes)
   unfolding made
   reduce_certified size =
-      subst (λ (n : ℕ). IsCertified (made (Reduce root) ranks bytes) (initial (Reduce root) n) (wanted (Reduce root) n)) (sym (length_plans ranks count entry)) (blueprint_certified ranks count entry first (wanted (Reduce root) ranks) finds leaves (TreeEdge ranks) bytes edge_send edge_recv (λ m. low m.child) (λ r i. tree_level (place r) i) blueprint cap load bounded (small size))
+      subst (λ (n : ℕ). IsCertified (made (Reduce root) ranks bytes) (initial (Reduce root) n) (wanted (Reduce root) n)) (sym (length_plans ranks count entry)) (blueprint_certified ranks count entry first (wanted (Reduce root) ranks) finds leaves (TreeEdge ranks) bytes edge_send edge_recv (λ m. low m.child) (λ r i. tree_level (place r) i) blueprint cap load blueprint_is_bounded (made_is_small size))

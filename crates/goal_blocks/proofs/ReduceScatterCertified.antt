@@ -27,7 +27,7 @@ use Rattle.goal_blocks.proofs.RingAndTree.{ahead_below, back_below}
 use Rattle.goal_blocks.proofs.MadePaired.{at, same_place}
 use Rattle.goal_blocks.proofs.Sizes.{sum_below_few, sum_low_few, entries_small}
 use Rattle.goal_blocks.proofs.Totals.{entries_few, sum_range_few}
-use Rattle.goal_blocks.proofs.AllgatherCertified.{moved_slot}
+use Rattle.goal_blocks.proofs.AllgatherCertified.{slots_of_single_slot}
 use Rattle.goal_blocks.proofs.Rounds.{cases_triple}
 use Rattle.goal_blocks.proofs.Blueprint.{moved, touches, writes, Precedes, now, IsThere, Origin, Final, IsBlueprint, IsBounded, blueprint_certified}
 use Rattle.goal_blocks.proofs.Wishes.{is_value_reflexive}
@@ -44,8 +44,8 @@ module _ (ranks bytes : ℕ) (some : 0 < ranks) (few : ranks ≤ 128) where
   first = initial ReduceScatter ranks
 
   -- back by 1 up to all ranks, each comes once
-  once : (r a b : ℕ) → r < ranks → 0 < a → a ≤ ranks → 0 < b → b ≤ ranks → back ranks r a ≡ back ranks r b → a ≡ b
-  once r a b p q s t u e = go (back_is ranks r a) (back_is ranks r b)
+  back_injective_up_to_ranks : (r a b : ℕ) → r < ranks → 0 < a → a ≤ ranks → 0 < b → b ≤ ranks → back ranks r a ≡ back ranks r b → a ≡ b
+  back_injective_up_to_ranks r a b p q s t u e = go (back_is ranks r a) (back_is ranks r b)
     where
       go : ((r < a) × (back ranks r a ≡ r + ranks - a)) ⊎ ((a ≤ r) × (back ranks r a ≡ r - a)) → ((r < b) × (back ranks r b ≡ r + ranks - b)) ⊎ ((b ≤ r) × (back ranks r b ≡ r - b)) → a ≡ b
       go (inl (l, f)) (inl (m, g)) = omega (arith, p, q, s, t, u, e, l, f, m, g)
@@ -54,8 +54,8 @@ module _ (ranks bytes : ℕ) (some : 0 < ranks) (few : ranks ≤ 128) where
       go (inr (l, f)) (inr (m, g)) = omega (arith, p, q, s, t, u, e, l, f, m, g)
 
   -- two ranks that are equally far behind one place are the same
-  one_rank : (k r c : ℕ) → k < ranks → r < ranks → c ≤ ranks → back ranks k c ≡ back ranks r c → k ≡ r
-  one_rank k r c p q s e = go (back_is ranks k c) (back_is ranks r c)
+  back_cancels : (k r c : ℕ) → k < ranks → r < ranks → c ≤ ranks → back ranks k c ≡ back ranks r c → k ≡ r
+  back_cancels k r c p q s e = go (back_is ranks k c) (back_is ranks r c)
     where
       go : ((k < c) × (back ranks k c ≡ k + ranks - c)) ⊎ ((c ≤ k) × (back ranks k c ≡ k - c)) → ((r < c) × (back ranks r c ≡ r + ranks - c)) ⊎ ((c ≤ r) × (back ranks r c ≡ r - c)) → k ≡ r
       go (inl (l, f)) (inl (m, g)) = omega (arith, p, q, s, e, l, f, m, g)
@@ -118,7 +118,7 @@ module _ (ranks bytes : ℕ) (some : 0 < ranks) (few : ranks ≤ 128) where
   window_more : (r b s : ℕ) → r < ranks → b < ranks → back ranks r (b + 1) ≡ s → insert_one (record { rank = r; item = b }) (window b s) ≡ window b (s + 1)
   unfolding window
   window_more r b s p q e =
-      insert_among (is_within b s) (is_within b (s + 1)) r b 0 ranks (omega arith) (omega arith) (omega (arith, p)) (within_no b s r (omega (arith, e))) (within_yes b (s + 1) r (omega (arith, e))) (λ k inside d. within_same b s k (λ f. d (one_rank k r (b + 1) inside p (omega (arith, q)) (f ∙ sym e))))
+      insert_among (is_within b s) (is_within b (s + 1)) r b 0 ranks (omega arith) (omega arith) (omega (arith, p)) (within_no b s r (omega (arith, e))) (within_yes b (s + 1) r (omega (arith, e))) (λ k inside d. within_same b s k (λ f. d (back_cancels k r (b + 1) inside p (omega (arith, q)) (f ∙ sym e))))
 
   window_none : (b : ℕ) → window b 0 ≡ []
   unfolding window
@@ -147,8 +147,8 @@ module _ (ranks bytes : ℕ) (some : 0 < ranks) (few : ranks ≤ 128) where
   abbrev level : ℕ → ℕ → ℕ
   level r i = 2 * (i / 3) + (i % 3) / 2
 
-  high : (k : ℕ) → ranks ≤ k → nat_lt k ranks ≡ false
-  high k g = go (nat_lt k ranks) refl
+  high_slot_not_below : (k : ℕ) → ranks ≤ k → nat_lt k ranks ≡ false
+  high_slot_not_below k g = go (nat_lt k ranks) refl
     where
       go : (t : Bool) → nat_lt k ranks ≡ t → t ≡ false
       go true e = absurd (let l = ltb-true k ranks e in omega (arith, l, g))
@@ -172,7 +172,7 @@ module _ (ranks bytes : ℕ) (some : 0 < ranks) (few : ranks ≤ 128) where
   finds_heard r s k =
       let third : (3 * s + 2) / 3 ≡ s = omega arith in
       let number : ranks + k - ranks ≡ k = omega arith in
-      rw (high (ranks + k) (omega arith), third, number) refl
+      rw (high_slot_not_below (ranks + k) (omega arith), third, number) refl
 
   leaves_sum : (r s k : ℕ) → k < ranks → rs_leaves r (3 * s + 2) k ≡ window k (s + 2)
   unfolding rs_leaves
@@ -185,7 +185,7 @@ module _ (ranks bytes : ℕ) (some : 0 < ranks) (few : ranks ≤ 128) where
   leaves_heard r s k =
       let third : (3 * s + 1) / 3 ≡ s = omega arith in
       let number : ranks + k - ranks ≡ k = omega arith in
-      rw (high (ranks + k) (omega arith), third, number) refl
+      rw (high_slot_not_below (ranks + k) (omega arith), third, number) refl
 
   as_send : (r i s : ℕ) → i ≡ 3 * s → entry r i ≡ sending bytes (ahead ranks r 1) s (before_round s) (slot (back ranks r (s + 1)))
   unfolding reduce_scatter_in
@@ -239,7 +239,7 @@ module _ (ranks bytes : ℕ) (some : 0 < ranks) (few : ranks ≤ 128) where
   }
 
   at_slot : (j k : ℕ) → Mem k (flat_map slots_of_span (slot j)) → j ≡ k
-  at_slot j k x = ⊎_elim (λ e. e) (λ none. absurd none) (subst (λ (ks : List ℕ). Mem k ks) (moved_slot j) x)
+  at_slot j k x = ⊎_elim (λ e. e) (λ none. absurd none) (subst (λ (ks : List ℕ). Mem k ks) (slots_of_single_slot j) x)
 
   needs_are : (r i k : ℕ) → Mem k (entry r i).needs → ((t : ℕ) × (i ≡ 3 * suc t) × (k ≡ 3 * t + 2)) ⊎ ((t : ℕ) × (i ≡ 3 * t + 2) × (k ≡ 3 * t + 1))
   needs_are r i k m = ⊎_elim (λ p. sent p.0 p.1 (subst (λ (x : Entry). Mem k x.needs) (as_send r i p.0 p.1) m)) (λ c. ⊎_elim (λ p. absurd (subst (λ (x : Entry). Mem k x.needs) (as_receive r i p.0 p.1) m)) (λ p. inr (p.0, p.1, one p.0 (subst (λ (x : Entry). Mem k x.needs) (as_sum r i p.0 p.1) m))) c) (cases_triple i)
@@ -253,17 +253,17 @@ module _ (ranks bytes : ℕ) (some : 0 < ranks) (few : ranks ≤ 128) where
       one t (inl f) = sym f
       one t (inr x) = absurd x
 
-  lower : (r i k : ℕ) → IsThere ranks count entry r i → Mem k (entry r i).needs → (k < count r) × (level r k < level r i)
-  lower r i k there m =
+  needs_are_lower : (r i k : ℕ) → IsThere ranks count entry r i → Mem k (entry r i).needs → (k < count r) × (level r k < level r i)
+  needs_are_lower r i k there m =
       let inside = there.1 in
       ⊎_elim (λ p. let f = p.1 in let g = p.2 in (omega (arith, inside, f, g), omega (arith, f, g))) (λ p. let f = p.1 in let g = p.2 in (omega (arith, inside, f, g), omega (arith, f, g))) (needs_are r i k m)
 
-  sum_send : (r t i j : ℕ) → i ≡ 3 * t + 2 → j ≡ 3 * suc t → Precedes (entry r) i j
-  sum_send r t i j e f =
+  sum_precedes_send : (r t i j : ℕ) → i ≡ 3 * t + 2 → j ≡ 3 * suc t → Precedes (entry r) i j
+  sum_precedes_send r t i j e f =
       now (subst (λ (x : Entry). Mem i x.needs) (sym (as_send r j (suc t) f)) (inl (sym e)))
 
-  receive_sum : (r t i j : ℕ) → i ≡ 3 * t + 1 → j ≡ 3 * t + 2 → Precedes (entry r) i j
-  receive_sum r t i j e f = now (subst (λ (x : Entry). Mem i x.needs) (sym (as_sum r j t f)) (inl (sym e)))
+  receive_precedes_sum : (r t i j : ℕ) → i ≡ 3 * t + 1 → j ≡ 3 * t + 2 → Precedes (entry r) i j
+  receive_precedes_sum r t i j e f = now (subst (λ (x : Entry). Mem i x.needs) (sym (as_sum r j t f)) (inl (sym e)))
 
   writes_are : (r i k : ℕ) → Mem k (writes (entry r i)) → ((s : ℕ) × (i ≡ 3 * s + 1) × (ranks + back ranks r (s + 2) ≡ k)) ⊎ ((s : ℕ) × (i ≡ 3 * s + 2) × (back ranks r (s + 2) ≡ k))
   writes_are r i k m = ⊎_elim (λ p. absurd (subst (λ (x : Entry). Mem k (writes x)) (as_send r i p.0 p.1) m)) (λ c. ⊎_elim (λ p. inl (p.0, p.1, at_slot (ranks + back ranks r (p.0 + 2)) k (subst (λ (x : Entry). Mem k (writes x)) (as_receive r i p.0 p.1) m))) (λ p. inr (p.0, p.1, one (back ranks r (p.0 + 2)) (subst (λ (x : Entry). Mem k (writes x)) (as_sum r i p.0 p.1) m))) c) (cases_triple i)
@@ -274,7 +274,7 @@ module _ (ranks bytes : ℕ) (some : 0 < ranks) (few : ranks ≤ 128) where
 
   receive_writes : (r s : ℕ) → Mem (ranks + back ranks r (s + 2)) (writes (entry r (3 * s + 1)))
   receive_writes r s =
-      subst (λ (x : Entry). Mem (ranks + back ranks r (s + 2)) (writes x)) (sym (as_receive r (3 * s + 1) s refl)) (subst (λ (ks : List ℕ). Mem (ranks + back ranks r (s + 2)) ks) (sym (moved_slot (ranks + back ranks r (s + 2)))) (inl refl))
+      subst (λ (x : Entry). Mem (ranks + back ranks r (s + 2)) (writes x)) (sym (as_receive r (3 * s + 1) s refl)) (subst (λ (ks : List ℕ). Mem (ranks + back ranks r (s + 2)) ks) (sym (slots_of_single_slot (ranks + back ranks r (s + 2)))) (inl refl))
 
   sum_writes : (r s : ℕ) → Mem (back ranks r (s + 2)) (writes (entry r (3 * s + 2)))
   sum_writes r s =
@@ -289,36 +289,36 @@ module _ (ranks bytes : ℕ) (some : 0 < ranks) (few : ranks ≤ 128) where
       two a b (inr (inr x)) = absurd x
 
   -- one slot is written by one operation
-  sum_once : (r s t k : ℕ) → r < ranks → s + 1 < ranks → t + 1 < ranks → back ranks r (s + 2) ≡ k → back ranks r (t + 2) ≡ k → s ≡ t
-  sum_once r s t k p l m e f =
-      let same = once r (s + 2) (t + 2) p (omega arith) (omega (arith, l)) (omega arith) (omega (arith, m)) (e ∙ sym f) in omega (arith, same)
+  slot_summed_once : (r s t k : ℕ) → r < ranks → s + 1 < ranks → t + 1 < ranks → back ranks r (s + 2) ≡ k → back ranks r (t + 2) ≡ k → s ≡ t
+  slot_summed_once r s t k p l m e f =
+      let same = back_injective_up_to_ranks r (s + 2) (t + 2) p (omega arith) (omega (arith, l)) (omega arith) (omega (arith, m)) (e ∙ sym f) in omega (arith, same)
 
   -- a send of a slot comes a step after the sum that writes it
-  send_after : (r s t k : ℕ) → r < ranks → s + 1 < ranks → t + 1 < ranks → back ranks r (s + 1) ≡ k → back ranks r (t + 2) ≡ k → s ≡ suc t
-  send_after r s t k p l m e f =
-      let same = once r (s + 1) (t + 2) p (omega arith) (omega (arith, l)) (omega arith) (omega (arith, m)) (e ∙ sym f) in omega (arith, same)
+  send_after_sum : (r s t k : ℕ) → r < ranks → s + 1 < ranks → t + 1 < ranks → back ranks r (s + 1) ≡ k → back ranks r (t + 2) ≡ k → s ≡ suc t
+  send_after_sum r s t k p l m e f =
+      let same = back_injective_up_to_ranks r (s + 1) (t + 2) p (omega arith) (omega (arith, l)) (omega arith) (omega (arith, m)) (e ∙ sym f) in omega (arith, same)
 
-  race : (r i j k : ℕ) → r < ranks → i < count r → j < count r → (i ≡ j → ⊥) → Mem k (touches (entry r i)) → Mem k (writes (entry r j)) → Precedes (entry r) i j ⊎ Precedes (entry r) j i
-  race r i j k p l m differ t w = go (touches_are r i k t) (writes_are r j k w)
+  conflicts_are_ordered : (r i j k : ℕ) → r < ranks → i < count r → j < count r → (i ≡ j → ⊥) → Mem k (touches (entry r i)) → Mem k (writes (entry r j)) → Precedes (entry r) i j ⊎ Precedes (entry r) j i
+  conflicts_are_ordered r i j k p l m differ t w = go (touches_are r i k t) (writes_are r j k w)
     where
       go : ((s : ℕ) × (i ≡ 3 * s) × (back ranks r (s + 1) ≡ k)) ⊎ (((s : ℕ) × (i ≡ 3 * s + 1) × (ranks + back ranks r (s + 2) ≡ k)) ⊎ ((s : ℕ) × (i ≡ 3 * s + 2) × ((ranks + back ranks r (s + 2) ≡ k) ⊎ (back ranks r (s + 2) ≡ k)))) → ((s : ℕ) × (j ≡ 3 * s + 1) × (ranks + back ranks r (s + 2) ≡ k)) ⊎ ((s : ℕ) × (j ≡ 3 * s + 2) × (back ranks r (s + 2) ≡ k)) → Precedes (entry r) i j ⊎ Precedes (entry r) j i
       go (inl (s, e, f)) (inl (u, g, h)) = absurd (let low = back_below ranks r (s + 1) p in omega (arith, f, h, low))
       go (inl (s, e, f)) (inr (u, g, h)) =
-          let same = send_after r s u k p (omega (arith, l, e)) (omega (arith, m, g)) f h in
-          inr (sum_send r u j i g (e ∙ ap (λ (n : ℕ). 3 * n) same))
+          let same = send_after_sum r s u k p (omega (arith, l, e)) (omega (arith, m, g)) f h in
+          inr (sum_precedes_send r u j i g (e ∙ ap (λ (n : ℕ). 3 * n) same))
       go (inr (inl (s, e, f))) (inl (u, g, h)) =
-          absurd (differ (let same = sum_once r s u (k - ranks) p (omega (arith, l, e)) (omega (arith, m, g)) (omega (arith, f)) (omega (arith, h)) in e ∙ ap (λ (n : ℕ). 3 * n + 1) same ∙ sym g))
+          absurd (differ (let same = slot_summed_once r s u (k - ranks) p (omega (arith, l, e)) (omega (arith, m, g)) (omega (arith, f)) (omega (arith, h)) in e ∙ ap (λ (n : ℕ). 3 * n + 1) same ∙ sym g))
       go (inr (inl (s, e, f))) (inr (u, g, h)) =
           absurd (let low = back_below ranks r (u + 2) p in omega (arith, f, h, low))
       go (inr (inr (s, e, inl f))) (inl (u, g, h)) =
-          let same = sum_once r u s (k - ranks) p (omega (arith, m, g)) (omega (arith, l, e)) (omega (arith, h)) (omega (arith, f)) in
-          inr (receive_sum r s j i (g ∙ ap (λ (n : ℕ). 3 * n + 1) same) e)
+          let same = slot_summed_once r u s (k - ranks) p (omega (arith, m, g)) (omega (arith, l, e)) (omega (arith, h)) (omega (arith, f)) in
+          inr (receive_precedes_sum r s j i (g ∙ ap (λ (n : ℕ). 3 * n + 1) same) e)
       go (inr (inr (s, e, inl f))) (inr (u, g, h)) =
           absurd (let low = back_below ranks r (u + 2) p in omega (arith, f, h, low))
       go (inr (inr (s, e, inr f))) (inl (u, g, h)) =
           absurd (let low = back_below ranks r (s + 2) p in omega (arith, f, h, low))
       go (inr (inr (s, e, inr f))) (inr (u, g, h)) =
-          absurd (differ (let same = sum_once r s u k p (omega (arith, l, e)) (omega (arith, m, g)) f h in e ∙ ap (λ (n : ℕ). 3 * n + 2) same ∙ sym g))
+          absurd (differ (let same = slot_summed_once r s u k p (omega (arith, l, e)) (omega (arith, m, g)) f h in e ∙ ap (λ (n : ℕ). 3 * n + 2) same ∙ sym g))
 
   first_own : (r k : ℕ) → r < ranks → k < ranks → first r k ≡ single r k
   unfolding initial
@@ -327,20 +327,20 @@ module _ (ranks bytes : ℕ) (some : 0 < ranks) (few : ranks ≤ 128) where
   abbrev TheOrigin : ℕ → ℕ → ℕ → Type 0
   TheOrigin r i k = Origin ranks count entry first (wanted ReduceScatter ranks) rs_finds rs_leaves r i k
 
-  source : (r i k : ℕ) → IsThere ranks count entry r i → ((room : ℕ) (f t : Option ℕ) → (entry r i).kind ≡ Recv room f t → ⊥) → Mem k (touches (entry r i)) → TheOrigin r i k
-  source r i k there not_receive t = go (touches_are r i k t)
+  touched_has_origin : (r i k : ℕ) → IsThere ranks count entry r i → ((room : ℕ) (f t : Option ℕ) → (entry r i).kind ≡ Recv room f t → ⊥) → Mem k (touches (entry r i)) → TheOrigin r i k
+  touched_has_origin r i k there not_receive t = go (touches_are r i k t)
     where
       sent : (s : ℕ) → i ≡ 3 * s → back ranks r (s + 1) ≡ k → k < ranks → TheOrigin r i k
       sent zero e f low =
           let p = there.0 in
           let l = there.1 in
           let b = back ranks r 1 in
-          inl (first_own r k p low ∙ sym (ap (λ (n : ℕ). rs_finds r n k) e ∙ finds_send r 0 k low ∙ ap (λ (n : ℕ). window n 1) (sym f) ∙ window_one r b p (back_below ranks r 1 p) (after_back r 0 p some) ∙ ap (λ (n : ℕ). single r n) f), λ j m w. ⊎_elim (λ v. let h = v.2 in absurd (omega (arith, h, low))) (λ v. let g = v.1 in absurd (let same = send_after r 0 v.0 k p (omega (arith, l, e)) (omega (arith, m, g)) f v.2 in omega (arith, same))) (writes_are r j k w))
+          inl (first_own r k p low ∙ sym (ap (λ (n : ℕ). rs_finds r n k) e ∙ finds_send r 0 k low ∙ ap (λ (n : ℕ). window n 1) (sym f) ∙ window_one r b p (back_below ranks r 1 p) (after_back r 0 p some) ∙ ap (λ (n : ℕ). single r n) f), λ j m w. ⊎_elim (λ v. let h = v.2 in absurd (omega (arith, h, low))) (λ v. let g = v.1 in absurd (let same = send_after_sum r 0 v.0 k p (omega (arith, l, e)) (omega (arith, m, g)) f v.2 in omega (arith, same))) (writes_are r j k w))
       sent (suc u) e f low =
           let p = there.0 in
           let l = there.1 in
           let place : back ranks r (u + 2) ≡ k = ap (λ (n : ℕ). back ranks r n) (omega arith) ∙ f in
-          inr (3 * u + 2, omega (arith, l, e), subst (λ (n : ℕ). Mem n (writes (entry r (3 * u + 2)))) place (sum_writes r u), sum_send r u (3 * u + 2) i refl e, leaves_sum r u k low ∙ ap (λ (n : ℕ). window k n) (omega arith) ∙ sym (ap (λ (n : ℕ). rs_finds r n k) e ∙ finds_send r (suc u) k low), λ j m w. inl (inr (⊎_elim (λ v. let h = v.2 in absurd (omega (arith, h, low))) (λ v. let g = v.1 in let same = sum_once r v.0 u k p (omega (arith, m, g)) (omega (arith, l, e)) v.2 place in g ∙ ap (λ (n : ℕ). 3 * n + 2) same) (writes_are r j k w))))
+          inr (3 * u + 2, omega (arith, l, e), subst (λ (n : ℕ). Mem n (writes (entry r (3 * u + 2)))) place (sum_writes r u), sum_precedes_send r u (3 * u + 2) i refl e, leaves_sum r u k low ∙ ap (λ (n : ℕ). window k n) (omega arith) ∙ sym (ap (λ (n : ℕ). rs_finds r n k) e ∙ finds_send r (suc u) k low), λ j m w. inl (inr (⊎_elim (λ v. let h = v.2 in absurd (omega (arith, h, low))) (λ v. let g = v.1 in let same = slot_summed_once r v.0 u k p (omega (arith, m, g)) (omega (arith, l, e)) v.2 place in g ∙ ap (λ (n : ℕ). 3 * n + 2) same) (writes_are r j k w))))
 
       go : ((s : ℕ) × (i ≡ 3 * s) × (back ranks r (s + 1) ≡ k)) ⊎ (((s : ℕ) × (i ≡ 3 * s + 1) × (ranks + back ranks r (s + 2) ≡ k)) ⊎ ((s : ℕ) × (i ≡ 3 * s + 2) × ((ranks + back ranks r (s + 2) ≡ k) ⊎ (back ranks r (s + 2) ≡ k)))) → TheOrigin r i k
       go (inl (s, e, f)) = sent s e f (subst (λ (n : ℕ). n < ranks) f (back_below ranks r (s + 1) there.0))
@@ -349,12 +349,12 @@ module _ (ranks bytes : ℕ) (some : 0 < ranks) (few : ranks ≤ 128) where
           let p = there.0 in
           let l = there.1 in
           let b = back ranks r (s + 2) in
-          inr (3 * s + 1, omega (arith, l, e), subst (λ (n : ℕ). Mem n (writes (entry r (3 * s + 1)))) f (receive_writes r s), receive_sum r s (3 * s + 1) i refl e, ap (λ (n : ℕ). rs_leaves r (3 * s + 1) n) (sym f) ∙ leaves_heard r s b ∙ sym (ap (λ (n : ℕ). rs_finds r n k) e ∙ ap (λ (n : ℕ). rs_finds r (3 * s + 2) n) (sym f) ∙ finds_heard r s b), λ j m w. inl (inr (⊎_elim (λ v. let g = v.1 in let h = v.2 in let same = sum_once r v.0 s (k - ranks) p (omega (arith, m, g)) (omega (arith, l, e)) (omega (arith, h)) (omega (arith, f)) in g ∙ ap (λ (n : ℕ). 3 * n + 1) same) (λ v. let h = v.2 in absurd (let low = back_below ranks r (v.0 + 2) p in omega (arith, f, h, low))) (writes_are r j k w))))
+          inr (3 * s + 1, omega (arith, l, e), subst (λ (n : ℕ). Mem n (writes (entry r (3 * s + 1)))) f (receive_writes r s), receive_precedes_sum r s (3 * s + 1) i refl e, ap (λ (n : ℕ). rs_leaves r (3 * s + 1) n) (sym f) ∙ leaves_heard r s b ∙ sym (ap (λ (n : ℕ). rs_finds r n k) e ∙ ap (λ (n : ℕ). rs_finds r (3 * s + 2) n) (sym f) ∙ finds_heard r s b), λ j m w. inl (inr (⊎_elim (λ v. let g = v.1 in let h = v.2 in let same = slot_summed_once r v.0 s (k - ranks) p (omega (arith, m, g)) (omega (arith, l, e)) (omega (arith, h)) (omega (arith, f)) in g ∙ ap (λ (n : ℕ). 3 * n + 1) same) (λ v. let h = v.2 in absurd (let low = back_below ranks r (v.0 + 2) p in omega (arith, f, h, low))) (writes_are r j k w))))
       go (inr (inr (s, e, inr f))) =
           let p = there.0 in
           let l = there.1 in
           let low = subst (λ (n : ℕ). n < ranks) f (back_below ranks r (s + 2) p) in
-          inl (first_own r k p low ∙ sym (ap (λ (n : ℕ). rs_finds r n k) e ∙ finds_own r s k low), λ j m w. ⊎_elim (λ v. let h = v.2 in absurd (omega (arith, h, low))) (λ v. let g = v.1 in inl (let same = sum_once r v.0 s k p (omega (arith, m, g)) (omega (arith, l, e)) v.2 f in g ∙ ap (λ (n : ℕ). 3 * n + 2) same ∙ sym e)) (writes_are r j k w))
+          inl (first_own r k p low ∙ sym (ap (λ (n : ℕ). rs_finds r n k) e ∙ finds_own r s k low), λ j m w. ⊎_elim (λ v. let h = v.2 in absurd (omega (arith, h, low))) (λ v. let g = v.1 in inl (let same = slot_summed_once r v.0 s k p (omega (arith, m, g)) (omega (arith, l, e)) v.2 f in g ∙ ap (λ (n : ℕ). 3 * n + 2) same ∙ sym e)) (writes_are r j k w))
 
   summed : (r i nanos : ℕ) → IsThere ranks count entry r i → (entry r i).kind ≡ Calc nanos → (a : Adding) × ((entry r i).adds ≡ a ∷ []) × (merge (rs_finds r i a.to) (rs_finds r i a.from) ≡ rs_leaves r i a.to)
   unfolding merge
@@ -387,54 +387,54 @@ module _ (ranks bytes : ℕ) (some : 0 < ranks) (few : ranks ≤ 128) where
       go (inr (a, b)) (inr (c, d)) (inl (e, f)) = let i = h.inside in let s = h.early in omega (arith, a, b, c, d, e, f, i, s)
       go (inr (a, b)) (inr (c, d)) (inr (e, f)) = let i = h.inside in let s = h.early in omega (arith, a, b, c, d, e, f, i, s)
 
-  kept : (h : Pass) → map (rs_finds h.sender (3 * h.step)) (moved (entry h.sender (3 * h.step))) ≡ map (rs_leaves (ahead ranks h.sender 1) (3 * h.step + 1)) (moved (entry (ahead ranks h.sender 1) (3 * h.step + 1)))
-  kept h =
+  message_keeps_values : (h : Pass) → map (rs_finds h.sender (3 * h.step)) (moved (entry h.sender (3 * h.step))) ≡ map (rs_leaves (ahead ranks h.sender 1) (3 * h.step + 1)) (moved (entry (ahead ranks h.sender 1) (3 * h.step + 1)))
+  message_keeps_values h =
       let s = h.step in
       let to = ahead ranks h.sender 1 in
       let a = back ranks h.sender (s + 1) in
       let b = back ranks to (s + 2) in
-      ap (λ (ks : List ℕ). map (rs_finds h.sender (3 * s)) ks) (ap moved (as_send h.sender (3 * s) s refl) ∙ moved_slot a) ∙ ap (λ (v : Value). v ∷ []) (finds_send h.sender s a (back_below ranks h.sender (s + 1) h.inside) ∙ ap (λ (n : ℕ). window n (s + 1)) (sym (same_slot h)) ∙ sym (leaves_heard to s b)) ∙ sym (ap (λ (ks : List ℕ). map (rs_leaves to (3 * s + 1)) ks) (ap moved (as_receive to (3 * s + 1) s refl) ∙ moved_slot (ranks + b)))
+      ap (λ (ks : List ℕ). map (rs_finds h.sender (3 * s)) ks) (ap moved (as_send h.sender (3 * s) s refl) ∙ slots_of_single_slot a) ∙ ap (λ (v : Value). v ∷ []) (finds_send h.sender s a (back_below ranks h.sender (s + 1) h.inside) ∙ ap (λ (n : ℕ). window n (s + 1)) (sym (same_slot h)) ∙ sym (leaves_heard to s b)) ∙ sym (ap (λ (ks : List ℕ). map (rs_leaves to (3 * s + 1)) ks) (ap moved (as_receive to (3 * s + 1) s refl) ∙ slots_of_single_slot (ranks + b)))
 
-  at_end : (r : ℕ) → r < ranks → wanted ReduceScatter ranks r r (of_each ranks r) ≡ true
+  wanted_at_end : (r : ℕ) → r < ranks → wanted ReduceScatter ranks r r (of_each ranks r) ≡ true
   unfolding wanted
-  at_end r p = rw (lt-ltb r ranks p, eq-eqb r r refl) (is_value_reflexive (of_each ranks r))
+  wanted_at_end r p = rw (lt-ltb r ranks p, eq-eqb r r refl) (is_value_reflexive (of_each ranks r))
 
-  elsewhere : (r k : ℕ) → (k ≡ r → ⊥) → (v : Value) → wanted ReduceScatter ranks r k v ≡ true
+  nothing_wanted_elsewhere : (r k : ℕ) → (k ≡ r → ⊥) → (v : Value) → wanted ReduceScatter ranks r k v ≡ true
   unfolding wanted
-  elsewhere r k d v = rw (ne_eqb k r d) (go (nat_lt r ranks))
+  nothing_wanted_elsewhere r k d v = rw (ne_eqb k r d) (go (nat_lt r ranks))
     where
       go : (b : Bool) → (if b then true else true) ≡ true
       go true = refl
       go false = refl
 
-  each_alone : of_each 1 0 ≡ single 0 0
+  of_each_single : of_each 1 0 ≡ single 0 0
   unfolding of_each
-  each_alone = refl
+  of_each_single = refl
 
-  final : (r k : ℕ) → r < ranks → Final ranks count entry first (wanted ReduceScatter ranks) rs_finds rs_leaves r k
-  final r k p = ⊎_elim (λ same. subst (λ (n : ℕ). Final ranks count entry first (wanted ReduceScatter ranks) rs_finds rs_leaves r n) (sym same) (own (cases_lt ranks 2))) (λ d. inl (elsewhere r k d)) (cases_eq k r)
+  slots_end_as_wanted : (r k : ℕ) → r < ranks → Final ranks count entry first (wanted ReduceScatter ranks) rs_finds rs_leaves r k
+  slots_end_as_wanted r k p = ⊎_elim (λ same. subst (λ (n : ℕ). Final ranks count entry first (wanted ReduceScatter ranks) rs_finds rs_leaves r n) (sym same) (own (cases_lt ranks 2))) (λ d. inl (nothing_wanted_elsewhere r k d)) (cases_eq k r)
     where
       own : (ranks < 2) ⊎ (2 ≤ ranks) → Final ranks count entry first (wanted ReduceScatter ranks) rs_finds rs_leaves r r
       own (inl one) =
           let n : ranks ≡ 1 = omega (arith, one, some) in
           let zero_rank : r ≡ 0 = omega (arith, p, one) in
-          inr (inl (λ j l w. omega (arith, l, one), subst (λ (v : Value). wanted ReduceScatter ranks r r v ≡ true) (ap (λ (m : ℕ). of_each m r) n ∙ ap (λ (m : ℕ). of_each 1 m) zero_rank ∙ each_alone ∙ ap (λ (m : ℕ). single m m) (sym zero_rank) ∙ sym (first_own r r p p)) (at_end r p)))
+          inr (inl (λ j l w. omega (arith, l, one), subst (λ (v : Value). wanted ReduceScatter ranks r r v ≡ true) (ap (λ (m : ℕ). of_each m r) n ∙ ap (λ (m : ℕ). of_each 1 m) zero_rank ∙ of_each_single ∙ ap (λ (m : ℕ). single m m) (sym zero_rank) ∙ sym (first_own r r p p)) (wanted_at_end r p)))
       own (inr two) =
           let t = ranks - 2 in
           let whole : t + 2 ≡ ranks = omega (arith, two) in
           let place : back ranks r (t + 2) ≡ r = ap (λ (n : ℕ). back ranks r n) whole ∙ back_all r p in
-          inr (inr (3 * t + 2, omega (arith, two), subst (λ (n : ℕ). Mem n (writes (entry r (3 * t + 2)))) place (sum_writes r t), λ j m w. inl (⊎_elim (λ v. let h = v.2 in absurd (omega (arith, h, p))) (λ v. let g = v.1 in let same = sum_once r v.0 t r p (omega (arith, m, g)) (omega (arith, two)) v.2 place in g ∙ ap (λ (n : ℕ). 3 * n + 2) same) (writes_are r j r w)), subst (λ (v : Value). wanted ReduceScatter ranks r r v ≡ true) (sym (leaves_sum r t r p ∙ ap (λ (n : ℕ). window r n) whole ∙ window_all r p)) (at_end r p)))
+          inr (inr (3 * t + 2, omega (arith, two), subst (λ (n : ℕ). Mem n (writes (entry r (3 * t + 2)))) place (sum_writes r t), λ j m w. inl (⊎_elim (λ v. let h = v.2 in absurd (omega (arith, h, p))) (λ v. let g = v.1 in let same = slot_summed_once r v.0 t r p (omega (arith, m, g)) (omega (arith, two)) v.2 place in g ∙ ap (λ (n : ℕ). 3 * n + 2) same) (writes_are r j r w)), subst (λ (v : Value). wanted ReduceScatter ranks r r v ≡ true) (sym (leaves_sum r t r p ∙ ap (λ (n : ℕ). window r n) whole ∙ window_all r p)) (wanted_at_end r p)))
 
   blueprint : IsBlueprint ranks count entry first (wanted ReduceScatter ranks) rs_finds rs_leaves Pass bytes pass_send pass_recv (λ h. h.step) level
   blueprint = record {
     messages = pass_messages;
-    lower = lower;
+    lower = needs_are_lower;
     same_level = λ h. omega arith;
-    race = race;
-    source = source;
+    race = conflicts_are_ordered;
+    source = touched_has_origin;
     summed = summed;
-    kept = kept;
-    final = final;
+    kept = message_keeps_values;
+    final = slots_end_as_wanted;
   }
 
   -- at most 128 contributions in each of 256 slots, and in each message
@@ -486,24 +486,24 @@ module _ (ranks bytes : ℕ) (some : 0 < ranks) (few : ranks ≤ 128) where
       let a = back ranks h.sender (h.step + 1) in
       let size = ap length (finds_send h.sender h.step a (back_below ranks h.sender (h.step + 1) h.inside)) in
       let w = window_few a (h.step + 1) in
-      subst (λ (ks : List ℕ). sum_by (λ (v : Value). length v) (map (rs_finds h.sender (3 * h.step)) ks) ≤ 128) (sym (ap moved (as_send h.sender (3 * h.step) h.step refl) ∙ moved_slot a)) (omega (arith, size, w, few))
+      subst (λ (ks : List ℕ). sum_by (λ (v : Value). length v) (map (rs_finds h.sender (3 * h.step)) ks) ≤ 128) (sym (ap moved (as_send h.sender (3 * h.step) h.step refl) ∙ slots_of_single_slot a)) (omega (arith, size, w, few))
 
   few_ops : sum_by count (range_with_len 0 ranks) ≤ ranks * 381
   few_ops = sum_range_few count ranks 381 (λ r l. omega (arith, few))
 
-  total : sum_below ranks (λ r. sum_below (2 ^ 32) (cap r)) + sum_by (λ r. sum_by (load r) (range_with_len 0 (count r))) (range_with_len 0 ranks) ≤ weight_limit
-  total =
+  total_within_limit : sum_below ranks (λ r. sum_below (2 ^ 32) (cap r)) + sum_by (λ r. sum_by (load r) (range_with_len 0 (count r))) (range_with_len 0 ranks) ≤ weight_limit
+  total_within_limit =
       let stores = sum_below_few ranks 32768 (λ r. sum_below (2 ^ 32) (cap r)) (λ r l. sum_low_few (2 ^ 32) 256 128 (cap r) (cap_few r) (cap_high r)) in
       let loads = entries_few ranks count load 128 (λ r i l m. omega arith) in
       let ops = few_ops in
       omega (arith, stores, loads, ops, few)
 
-  bounded : IsBounded ranks count entry first (wanted ReduceScatter ranks) rs_finds rs_leaves Pass pass_send cap load
-  bounded = record {
+  blueprint_is_bounded : IsBounded ranks count entry first (wanted ReduceScatter ranks) rs_finds rs_leaves Pass pass_send cap load
+  blueprint_is_bounded = record {
     first_cap = first_cap;
     leaves_cap = λ r i k there w. let room = cap_low r k (writes_low r i k there.0 w) in let size = leaves_few r i k in omega (arith, room, size);
     finds_load = finds_load;
-    total = total;
+    total = total_within_limit;
   }
 
   low_notes : (r i : ℕ) → r < ranks → All NamesLowSlots (notes_of i (entry r i)) × (sum_by moved_count (notes_of i (entry r i)) ≤ 1)
@@ -515,12 +515,12 @@ module _ (ranks bytes : ℕ) (some : 0 < ranks) (few : ranks ≤ 128) where
       one : (k : ℕ) → k ≤ slot_limit → All NamesLowSlots (Moves i k k ∷ []) × (sum_by moved_count (Moves i k k ∷ []) ≤ 1)
       one k low = (All_one NamesLowSlots (Moves i k k) (low, low), omega arith)
 
-  small : IsSmall (made ReduceScatter ranks bytes)
+  made_is_small : IsSmall (made ReduceScatter ranks bytes)
   unfolding made
-  small =
+  made_is_small =
       entries_small ranks count entry 1 (λ r l. omega (arith, few)) (λ r i l m. (low_notes r i l).0) (λ r i l m. (low_notes r i l).1) (let ops = few_ops in omega (arith, ops, few))
 
   pub reduce_scatter_certified : IsCertifiedFor ReduceScatter (made ReduceScatter ranks bytes)
   unfolding made
   reduce_scatter_certified =
-      subst (λ (n : ℕ). IsCertified (made ReduceScatter ranks bytes) (initial ReduceScatter n) (wanted ReduceScatter n)) (sym (length_plans ranks count entry)) (blueprint_certified ranks count entry first (wanted ReduceScatter ranks) rs_finds rs_leaves Pass bytes pass_send pass_recv (λ h. h.step) level blueprint cap load bounded small)
+      subst (λ (n : ℕ). IsCertified (made ReduceScatter ranks bytes) (initial ReduceScatter n) (wanted ReduceScatter n)) (sym (length_plans ranks count entry)) (blueprint_certified ranks count entry first (wanted ReduceScatter ranks) rs_finds rs_leaves Pass bytes pass_send pass_recv (λ h. h.step) level blueprint cap load blueprint_is_bounded made_is_small)

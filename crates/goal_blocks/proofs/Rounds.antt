@@ -22,7 +22,7 @@ use Rattle.goal_blocks.specs.Messages.{AreMessages}
 use Rattle.goal_blocks.proofs.Orders.{Mem}
 use Rattle.goal_blocks.proofs.EntryFacts.{slots_of_span}
 use Rattle.goal_blocks.proofs.MadePaired.{at, same_place}
-use Rattle.goal_blocks.proofs.AllgatherCertified.{moved_slot}
+use Rattle.goal_blocks.proofs.AllgatherCertified.{slots_of_single_slot}
 use Rattle.goal_blocks.proofs.PlanBy.{range_more}
 use Rattle.goal_blocks.proofs.Doubling.{doubling, doubling_zero, doubling_early, doubling_high}
 use Rattle.goal_blocks.proofs.Slim.{All_one}
@@ -186,7 +186,7 @@ module _ (ranks n bytes : ℕ) (to from : ℕ → ℕ → ℕ) (to_rank : (r k :
   writes_are r i s m = ⊎_elim (λ p. absurd (subst (λ (x : Entry). Mem s (writes x)) (as_send r i p.0 p.1) m)) (λ c. ⊎_elim (λ p. inl (p.0, p.1, at_slot (p.0 + 1) (subst (λ (x : Entry). Mem s (writes x)) (as_receive r i p.0 p.1) m))) (λ p. inr (p.0, p.1, one (subst (λ (x : Entry). Mem s (writes x)) (as_sum r i p.0 p.1) m))) c) (cases_triple i)
     where
       at_slot : (j : ℕ) → Mem s (flat_map slots_of_span (slot j)) → j ≡ s
-      at_slot j x = ⊎_elim (λ e. e) (λ none. absurd none) (subst (λ (ks : List ℕ). Mem s ks) (moved_slot j) x)
+      at_slot j x = ⊎_elim (λ e. e) (λ none. absurd none) (subst (λ (ks : List ℕ). Mem s ks) (slots_of_single_slot j) x)
 
       one : Mem s (0 ∷ []) → 0 ≡ s
       one (inl e) = e
@@ -194,7 +194,7 @@ module _ (ranks n bytes : ℕ) (to from : ℕ → ℕ → ℕ) (to_rank : (r k :
 
   pub receive_writes : (r k : ℕ) → Mem (k + 1) (writes (rounds_entry r (3 * k + 1)))
   receive_writes r k =
-      subst (λ (x : Entry). Mem (k + 1) (writes x)) (sym (receives r k)) (subst (λ (ks : List ℕ). Mem (k + 1) ks) (sym (moved_slot (k + 1))) (inl refl))
+      subst (λ (x : Entry). Mem (k + 1) (writes x)) (sym (receives r k)) (subst (λ (ks : List ℕ). Mem (k + 1) ks) (sym (slots_of_single_slot (k + 1))) (inl refl))
 
   sum_writes : (r k : ℕ) → Mem 0 (writes (rounds_entry r (3 * k + 2)))
   sum_writes r k = subst (λ (x : Entry). Mem 0 (writes x)) (sym (adds_up r k)) (inl refl)
@@ -204,7 +204,7 @@ module _ (ranks n bytes : ℕ) (to from : ℕ → ℕ → ℕ) (to_rank : (r k :
   touches_are r i s m = ⊎_elim (λ p. inl (p.0, p.1, at_slot 0 (subst (λ (x : Entry). Mem s (touches x)) (as_send r i p.0 p.1) m))) (λ c. inr (⊎_elim (λ p. inl (p.0, p.1, at_slot (p.0 + 1) (subst (λ (x : Entry). Mem s (touches x)) (as_receive r i p.0 p.1) m))) (λ p. inr (p.0, p.1, two p.0 (subst (λ (x : Entry). Mem s (touches x)) (as_sum r i p.0 p.1) m))) c)) (cases_triple i)
     where
       at_slot : (j : ℕ) → Mem s (flat_map slots_of_span (slot j)) → j ≡ s
-      at_slot j x = ⊎_elim (λ e. e) (λ none. absurd none) (subst (λ (ks : List ℕ). Mem s ks) (moved_slot j) x)
+      at_slot j x = ⊎_elim (λ e. e) (λ none. absurd none) (subst (λ (ks : List ℕ). Mem s ks) (slots_of_single_slot j) x)
 
       two : (k : ℕ) → Mem s ((k + 1) ∷ 0 ∷ []) → (k + 1 ≡ s) ⊎ (0 ≡ s)
       two k (inl e) = inl e
@@ -311,7 +311,7 @@ module _ (ranks n bytes : ℕ) (to from : ℕ → ℕ → ℕ) (to_rank : (r k :
     kept t =
         let r = to t.sender t.round in
         let k = t.round in
-        ap (λ (ks : List ℕ). map (rounds_finds t.sender (3 * k)) ks) (ap moved (sends t.sender k) ∙ moved_slot 0) ∙ ap (λ (v : Value). v ∷ []) (finds_zero t.sender (3 * k) k (omega arith) ∙ ap (λ (q : ℕ). gained k q) (sym (there_and_back t.sender k t.inside t.early)) ∙ sym (leaves_other r (3 * k + 1) k (k + 1) (omega arith) (omega arith))) ∙ sym (ap (λ (ks : List ℕ). map (rounds_leaves r (3 * k + 1)) ks) (ap moved (receives r k) ∙ moved_slot (k + 1)))
+        ap (λ (ks : List ℕ). map (rounds_finds t.sender (3 * k)) ks) (ap moved (sends t.sender k) ∙ slots_of_single_slot 0) ∙ ap (λ (v : Value). v ∷ []) (finds_zero t.sender (3 * k) k (omega arith) ∙ ap (λ (q : ℕ). gained k q) (sym (there_and_back t.sender k t.inside t.early)) ∙ sym (leaves_other r (3 * k + 1) k (k + 1) (omega arith) (omega arith))) ∙ sym (ap (λ (ks : List ℕ). map (rounds_leaves r (3 * k + 1)) ks) (ap moved (receives r k) ∙ slots_of_single_slot (k + 1)))
 
     final : (m : ℕ) → n ≡ m → (r s : ℕ) → r < ranks → Final ranks rounds_count rounds_entry first wanted rounds_finds rounds_leaves r s
     unfolding gained
@@ -403,7 +403,7 @@ module _ (ranks n bytes : ℕ) (to from : ℕ → ℕ → ℕ) (to_rank : (r k :
       finds_load t =
           let is = ap length (finds_zero t.sender (3 * t.round) t.round (omega arith)) ∙ length-gained t.round t.sender in
           let room = load_send t.sender t.round in
-          subst (λ (ks : List ℕ). sum_by (λ (v : Value). length v) (map (rounds_finds t.sender (3 * t.round)) ks) ≤ load t.sender (3 * t.round)) (sym (ap moved (sends t.sender t.round) ∙ moved_slot 0)) (omega (arith, is, room))
+          subst (λ (ks : List ℕ). sum_by (λ (v : Value). length v) (map (rounds_finds t.sender (3 * t.round)) ks) ≤ load t.sender (3 * t.round)) (sym (ap moved (sends t.sender t.round) ∙ slots_of_single_slot 0)) (omega (arith, is, room))
 
       total : sum_below ranks (λ r. sum_below (2 ^ 32) (cap r)) + sum_by (λ r. sum_by (load r) (range_with_len 0 (rounds_count r))) (range_with_len 0 ranks) ≤ weight_limit
       total =

@@ -39,9 +39,9 @@ insert_last c (d ∷ ds) all =
     rw (All-head (λ (d : Contribution). is_lower c d ≡ false) d ds all, insert_last c ds (All-tail (λ (d : Contribution). is_lower c d ≡ false) d ds all)) refl
 
 -- the items of one rank more
-pub each_more : (n : ℕ) → merge (single n 0) (of_each n 0) ≡ of_each (n + 1) 0
+pub of_each_with_next : (n : ℕ) → merge (single n 0) (of_each n 0) ≡ of_each (n + 1) 0
 unfolding merge of_each
-each_more n =
+of_each_with_next n =
     insert_last (record { rank = n; item = 0 }) (of_each n 0) (All-map (λ (d : Contribution). is_lower (record { rank = n; item = 0 }) d ≡ false) (λ (q : ℕ). record { rank = q; item = 0 }) (range_with_len 0 n) (All-range (λ (q : ℕ). is_lower (record { rank = n; item = 0 }) (record { rank = q; item = 0 }) ≡ false) n (λ q l. rw (not_lower q l, ne_eqb n q (λ e. omega (arith, e, l))) refl))) ∙ sym (map_range_more (λ (q : ℕ). record { rank = q; item = 0 }) n)
   where
     not_lower : (q : ℕ) → q < n → nat_lt n q ≡ false
@@ -51,9 +51,9 @@ each_more n =
         go true e = absurd (let m = ltb-true n q e in omega (arith, m, l))
         go false e = refl
 
-each_one : of_each 1 0 ≡ single 0 0
+of_each_single : of_each 1 0 ≡ single 0 0
 unfolding of_each
-each_one = refl
+of_each_single = refl
 
 -- what each operation finds in the slots that it reads, and leaves in those that it writes
 scan_finds : ℕ → ℕ → ℕ → Value
@@ -82,112 +82,112 @@ module _ (ranks bytes : ℕ) (some : 0 < ranks) (few : ranks ≤ 2048) where
   abbrev first : Store
   first = initial Scan ranks
 
-  two_at_least : (w : ℕ) → 2 ≤ scan_count ranks (suc w)
+  later_rank_has_two_ops : (w : ℕ) → 2 ≤ scan_count ranks (suc w)
   unfolding scan_count
-  two_at_least w = let one = upward_some (suc w) (omega arith) in omega (arith, one)
+  later_rank_has_two_ops w = let one = upward_some (suc w) (omega arith) in omega (arith, one)
 
-  sends_few : (b : Bool) → (if b then 1 else 0) ≤ 1
-  sends_few true = omega arith
-  sends_few false = omega arith
+  at_most_one_send : (b : Bool) → (if b then 1 else 0) ≤ 1
+  at_most_one_send true = omega arith
+  at_most_one_send false = omega arith
 
-  zero_few : scan_count ranks 0 ≤ 1
+  first_rank_has_one_op : scan_count ranks 0 ≤ 1
   unfolding scan_count
-  zero_few = let up : upward 0 ≡ 0 = refl in let last = sends_few (nat_lt (0 + 1) ranks) in omega (arith, up, last)
+  first_rank_has_one_op = let up : upward 0 ≡ 0 = refl in let last = at_most_one_send (nat_lt (0 + 1) ranks) in omega (arith, up, last)
 
   count_few : (r : ℕ) → scan_count ranks r ≤ 3
   unfolding scan_count
-  count_few r = let up = upward_few r in let last = sends_few (nat_lt (r + 1) ranks) in omega (arith, up, last)
+  count_few r = let up = upward_few r in let last = at_most_one_send (nat_lt (r + 1) ranks) in omega (arith, up, last)
 
-  lower : (r i k : ℕ) → Mem k (entry r i).needs → (k < count r) × (scan_level r k < scan_level r i)
+  needs_are_lower : (r i k : ℕ) → Mem k (entry r i).needs → (k < count r) × (scan_level r k < scan_level r i)
   unfolding scan_in scan_level
-  lower zero i k m = absurd m
-  lower (suc w) zero k m = absurd m
-  lower (suc w) (suc zero) k (inr m) = absurd m
-  lower (suc w) (suc zero) k (inl e) =
-      subst (λ (n : ℕ). (n < count (suc w)) × (scan_level (suc w) n < 2 * suc w)) e (let two = two_at_least w in omega (arith, two), omega arith)
-  lower (suc w) (suc (suc b)) k (inr m) = absurd m
-  lower (suc w) (suc (suc b)) k (inl e) =
-      subst (λ (n : ℕ). (n < count (suc w)) × (scan_level (suc w) n < 2 * suc w + 1)) e (let two = two_at_least w in omega (arith, two), omega arith)
+  needs_are_lower zero i k m = absurd m
+  needs_are_lower (suc w) zero k m = absurd m
+  needs_are_lower (suc w) (suc zero) k (inr m) = absurd m
+  needs_are_lower (suc w) (suc zero) k (inl e) =
+      subst (λ (n : ℕ). (n < count (suc w)) × (scan_level (suc w) n < 2 * suc w)) e (let two = later_rank_has_two_ops w in omega (arith, two), omega arith)
+  needs_are_lower (suc w) (suc (suc b)) k (inr m) = absurd m
+  needs_are_lower (suc w) (suc (suc b)) k (inl e) =
+      subst (λ (n : ℕ). (n < count (suc w)) × (scan_level (suc w) n < 2 * suc w + 1)) e (let two = later_rank_has_two_ops w in omega (arith, two), omega arith)
 
   -- which operation writes which slot
-  writers : (r j k : ℕ) → Mem k (writes (entry r j)) → (0 < r) × (((j ≡ 0) × (1 ≡ k)) ⊎ ((j ≡ 1) × (0 ≡ k)))
+  written_slot_cases : (r j k : ℕ) → Mem k (writes (entry r j)) → (0 < r) × (((j ≡ 0) × (1 ≡ k)) ⊎ ((j ≡ 1) × (0 ≡ k)))
   unfolding scan_in slots_from
-  writers zero j k m = absurd m
-  writers (suc w) zero k (inl e) = (omega arith, inl (refl, e))
-  writers (suc w) zero k (inr m) = absurd m
-  writers (suc w) (suc zero) k (inl e) = (omega arith, inr (refl, e))
-  writers (suc w) (suc zero) k (inr m) = absurd m
-  writers (suc w) (suc (suc b)) k m = absurd m
+  written_slot_cases zero j k m = absurd m
+  written_slot_cases (suc w) zero k (inl e) = (omega arith, inl (refl, e))
+  written_slot_cases (suc w) zero k (inr m) = absurd m
+  written_slot_cases (suc w) (suc zero) k (inl e) = (omega arith, inr (refl, e))
+  written_slot_cases (suc w) (suc zero) k (inr m) = absurd m
+  written_slot_cases (suc w) (suc (suc b)) k m = absurd m
 
-  written_by : (w : ℕ) → Mem 1 (writes (entry (suc w) 0)) × Mem 0 (writes (entry (suc w) 1))
+  slots_written_by_ops : (w : ℕ) → Mem 1 (writes (entry (suc w) 0)) × Mem 0 (writes (entry (suc w) 1))
   unfolding scan_in slots_from
-  written_by w = (inl refl, inl refl)
+  slots_written_by_ops w = (inl refl, inl refl)
 
-  race : (r i j k : ℕ) → (i ≡ j → ⊥) → Mem k (touches (entry r i)) → Mem k (writes (entry r j)) → Precedes (entry r) i j ⊎ Precedes (entry r) j i
+  conflicts_are_ordered : (r i j k : ℕ) → (i ≡ j → ⊥) → Mem k (touches (entry r i)) → Mem k (writes (entry r j)) → Precedes (entry r) i j ⊎ Precedes (entry r) j i
   unfolding scan_in slots_from
-  race zero i j k differ t w = absurd w
-  race (suc v) zero zero k differ t w = absurd (differ refl)
-  race (suc v) (suc zero) zero k differ t w = inr (now (inl refl))
-  race (suc v) (suc (suc b)) zero k differ (inl e) (inl f) = absurd (omega (arith, e, f))
-  race (suc v) (suc (suc b)) zero k differ (inl e) (inr n) = absurd n
-  race (suc v) (suc (suc b)) zero k differ (inr n) w = absurd n
-  race (suc v) zero (suc zero) k differ (inl e) (inl f) = absurd (omega (arith, e, f))
-  race (suc v) zero (suc zero) k differ (inl e) (inr n) = absurd n
-  race (suc v) zero (suc zero) k differ (inr n) w = absurd n
-  race (suc v) (suc zero) (suc zero) k differ t w = absurd (differ refl)
-  race (suc v) (suc (suc b)) (suc zero) k differ t w = inr (now (inl refl))
-  race (suc v) i (suc (suc c)) k differ t w = absurd w
+  conflicts_are_ordered zero i j k differ t w = absurd w
+  conflicts_are_ordered (suc v) zero zero k differ t w = absurd (differ refl)
+  conflicts_are_ordered (suc v) (suc zero) zero k differ t w = inr (now (inl refl))
+  conflicts_are_ordered (suc v) (suc (suc b)) zero k differ (inl e) (inl f) = absurd (omega (arith, e, f))
+  conflicts_are_ordered (suc v) (suc (suc b)) zero k differ (inl e) (inr n) = absurd n
+  conflicts_are_ordered (suc v) (suc (suc b)) zero k differ (inr n) w = absurd n
+  conflicts_are_ordered (suc v) zero (suc zero) k differ (inl e) (inl f) = absurd (omega (arith, e, f))
+  conflicts_are_ordered (suc v) zero (suc zero) k differ (inl e) (inr n) = absurd n
+  conflicts_are_ordered (suc v) zero (suc zero) k differ (inr n) w = absurd n
+  conflicts_are_ordered (suc v) (suc zero) (suc zero) k differ t w = absurd (differ refl)
+  conflicts_are_ordered (suc v) (suc (suc b)) (suc zero) k differ t w = inr (now (inl refl))
+  conflicts_are_ordered (suc v) i (suc (suc c)) k differ t w = absurd w
 
   first_own : (r : ℕ) → r < ranks → first r 0 ≡ single r 0
   unfolding initial
   first_own r inside = rw (lt-ltb r ranks inside) refl
 
-  at_end : (r : ℕ) → r < ranks → wanted Scan ranks r 0 (of_each (r + 1) 0) ≡ true
+  wanted_at_end : (r : ℕ) → r < ranks → wanted Scan ranks r 0 (of_each (r + 1) 0) ≡ true
   unfolding wanted
-  at_end r inside = rw (lt-ltb r ranks inside) (is_value_reflexive (of_each (r + 1) 0))
+  wanted_at_end r inside = rw (lt-ltb r ranks inside) (is_value_reflexive (of_each (r + 1) 0))
 
-  elsewhere : (r k : ℕ) (v : Value) → wanted Scan ranks r (suc k) v ≡ true
+  nothing_wanted_elsewhere : (r k : ℕ) (v : Value) → wanted Scan ranks r (suc k) v ≡ true
   unfolding wanted
-  elsewhere r k v = rw (ne_eqb (suc k) 0 (λ e. omega (arith, e))) (go (nat_lt r ranks))
+  nothing_wanted_elsewhere r k v = rw (ne_eqb (suc k) 0 (λ e. omega (arith, e))) (go (nat_lt r ranks))
     where
       go : (b : Bool) → (if b then true else true) ≡ true
       go true = refl
       go false = refl
 
-  source : (r i k : ℕ) → IsThere ranks count entry r i → ((room : ℕ) (from t : Option ℕ) → (entry r i).kind ≡ Recv room from t → ⊥) → Mem k (touches (entry r i)) → Origin ranks count entry first (wanted Scan ranks) scan_finds scan_leaves r i k
+  touched_has_origin : (r i k : ℕ) → IsThere ranks count entry r i → ((room : ℕ) (from t : Option ℕ) → (entry r i).kind ≡ Recv room from t → ⊥) → Mem k (touches (entry r i)) → Origin ranks count entry first (wanted Scan ranks) scan_finds scan_leaves r i k
   unfolding scan_in slots_from scan_finds scan_leaves
-  source zero i k there not_receive (inr n) = absurd n
-  source zero zero k there not_receive (inl e) =
-      inl (subst (λ (n : ℕ). first 0 n ≡ of_each 1 0) e (first_own 0 there.0 ∙ sym each_one), λ j l w. let v = (writers 0 j k w).0 in absurd (omega (arith, v)))
-  source zero (suc i) k there not_receive (inl e) =
-      let one = there.1 in absurd (let c = zero_few in omega (arith, one, c))
-  source (suc w) zero k there not_receive t = absurd (not_receive _ _ _ refl)
-  source (suc w) (suc zero) k there not_receive (inl e) =
-      inr (0, let two = two_at_least w in omega (arith, two), subst (λ (n : ℕ). Mem n (writes (entry (suc w) 0))) e (written_by w).0, now (inl refl), found k e, λ l m u. ⊎_elim (λ p. inl (inr p.0)) (λ p. let f = p.1 in absurd (omega (arith, e, f))) (writers (suc w) l k u).1)
+  touched_has_origin zero i k there not_receive (inr n) = absurd n
+  touched_has_origin zero zero k there not_receive (inl e) =
+      inl (subst (λ (n : ℕ). first 0 n ≡ of_each 1 0) e (first_own 0 there.0 ∙ sym of_each_single), λ j l w. let v = (written_slot_cases 0 j k w).0 in absurd (omega (arith, v)))
+  touched_has_origin zero (suc i) k there not_receive (inl e) =
+      let one = there.1 in absurd (let c = first_rank_has_one_op in omega (arith, one, c))
+  touched_has_origin (suc w) zero k there not_receive t = absurd (not_receive _ _ _ refl)
+  touched_has_origin (suc w) (suc zero) k there not_receive (inl e) =
+      inr (0, let two = later_rank_has_two_ops w in omega (arith, two), subst (λ (n : ℕ). Mem n (writes (entry (suc w) 0))) e (slots_written_by_ops w).0, now (inl refl), found k e, λ l m u. ⊎_elim (λ p. inl (inr p.0)) (λ p. let f = p.1 in absurd (omega (arith, e, f))) (written_slot_cases (suc w) l k u).1)
     where
       found : (k : ℕ) → 1 ≡ k → scan_leaves (suc w) 0 k ≡ scan_finds (suc w) 1 k
       found zero f = absurd (omega (arith, f))
       found (suc n) f = refl
-  source (suc w) (suc zero) k there not_receive (inr (inl e)) =
-      inl (subst (λ (n : ℕ). first (suc w) n ≡ scan_finds (suc w) 1 n) e (first_own (suc w) there.0), λ l m u. ⊎_elim (λ p. let f = p.1 in absurd (omega (arith, e, f))) (λ p. inl p.0) (writers (suc w) l k u).1)
-  source (suc w) (suc zero) k there not_receive (inr (inr n)) = absurd n
-  source (suc w) (suc (suc b)) k there not_receive (inr n) = absurd n
-  source (suc w) (suc (suc b)) k there not_receive (inl e) =
-      inr (1, let two = two_at_least w in omega (arith, two), subst (λ (n : ℕ). Mem n (writes (entry (suc w) 1))) e (written_by w).1, now (inl refl), refl, λ l m u. ⊎_elim (λ p. let f = p.1 in absurd (omega (arith, e, f))) (λ p. inl (inr p.0)) (writers (suc w) l k u).1)
+  touched_has_origin (suc w) (suc zero) k there not_receive (inr (inl e)) =
+      inl (subst (λ (n : ℕ). first (suc w) n ≡ scan_finds (suc w) 1 n) e (first_own (suc w) there.0), λ l m u. ⊎_elim (λ p. let f = p.1 in absurd (omega (arith, e, f))) (λ p. inl p.0) (written_slot_cases (suc w) l k u).1)
+  touched_has_origin (suc w) (suc zero) k there not_receive (inr (inr n)) = absurd n
+  touched_has_origin (suc w) (suc (suc b)) k there not_receive (inr n) = absurd n
+  touched_has_origin (suc w) (suc (suc b)) k there not_receive (inl e) =
+      inr (1, let two = later_rank_has_two_ops w in omega (arith, two), subst (λ (n : ℕ). Mem n (writes (entry (suc w) 1))) e (slots_written_by_ops w).1, now (inl refl), refl, λ l m u. ⊎_elim (λ p. let f = p.1 in absurd (omega (arith, e, f))) (λ p. inl (inr p.0)) (written_slot_cases (suc w) l k u).1)
 
-  final : (r k : ℕ) → r < ranks → Final ranks count entry first (wanted Scan ranks) scan_finds scan_leaves r k
+  slots_end_as_wanted : (r k : ℕ) → r < ranks → Final ranks count entry first (wanted Scan ranks) scan_finds scan_leaves r k
   unfolding scan_leaves
-  final r (suc k) inside = inl (λ v. elsewhere r k v)
-  final zero zero inside =
-      inr (inl (λ j l w. let v = (writers 0 j 0 w).0 in omega (arith, v), subst (λ (v : Value). wanted Scan ranks 0 0 v ≡ true) (sym (first_own 0 inside ∙ sym each_one)) (at_end 0 inside)))
-  final (suc w) zero inside =
-      inr (inr (1, let two = two_at_least w in omega (arith, two), (written_by w).1, λ l m u. ⊎_elim (λ p. let f = p.1 in absurd (omega (arith, f))) (λ p. inl p.0) (writers (suc w) l 0 u).1, at_end (suc w) inside))
+  slots_end_as_wanted r (suc k) inside = inl (λ v. nothing_wanted_elsewhere r k v)
+  slots_end_as_wanted zero zero inside =
+      inr (inl (λ j l w. let v = (written_slot_cases 0 j 0 w).0 in omega (arith, v), subst (λ (v : Value). wanted Scan ranks 0 0 v ≡ true) (sym (first_own 0 inside ∙ sym of_each_single)) (wanted_at_end 0 inside)))
+  slots_end_as_wanted (suc w) zero inside =
+      inr (inr (1, let two = later_rank_has_two_ops w in omega (arith, two), (slots_written_by_ops w).1, λ l m u. ⊎_elim (λ p. let f = p.1 in absurd (omega (arith, f))) (λ p. inl p.0) (written_slot_cases (suc w) l 0 u).1, wanted_at_end (suc w) inside))
 
   summed : (r i nanos : ℕ) → (entry r i).kind ≡ Calc nanos → (a : Adding) × ((entry r i).adds ≡ a ∷ []) × (merge (scan_finds r i a.to) (scan_finds r i a.from) ≡ scan_leaves r i a.to)
   unfolding scan_in scan_finds scan_leaves
   summed zero i nanos e = absurd (cc e)
   summed (suc w) zero nanos e = absurd (cc e)
-  summed (suc w) (suc zero) nanos e = (record { from = 1; to = 0 }, refl, each_more (suc w))
+  summed (suc w) (suc zero) nanos e = (record { from = 1; to = 0 }, refl, of_each_with_next (suc w))
   summed (suc w) (suc (suc b)) nanos e = absurd (cc e)
 
   same_level : (r : ℕ) → scan_level r (2 * upward r) ≡ scan_level (r + 1) 0
@@ -197,23 +197,23 @@ module _ (ranks bytes : ℕ) (some : 0 < ranks) (few : ranks ≤ 2048) where
       let two : 2 * upward (suc w) ≡ 2 = omega (arith, upward_some (suc w) (omega arith)) in
       rw (two, add-one (suc w)) (omega arith)
 
-  kept : (r : ℕ) → map (scan_finds r (2 * upward r)) (moved (entry r (2 * upward r))) ≡ map (scan_leaves (r + 1) 0) (moved (entry (r + 1) 0))
+  message_keeps_values : (r : ℕ) → map (scan_finds r (2 * upward r)) (moved (entry r (2 * upward r))) ≡ map (scan_leaves (r + 1) 0) (moved (entry (r + 1) 0))
   unfolding scan_in slots_from scan_finds scan_leaves
-  kept zero = refl
-  kept (suc w) =
+  message_keeps_values zero = refl
+  message_keeps_values (suc w) =
       let two : 2 * upward (suc w) ≡ 2 = omega (arith, upward_some (suc w) (omega arith)) in
       rw (two, add-one (suc w)) refl
 
   blueprint : IsBlueprint ranks count entry first (wanted Scan ranks) scan_finds scan_leaves (LineHop ranks bytes) bytes (line_send ranks bytes) (line_recv ranks bytes) (λ h. 0) scan_level
   blueprint = record {
     messages = line_messages ranks bytes;
-    lower = λ r i k there m. lower r i k m;
+    lower = λ r i k there m. needs_are_lower r i k m;
     same_level = λ h. same_level h.from;
-    race = λ r i j k inside l m differ t w. race r i j k differ t w;
-    source = source;
+    race = λ r i j k inside l m differ t w. conflicts_are_ordered r i j k differ t w;
+    source = touched_has_origin;
     summed = λ r i nanos there k. summed r i nanos k;
-    kept = λ h. kept h.from;
-    final = final;
+    kept = λ h. message_keeps_values h.from;
+    final = slots_end_as_wanted;
   }
 
   -- at most a contribution of each rank in two slots of a rank, and in its message
@@ -244,7 +244,7 @@ module _ (ranks bytes : ℕ) (some : 0 < ranks) (few : ranks ≤ 2048) where
 
   load_sum : (r : ℕ) → sum_by (load r) (range_with_len 0 (count r)) ≤ ranks
   unfolding load
-  load_sum zero = at (scan_count ranks 0) zero_few
+  load_sum zero = at (scan_count ranks 0) first_rank_has_one_op
     where
       at : (n : ℕ) → n ≤ 1 → sum_by (load 0) (range_with_len 0 n) ≤ ranks
       at zero l = omega arith
@@ -277,7 +277,7 @@ module _ (ranks bytes : ℕ) (some : 0 < ranks) (few : ranks ≤ 2048) where
 
   leaves_cap : (r i k : ℕ) → IsThere ranks count entry r i → Mem k (writes (entry r i)) → length (scan_leaves r i k) ≤ cap r k
   unfolding scan_leaves cap
-  leaves_cap r i k there w = ⊎_elim (λ p. at_one p.0 p.1) (λ p. at_zero p.0 p.1) (writers r i k w).1
+  leaves_cap r i k there w = ⊎_elim (λ p. at_one p.0 p.1) (λ p. at_zero p.0 p.1) (written_slot_cases r i k w).1
     where
       at_one : i ≡ 0 → 1 ≡ k → length (scan_leaves r i k) ≤ cap r k
       at_one e f =
@@ -299,18 +299,18 @@ module _ (ranks bytes : ℕ) (some : 0 < ranks) (few : ranks ≤ 2048) where
       let size = length_of_each (suc w + 1) 0 in
       rw two (omega (arith, size, inside))
 
-  total : sum_below ranks (λ r. sum_below (2 ^ 32) (cap r)) + sum_by (λ r. sum_by (load r) (range_with_len 0 (count r))) (range_with_len 0 ranks) ≤ weight_limit
-  total =
+  total_within_limit : sum_below ranks (λ r. sum_below (2 ^ 32) (cap r)) + sum_by (λ r. sum_by (load r) (range_with_len 0 (count r))) (range_with_len 0 ranks) ≤ weight_limit
+  total_within_limit =
       let stores = sum_below_few ranks 4096 (λ r. sum_below (2 ^ 32) (cap r)) (λ r l. let s = cap_sum r in omega (arith, s, few)) in
       let loads = sum_range_few (λ r. sum_by (load r) (range_with_len 0 (count r))) ranks 2048 (λ r l. let s = load_sum r in omega (arith, s, few)) in
       omega (arith, stores, loads, few)
 
-  bounded : IsBounded ranks count entry first (wanted Scan ranks) scan_finds scan_leaves (LineHop ranks bytes) (line_send ranks bytes) cap load
-  bounded = record {
+  blueprint_is_bounded : IsBounded ranks count entry first (wanted Scan ranks) scan_finds scan_leaves (LineHop ranks bytes) (line_send ranks bytes) cap load
+  blueprint_is_bounded = record {
     first_cap = first_cap;
     leaves_cap = leaves_cap;
     finds_load = λ h. finds_load h.from h.below;
-    total = total;
+    total = total_within_limit;
   }
 
   low_notes : (r i n : ℕ) → All NamesLowSlots (notes_of n (entry r i)) × (sum_by moved_count (notes_of n (entry r i)) ≤ 1)
@@ -320,12 +320,12 @@ module _ (ranks bytes : ℕ) (some : 0 < ranks) (few : ranks ≤ 2048) where
   low_notes (suc w) (suc zero) n = (All_one NamesLowSlots (Adds n 1 0) (omega arith, omega arith), omega arith)
   low_notes (suc w) (suc (suc b)) n = (All_one NamesLowSlots (Moves n 0 0) (omega arith, omega arith), omega arith)
 
-  small : bytes ≤ MAX_BYTES → IsSmall (made Scan ranks bytes)
+  made_is_small : bytes ≤ MAX_BYTES → IsSmall (made Scan ranks bytes)
   unfolding made
-  small size =
+  made_is_small size =
       entries_small ranks count entry 1 (λ r l. let three = count_few r in omega (arith, three)) (λ r i l m. (low_notes r i i).0) (λ r i l m. (low_notes r i i).1) (let ops = (scan_fits ranks bytes size some few).few_ops in omega (arith, ops))
 
   pub scan_certified : bytes ≤ MAX_BYTES → IsCertifiedFor Scan (made Scan ranks bytes)
   unfolding made
   scan_certified size =
-      subst (λ (n : ℕ). IsCertified (made Scan ranks bytes) (initial Scan n) (wanted Scan n)) (sym (length_plans ranks count entry)) (blueprint_certified ranks count entry first (wanted Scan ranks) scan_finds scan_leaves (LineHop ranks bytes) bytes (line_send ranks bytes) (line_recv ranks bytes) (λ h. 0) scan_level blueprint cap load bounded (small size))
+      subst (λ (n : ℕ). IsCertified (made Scan ranks bytes) (initial Scan n) (wanted Scan n)) (sym (length_plans ranks count entry)) (blueprint_certified ranks count entry first (wanted Scan ranks) scan_finds scan_leaves (LineHop ranks bytes) bytes (line_send ranks bytes) (line_recv ranks bytes) (λ h. 0) scan_level blueprint cap load blueprint_is_bounded (made_is_small size))

@@ -32,53 +32,53 @@ use Rattle.goal_blocks.proofs.Shares.{IsInShare, share_in, in_share}
 use Rattle.goal_blocks.proofs.Blueprint.{moved, touches, writes, Precedes, now, Origin, Final, IsBlueprint, blueprint_certified}
 
 -- what a send requires: the receive, where there is one
-abbrev before_gift : ℕ → List ℕ
-before_gift zero = []
-before_gift (suc w) = 0 ∷ []
+abbrev needs_of_send : ℕ → List ℕ
+needs_of_send zero = []
+needs_of_send (suc w) = 0 ∷ []
 
 module _ (ranks root bytes : ℕ) (rooted : root < ranks) (few : ranks ≤ rank_limit) where
-  abbrev each : ℕ → ℕ → Entry
-  each v i = scatter_in ranks root bytes v i
+  abbrev entry_in : ℕ → ℕ → Entry
+  entry_in v i = scatter_in ranks root bytes v i
 
-  abbrev many : ℕ → ℕ
-  many v = upward v + rounds ranks v
+  abbrev count_in : ℕ → ℕ
+  count_in v = upward v + rounds ranks v
 
   abbrev count : ℕ → ℕ
-  count r = many (back ranks r root)
+  count r = count_in (back ranks r root)
 
   abbrev entry : ℕ → ℕ → Entry
-  entry r i = each (back ranks r root) i
+  entry r i = entry_in (back ranks r root) i
 
   abbrev first : Store
   first = initial (Scatter root) ranks
 
   -- a slot that is touched holds the root's item of its number
-  abbrev gift : ℕ → ℕ → ℕ → Value
-  gift r i k = single root k
+  abbrev item_of_slot : ℕ → ℕ → ℕ → Value
+  item_of_slot r i k = single root k
 
   -- the number of the send of a round
-  abbrev number : ℕ → ℕ → ℕ
-  number v j = upward v + (rounds ranks v - 1 - j)
+  abbrev send_number : ℕ → ℕ → ℕ
+  send_number v j = upward v + (rounds ranks v - 1 - j)
 
-  takes : (v : ℕ) → 0 < v → each v 0 ≡ receiving bytes (parent ranks root v) (low v) (share ranks root v (2 ^ low v))
-  takes v some = sym (scatter_takes ranks root bytes v 0 some refl)
+  entry_receives : (v : ℕ) → 0 < v → entry_in v 0 ≡ receiving bytes (parent ranks root v) (low v) (share ranks root v (2 ^ low v))
+  entry_receives v some = sym (scatter_takes ranks root bytes v 0 some refl)
 
-  gives : (v j : ℕ) → j < rounds ranks v → each v (number v j) ≡ give_in ranks root bytes v j (before_gift v)
-  gives zero j lt =
-      let e : rounds ranks 0 - 1 - number 0 j ≡ j = omega (arith, lt) in
-      sym (scatter_gives_first ranks root bytes 0 (number 0 j) refl) ∙ ap (λ (n : ℕ). give_in ranks root bytes 0 n []) e
-  gives (suc w) j lt =
+  entry_sends : (v j : ℕ) → j < rounds ranks v → entry_in v (send_number v j) ≡ give_in ranks root bytes v j (needs_of_send v)
+  entry_sends zero j lt =
+      let e : rounds ranks 0 - 1 - send_number 0 j ≡ j = omega (arith, lt) in
+      sym (scatter_gives_first ranks root bytes 0 (send_number 0 j) refl) ∙ ap (λ (n : ℕ). give_in ranks root bytes 0 n []) e
+  entry_sends (suc w) j lt =
       let one = upward_some (suc w) (omega arith) in
-      let e : rounds ranks (suc w) - 1 - (number (suc w) j - 1) ≡ j = omega (arith, lt, one) in
-      sym (scatter_gives ranks root bytes (suc w) (number (suc w) j) (omega arith) (omega (arith, one))) ∙ ap (λ (n : ℕ). give_in ranks root bytes (suc w) n (0 ∷ [])) e
+      let e : rounds ranks (suc w) - 1 - (send_number (suc w) j - 1) ≡ j = omega (arith, lt, one) in
+      sym (scatter_gives ranks root bytes (suc w) (send_number (suc w) j) (omega arith) (omega (arith, one))) ∙ ap (λ (n : ℕ). give_in ranks root bytes (suc w) n (0 ∷ [])) e
 
   -- an operation is the receive of a virtual rank above 0, or the send of a round
   record IsGiving (v i : ℕ) : Type 0 where
     round : ℕ
     inside : round < rounds ranks v
-    is : number v round ≡ i
+    is : send_number v round ≡ i
 
-  cases_number : (v i : ℕ) → i < many v → ((0 < v) × (0 ≡ i)) ⊎ IsGiving v i
+  cases_number : (v i : ℕ) → i < count_in v → ((0 < v) × (0 ≡ i)) ⊎ IsGiving v i
   cases_number zero i lt =
       inr (record { round = rounds ranks 0 - 1 - i; inside = omega (arith, lt); is = omega (arith, lt) })
   cases_number (suc w) zero lt = inl (omega arith, refl)
@@ -86,21 +86,21 @@ module _ (ranks root bytes : ℕ) (rooted : root < ranks) (few : ranks ≤ rank_
       let one = upward_some (suc w) (omega arith) in
       inr (record { round = rounds ranks (suc w) - 1 - i; inside = omega (arith, lt, one); is = omega (arith, lt, one) })
 
-  ends : AreTreeEnds ranks root bytes rooted few many each (λ v. 0) number
-  ends = record {
+  tree_ends : AreTreeEnds ranks root bytes rooted few count_in entry_in (λ v. 0) send_number
+  tree_ends = record {
     up_there = λ v some inside. let one = upward_some v some in omega (arith, one);
     down_there = λ v j inside lt. omega (arith, lt);
     each = λ v i inside there. inr (⊎_elim (λ p. inl p) (λ g. inr (g.round, g.inside, g.is)) (cases_number v i there));
   }
 
   abbrev give_end : TreeEdge ranks → OpId
-  give_end = parent_end ranks root bytes rooted few many each (λ v. 0) number
+  give_end = parent_end ranks root bytes rooted few count_in entry_in (λ v. 0) send_number
 
   abbrev take_end : TreeEdge ranks → OpId
-  take_end = child_end ranks root bytes rooted few many each (λ v. 0) number
+  take_end = child_end ranks root bytes rooted few count_in entry_in (λ v. 0) send_number
 
-  messages : AreMessages ranks count entry (TreeEdge ranks) bytes give_end take_end (λ m. low m.child)
-  messages = down_messages ranks root bytes rooted few many each (λ v. 0) number ends (λ v some inside. ap (λ (x : Entry). x.kind) (takes v some)) (λ v j inside lt. ap (λ (x : Entry). x.kind) (gives v j lt))
+  tree_messages : AreMessages ranks count entry (TreeEdge ranks) bytes give_end take_end (λ m. low m.child)
+  tree_messages = down_messages ranks root bytes rooted few count_in entry_in (λ v. 0) send_number tree_ends (λ v some inside. ap (λ (x : Entry). x.kind) (entry_receives v some)) (λ v j inside lt. ap (λ (x : Entry). x.kind) (entry_sends v j lt))
 
   -- the level of an operation is the virtual rank of the child whose message it sends or receives
   level_in : ℕ → ℕ → ℕ
@@ -116,28 +116,28 @@ module _ (ranks root bytes : ℕ) (rooted : root < ranks) (few : ranks ≤ rank_
   level_takes zero some = absurd (omega (arith, some))
   level_takes (suc w) some = refl
 
-  level_gives : (v j : ℕ) → j < rounds ranks v → level_in v (number v j) ≡ v + 2 ^ j
+  level_gives : (v j : ℕ) → j < rounds ranks v → level_in v (send_number v j) ≡ v + 2 ^ j
   unfolding level_in
   level_gives zero j lt =
       let e : rounds ranks 0 - 1 - (upward 0 + (rounds ranks 0 - 1 - j)) ≡ j = omega (arith, lt) in
       rw e (omega arith)
   level_gives (suc w) j lt =
       let one = upward_some (suc w) (omega arith) in
-      let n : number (suc w) j ≡ suc (rounds ranks (suc w) - 1 - j) = omega (arith, one) in
+      let n : send_number (suc w) j ≡ suc (rounds ranks (suc w) - 1 - j) = omega (arith, one) in
       let e : rounds ranks (suc w) - 1 - (rounds ranks (suc w) - 1 - j) ≡ j = omega (arith, lt) in
       ap (λ (i : ℕ). level_in (suc w) i) n ∙ ap (λ (i : ℕ). suc w + 2 ^ i) e
 
   -- a send requires the receive of its rank alone
-  needs_first : (v i k : ℕ) → i < many v → Mem k (each v i).needs → (0 < v) × (0 ≡ k) × IsGiving v i
-  needs_first v i k there m = ⊎_elim (λ p. absurd (subst (λ (x : Entry). Mem k x.needs) (takes v p.0) (subst (λ (n : ℕ). Mem k (each v n).needs) (sym p.1) m))) (λ g. let is = go v (subst (λ (x : Entry). Mem k x.needs) (gives v g.round g.inside) (subst (λ (n : ℕ). Mem k (each v n).needs) (sym g.is) m)) in (is.0, is.1, g)) (cases_number v i there)
+  needs_first : (v i k : ℕ) → i < count_in v → Mem k (entry_in v i).needs → (0 < v) × (0 ≡ k) × IsGiving v i
+  needs_first v i k there m = ⊎_elim (λ p. absurd (subst (λ (x : Entry). Mem k x.needs) (entry_receives v p.0) (subst (λ (n : ℕ). Mem k (entry_in v n).needs) (sym p.1) m))) (λ g. let is = go v (subst (λ (x : Entry). Mem k x.needs) (entry_sends v g.round g.inside) (subst (λ (n : ℕ). Mem k (entry_in v n).needs) (sym g.is) m)) in (is.0, is.1, g)) (cases_number v i there)
     where
-      go : (v : ℕ) → Mem k (before_gift v) → (0 < v) × (0 ≡ k)
+      go : (v : ℕ) → Mem k (needs_of_send v) → (0 < v) × (0 ≡ k)
       go zero n = absurd n
       go (suc w) (inl e) = (omega arith, e)
       go (suc w) (inr n) = absurd n
 
-  lower : (v i k : ℕ) → i < many v → Mem k (each v i).needs → (k < many v) × (level_in v k < level_in v i)
-  lower v i k there m =
+  needs_are_lower : (v i k : ℕ) → i < count_in v → Mem k (entry_in v i).needs → (k < count_in v) × (level_in v k < level_in v i)
+  needs_are_lower v i k there m =
       let is = needs_first v i k there m in
       let g = is.2 in
       let one = upward_some v is.0 in
@@ -148,26 +148,26 @@ module _ (ranks root bytes : ℕ) (rooted : root < ranks) (few : ranks ≤ rank_
       (omega (arith, one, e), omega (arith, a, b, some))
 
   -- the receive alone writes
-  writes_first : (v i k : ℕ) → v < ranks → i < many v → Mem k (writes (each v i)) → (0 < v) × (0 ≡ i) × IsInShare ranks root v (2 ^ low v) k
+  writes_first : (v i k : ℕ) → v < ranks → i < count_in v → Mem k (writes (entry_in v i)) → (0 < v) × (0 ≡ i) × IsInShare ranks root v (2 ^ low v) k
   writes_first v i k inside there w =
-      ⊎_elim (λ p. (p.0, p.1, share_in ranks root v (2 ^ low v) rooted inside (pow_pos (low v)) k (subst (λ (x : Entry). Mem k (writes x)) (takes v p.0) (subst (λ (n : ℕ). Mem k (writes (each v n))) (sym p.1) w)))) (λ g. absurd (subst (λ (x : Entry). Mem k (writes x)) (gives v g.round g.inside) (subst (λ (n : ℕ). Mem k (writes (each v n))) (sym g.is) w))) (cases_number v i there)
+      ⊎_elim (λ p. (p.0, p.1, share_in ranks root v (2 ^ low v) rooted inside (pow_pos (low v)) k (subst (λ (x : Entry). Mem k (writes x)) (entry_receives v p.0) (subst (λ (n : ℕ). Mem k (writes (entry_in v n))) (sym p.1) w)))) (λ g. absurd (subst (λ (x : Entry). Mem k (writes x)) (entry_sends v g.round g.inside) (subst (λ (n : ℕ). Mem k (writes (entry_in v n))) (sym g.is) w))) (cases_number v i there)
 
-  first_writes : (v k : ℕ) → 0 < v → v < ranks → IsInShare ranks root v (2 ^ low v) k → Mem k (writes (each v 0))
+  first_writes : (v k : ℕ) → 0 < v → v < ranks → IsInShare ranks root v (2 ^ low v) k → Mem k (writes (entry_in v 0))
   first_writes v k some inside is =
-      subst (λ (x : Entry). Mem k (writes x)) (sym (takes v some)) (in_share ranks root v (2 ^ low v) rooted inside (pow_pos (low v)) k is.slot is.from is.before)
+      subst (λ (x : Entry). Mem k (writes x)) (sym (entry_receives v some)) (in_share ranks root v (2 ^ low v) rooted inside (pow_pos (low v)) k is.slot is.from is.before)
 
   -- each send requires it
-  comes_first : (v j : ℕ) → 0 < v → j < rounds ranks v → Precedes (each v) 0 (number v j)
-  comes_first v j some lt = now (subst (λ (x : Entry). Mem 0 x.needs) (sym (gives v j lt)) (go v some))
+  receive_precedes_send : (v j : ℕ) → 0 < v → j < rounds ranks v → Precedes (entry_in v) 0 (send_number v j)
+  receive_precedes_send v j some lt = now (subst (λ (x : Entry). Mem 0 x.needs) (sym (entry_sends v j lt)) (go v some))
     where
-      go : (v : ℕ) → 0 < v → Mem 0 (before_gift v)
+      go : (v : ℕ) → 0 < v → Mem 0 (needs_of_send v)
       go zero some = absurd (omega (arith, some))
       go (suc w) some = inl refl
 
-  race : (v i j k : ℕ) → v < ranks → i < many v → j < many v → (i ≡ j → ⊥) → Mem k (writes (each v j)) → Precedes (each v) i j ⊎ Precedes (each v) j i
-  race v i j k inside l m differ w =
+  conflicts_are_ordered : (v i j k : ℕ) → v < ranks → i < count_in v → j < count_in v → (i ≡ j → ⊥) → Mem k (writes (entry_in v j)) → Precedes (entry_in v) i j ⊎ Precedes (entry_in v) j i
+  conflicts_are_ordered v i j k inside l m differ w =
       let at_j = writes_first v j k inside m w in
-      ⊎_elim (λ p. absurd (differ (sym p.1 ∙ at_j.1))) (λ g. inr (subst (λ (n : ℕ). Precedes (each v) n i) at_j.1 (subst (λ (n : ℕ). Precedes (each v) 0 n) g.is (comes_first v g.round at_j.0 g.inside)))) (cases_number v i l)
+      ⊎_elim (λ p. absurd (differ (sym p.1 ∙ at_j.1))) (λ g. inr (subst (λ (n : ℕ). Precedes (entry_in v) n i) at_j.1 (subst (λ (n : ℕ). Precedes (entry_in v) 0 n) g.is (receive_precedes_send v g.round at_j.0 g.inside)))) (cases_number v i l)
 
   -- the slots of a child's block are in the block
   part_of_block : (v j k : ℕ) → j < rounds ranks v → IsInShare ranks root (v + 2 ^ j) (2 ^ j) k → IsInShare ranks root v (2 ^ low v) k
@@ -184,35 +184,35 @@ module _ (ranks root bytes : ℕ) (rooted : root < ranks) (few : ranks ≤ rank_
   first_root r k inside slot e = rw (lt-ltb r ranks inside, eq-eqb r root e, lt-ltb k ranks slot) refl
 
   abbrev Traced : ℕ → ℕ → ℕ → Type 0
-  Traced r i k = Origin ranks count entry first (wanted (Scatter root) ranks) gift gift r i k
+  Traced r i k = Origin ranks count entry first (wanted (Scatter root) ranks) item_of_slot item_of_slot r i k
 
-  source : (r i k : ℕ) → r < ranks → i < count r → ((room : ℕ) (from t : Option ℕ) → (entry r i).kind ≡ Recv room from t → ⊥) → Mem k (touches (entry r i)) → Traced r i k
-  source r i k inside there not_receive t = ⊎_elim (λ p. absurd (not_receive _ _ _ (ap (λ (n : ℕ). (entry r n).kind) (sym p.1) ∙ ap (λ (x : Entry). x.kind) (takes (back ranks r root) p.0)))) (λ g. given g (share_in ranks root (back ranks r root + 2 ^ g.round) (2 ^ g.round) rooted (child_below ranks few (back ranks r root) g.round low_rank g.inside) (pow_pos g.round) k (subst (λ (x : Entry). Mem k (touches x)) (gives (back ranks r root) g.round g.inside) (subst (λ (n : ℕ). Mem k (touches (entry r n))) (sym g.is) t)))) (cases_number (back ranks r root) i there)
+  touched_has_origin : (r i k : ℕ) → r < ranks → i < count r → ((room : ℕ) (from t : Option ℕ) → (entry r i).kind ≡ Recv room from t → ⊥) → Mem k (touches (entry r i)) → Traced r i k
+  touched_has_origin r i k inside there not_receive t = ⊎_elim (λ p. absurd (not_receive _ _ _ (ap (λ (n : ℕ). (entry r n).kind) (sym p.1) ∙ ap (λ (x : Entry). x.kind) (entry_receives (back ranks r root) p.0)))) (λ g. given g (share_in ranks root (back ranks r root + 2 ^ g.round) (2 ^ g.round) rooted (child_below ranks few (back ranks r root) g.round low_rank g.inside) (pow_pos g.round) k (subst (λ (x : Entry). Mem k (touches x)) (entry_sends (back ranks r root) g.round g.inside) (subst (λ (n : ℕ). Mem k (touches (entry r n))) (sym g.is) t)))) (cases_number (back ranks r root) i there)
     where
       low_rank : back ranks r root < ranks
       low_rank = back_below ranks r root inside
 
       given : (g : IsGiving (back ranks r root) i) → IsInShare ranks root (back ranks r root + 2 ^ g.round) (2 ^ g.round) k → Traced r i k
-      given g is = ⊎_elim (λ some. inr (0, (let one = upward_some (back ranks r root) some in omega (arith, one)), first_writes (back ranks r root) k some low_rank (part_of_block (back ranks r root) g.round k g.inside is), subst (λ (n : ℕ). Precedes (entry r) 0 n) g.is (comes_first (back ranks r root) g.round some g.inside), refl, λ l m w. inl (inr (sym (writes_first (back ranks r root) l k low_rank m w).1)))) (λ none. inl (first_root r k inside is.slot (is_root ranks r root inside rooted (omega (arith, none))), λ j m w. absurd (let some = (writes_first (back ranks r root) j k low_rank m w).0 in omega (arith, none, some)))) (cases_lt 0 (back ranks r root))
+      given g is = ⊎_elim (λ some. inr (0, (let one = upward_some (back ranks r root) some in omega (arith, one)), first_writes (back ranks r root) k some low_rank (part_of_block (back ranks r root) g.round k g.inside is), subst (λ (n : ℕ). Precedes (entry r) 0 n) g.is (receive_precedes_send (back ranks r root) g.round some g.inside), refl, λ l m w. inl (inr (sym (writes_first (back ranks r root) l k low_rank m w).1)))) (λ none. inl (first_root r k inside is.slot (is_root ranks r root inside rooted (omega (arith, none))), λ j m w. absurd (let some = (writes_first (back ranks r root) j k low_rank m w).0 in omega (arith, none, some)))) (cases_lt 0 (back ranks r root))
 
-  elsewhere : (r k : ℕ) (u : Value) → (k ≡ r → ⊥) → wanted (Scatter root) ranks r k u ≡ true
+  nothing_wanted_elsewhere : (r k : ℕ) (u : Value) → (k ≡ r → ⊥) → wanted (Scatter root) ranks r k u ≡ true
   unfolding wanted
-  elsewhere r k u other = go (nat_lt r ranks) (k == r) refl
+  nothing_wanted_elsewhere r k u other = go (nat_lt r ranks) (k == r) refl
     where
       go : (a b : Bool) → (k == r) ≡ b → (if a then (if b then is_value u (single root r) else true) else true) ≡ true
       go true true e = absurd (other (eqb-true k r e))
       go true false e = refl
       go false b e = refl
 
-  at_end : (r : ℕ) → r < ranks → wanted (Scatter root) ranks r r (single root r) ≡ true
+  wanted_at_end : (r : ℕ) → r < ranks → wanted (Scatter root) ranks r r (single root r) ≡ true
   unfolding wanted is_value
-  at_end r inside = rw (lt-ltb r ranks inside, eq-eqb r r refl, eq-eqb root root refl) refl
+  wanted_at_end r inside = rw (lt-ltb r ranks inside, eq-eqb r r refl, eq-eqb root root refl) refl
 
   abbrev Ended : ℕ → ℕ → Type 0
-  Ended r k = Final ranks count entry first (wanted (Scatter root) ranks) gift gift r k
+  Ended r k = Final ranks count entry first (wanted (Scatter root) ranks) item_of_slot item_of_slot r k
 
   final_own : (r : ℕ) → r < ranks → Ended r r
-  final_own r inside = ⊎_elim (λ some. inr (inr (0, (let one = upward_some (back ranks r root) some in omega (arith, one)), first_writes (back ranks r root) r some low_rank own, λ l m w. inl (sym (writes_first (back ranks r root) l r low_rank m w).1), at_end r inside))) (λ none. inr (inl (λ j m w. let some = (writes_first (back ranks r root) j r low_rank m w).0 in omega (arith, none, some), subst (λ (u : Value). wanted (Scatter root) ranks r r u ≡ true) (sym (first_root r r inside inside (is_root ranks r root inside rooted (omega (arith, none))))) (at_end r inside)))) (cases_lt 0 (back ranks r root))
+  final_own r inside = ⊎_elim (λ some. inr (inr (0, (let one = upward_some (back ranks r root) some in omega (arith, one)), first_writes (back ranks r root) r some low_rank own, λ l m w. inl (sym (writes_first (back ranks r root) l r low_rank m w).1), wanted_at_end r inside))) (λ none. inr (inl (λ j m w. let some = (writes_first (back ranks r root) j r low_rank m w).0 in omega (arith, none, some), subst (λ (u : Value). wanted (Scatter root) ranks r r u ≡ true) (sym (first_root r r inside inside (is_root ranks r root inside rooted (omega (arith, none))))) (wanted_at_end r inside)))) (cases_lt 0 (back ranks r root))
     where
       low_rank : back ranks r root < ranks
       low_rank = back_below ranks r root inside
@@ -220,13 +220,13 @@ module _ (ranks root bytes : ℕ) (rooted : root < ranks) (few : ranks ≤ rank_
       own : IsInShare ranks root (back ranks r root) (2 ^ low (back ranks r root)) r
       own = record { slot = inside; from = omega arith; before = (let some = pow_pos (low (back ranks r root)) in omega (arith, some)) }
 
-  final : (r k : ℕ) → r < ranks → Ended r k
-  final r k inside =
-      ⊎_elim (λ same. subst (λ (n : ℕ). Ended r n) (sym same) (final_own r inside)) (λ other. inl (λ u. elsewhere r k u other)) (cases_eq k r)
+  slots_end_as_wanted : (r k : ℕ) → r < ranks → Ended r k
+  slots_end_as_wanted r k inside =
+      ⊎_elim (λ same. subst (λ (n : ℕ). Ended r n) (sym same) (final_own r inside)) (λ other. inl (λ u. nothing_wanted_elsewhere r k u other)) (cases_eq k r)
 
-  no_calc : (v i nanos : ℕ) → i < many v → (each v i).kind ≡ Calc nanos → ⊥
+  no_calc : (v i nanos : ℕ) → i < count_in v → (entry_in v i).kind ≡ Calc nanos → ⊥
   no_calc v i nanos there e =
-      ⊎_elim (λ p. let f = sym (ap (λ (n : ℕ). (each v n).kind) (sym p.1) ∙ ap (λ (x : Entry). x.kind) (takes v p.0)) ∙ e in cc f) (λ g. let f = sym (ap (λ (n : ℕ). (each v n).kind) (sym g.is) ∙ ap (λ (x : Entry). x.kind) (gives v g.round g.inside)) ∙ e in cc f) (cases_number v i there)
+      ⊎_elim (λ p. let f = sym (ap (λ (n : ℕ). (entry_in v n).kind) (sym p.1) ∙ ap (λ (x : Entry). x.kind) (entry_receives v p.0)) ∙ e in cc f) (λ g. let f = sym (ap (λ (n : ℕ). (entry_in v n).kind) (sym g.is) ∙ ap (λ (x : Entry). x.kind) (entry_sends v g.round g.inside)) ∙ e in cc f) (cases_number v i there)
 
   module _ (m : TreeEdge ranks) where
     abbrev up_rank : ℕ
@@ -236,33 +236,33 @@ module _ (ranks root bytes : ℕ) (rooted : root < ranks) (few : ranks ≤ rank_
     up_low = above_inside ranks root bytes rooted few m
 
     -- both ends of a message have the slots of the child's block
-    same_moved : moved (each up_rank (number up_rank (low m.child))) ≡ moved (each m.child 0)
+    same_moved : moved (entry_in up_rank (send_number up_rank (low m.child))) ≡ moved (entry_in m.child 0)
     same_moved =
-        ap moved (gives up_rank (low m.child) (above_is ranks root bytes rooted few m).round) ∙ ap (λ (c : ℕ). flat_map slots_of_span (share ranks root c (2 ^ low m.child))) (above_is ranks root bytes rooted few m).child ∙ sym (ap moved (takes m.child m.some))
+        ap moved (entry_sends up_rank (low m.child) (above_is ranks root bytes rooted few m).round) ∙ ap (λ (c : ℕ). flat_map slots_of_span (share ranks root c (2 ^ low m.child))) (above_is ranks root bytes rooted few m).child ∙ sym (ap moved (entry_receives m.child m.some))
 
-    kept : map (λ (k : ℕ). single root k) (moved (entry (ahead ranks up_rank root) (number up_rank (low m.child)))) ≡ map (λ (k : ℕ). single root k) (moved (entry (ahead ranks m.child root) 0))
-    kept =
+    message_keeps_values : map (λ (k : ℕ). single root k) (moved (entry (ahead ranks up_rank root) (send_number up_rank (low m.child)))) ≡ map (λ (k : ℕ). single root k) (moved (entry (ahead ranks m.child root) 0))
+    message_keeps_values =
         ap (λ (ks : List ℕ). map (λ (k : ℕ). single root k) ks) (rw (virtual ranks root bytes rooted few up_rank up_low, virtual ranks root bytes rooted few m.child m.inside) same_moved)
 
-    same_level : level (ahead ranks up_rank root) (number up_rank (low m.child)) ≡ level (ahead ranks m.child root) 0
+    same_level : level (ahead ranks up_rank root) (send_number up_rank (low m.child)) ≡ level (ahead ranks m.child root) 0
     same_level =
         rw (virtual ranks root bytes rooted few up_rank up_low, virtual ranks root bytes rooted few m.child m.inside) (level_gives up_rank (low m.child) (above_is ranks root bytes rooted few m).round ∙ (above_is ranks root bytes rooted few m).child ∙ sym (level_takes m.child m.some))
 
-  blueprint : IsBlueprint ranks count entry first (wanted (Scatter root) ranks) gift gift (TreeEdge ranks) bytes give_end take_end (λ m. low m.child) level
+  blueprint : IsBlueprint ranks count entry first (wanted (Scatter root) ranks) item_of_slot item_of_slot (TreeEdge ranks) bytes give_end take_end (λ m. low m.child) level
   blueprint = record {
-    messages = messages;
-    lower = λ r i k there m. lower (back ranks r root) i k there.1 m;
+    messages = tree_messages;
+    lower = λ r i k there m. needs_are_lower (back ranks r root) i k there.1 m;
     same_level = same_level;
-    race = λ r i j k inside l m differ t w. race (back ranks r root) i j k (back_below ranks r root inside) l m differ w;
-    source = λ r i k there not_receive t. source r i k there.0 there.1 not_receive t;
+    race = λ r i j k inside l m differ t w. conflicts_are_ordered (back ranks r root) i j k (back_below ranks r root inside) l m differ w;
+    source = λ r i k there not_receive t. touched_has_origin r i k there.0 there.1 not_receive t;
     summed = λ r i nanos there k. absurd (no_calc (back ranks r root) i nanos there.1 k);
-    kept = kept;
-    final = final;
+    kept = message_keeps_values;
+    final = slots_end_as_wanted;
   }
 
-  first_none : (r k : ℕ) → (ranks ≤ r) ⊎ ((r ≡ root → ⊥) ⊎ (ranks ≤ k)) → first r k ≡ []
+  first_empty_elsewhere : (r k : ℕ) → (ranks ≤ r) ⊎ ((r ≡ root → ⊥) ⊎ (ranks ≤ k)) → first r k ≡ []
   unfolding initial
-  first_none r k out = go (nat_lt r ranks) refl (r == root) refl (nat_lt k ranks) refl
+  first_empty_elsewhere r k out = go (nat_lt r ranks) refl (r == root) refl (nat_lt k ranks) refl
     where
       go : (a : Bool) → nat_lt r ranks ≡ a → (b : Bool) → (r == root) ≡ b → (c : Bool) → nat_lt k ranks ≡ c → (if a then (if b && c then single root k else []) else []) ≡ []
       go true e true f true g = absurd (⊎_elim (λ past. let lt = ltb-true r ranks e in omega (arith, past, lt)) (λ more. ⊎_elim (λ other. other (eqb-true r root f)) (λ past. let lt = ltb-true k ranks g in omega (arith, past, lt)) more) out)
@@ -275,7 +275,7 @@ module _ (ranks root bytes : ℕ) (rooted : root < ranks) (few : ranks ≤ rank_
       ⊎_elim (λ inside. ⊎_elim (λ same. ⊎_elim (λ slot. held inside same slot) (λ past. nothing (inr (inr past))) (cases_lt k ranks)) (λ other. nothing (inr (inl other))) (cases_eq r root)) (λ past. nothing (inl past)) (cases_lt r ranks)
     where
       nothing : (ranks ≤ r) ⊎ ((r ≡ root → ⊥) ⊎ (ranks ≤ k)) → length (first r k) ≤ block_cap ranks few root rooted r k
-      nothing out = let none = ap length (first_none r k out) in omega (arith, none)
+      nothing out = let none = ap length (first_empty_elsewhere r k out) in omega (arith, none)
 
       held : r < ranks → r ≡ root → k < ranks → length (first r k) ≤ block_cap ranks few root rooted r k
       held inside same slot =
@@ -287,14 +287,14 @@ module _ (ranks root bytes : ℕ) (rooted : root < ranks) (few : ranks ≤ rank_
           let is = ap length (first_root r k inside slot same) in
           omega (arith, one, is)
 
-  many_few : (v : ℕ) → many v ≤ 17
-  many_few v = let most = rounds_few ranks few v in let one = upward_few v in omega (arith, most, one)
+  count_in_few : (v : ℕ) → count_in v ≤ 17
+  count_in_few v = let most = rounds_few ranks few v in let one = upward_few v in omega (arith, most, one)
 
-  moving : (v i n : ℕ) → v < ranks → i < many v → IsMoving ranks few root rooted v n (each v i)
+  moving : (v i n : ℕ) → v < ranks → i < count_in v → IsMoving ranks few root rooted v n (entry_in v i)
   moving v i n inside there =
-      ⊎_elim (λ p. subst (λ (j : ℕ). IsMoving ranks few root rooted v n (each v j)) p.1 (subst (λ (x : Entry). IsMoving ranks few root rooted v n x) (sym (takes v p.0)) (own_block ranks few root rooted v n (Recv bytes (Some (parent ranks root v)) (Some (low v))) [] inside))) (λ g. subst (λ (j : ℕ). IsMoving ranks few root rooted v n (each v j)) g.is (subst (λ (x : Entry). IsMoving ranks few root rooted v n x) (sym (gives v g.round g.inside)) (child_block ranks few root rooted v n (Send bytes (ahead ranks (v + 2 ^ g.round) root) g.round) (before_gift v) inside g.round g.inside))) (cases_number v i there)
+      ⊎_elim (λ p. subst (λ (j : ℕ). IsMoving ranks few root rooted v n (entry_in v j)) p.1 (subst (λ (x : Entry). IsMoving ranks few root rooted v n x) (sym (entry_receives v p.0)) (own_block ranks few root rooted v n (Recv bytes (Some (parent ranks root v)) (Some (low v))) [] inside))) (λ g. subst (λ (j : ℕ). IsMoving ranks few root rooted v n (entry_in v j)) g.is (subst (λ (x : Entry). IsMoving ranks few root rooted v n x) (sym (entry_sends v g.round g.inside)) (child_block ranks few root rooted v n (Send bytes (ahead ranks (v + 2 ^ g.round) root) g.round) (needs_of_send v) inside g.round g.inside))) (cases_number v i there)
 
   pub scatter_certified : IsCertifiedFor (Scatter root) (made (Scatter root) ranks bytes)
   unfolding made
   scatter_certified =
-      subst (λ (n : ℕ). IsCertified (made (Scatter root) ranks bytes) (initial (Scatter root) n) (wanted (Scatter root) n)) (sym (length_plans ranks count entry)) (blueprint_certified ranks count entry first (wanted (Scatter root) ranks) gift gift (TreeEdge ranks) bytes give_end take_end (λ m. low m.child) level blueprint (block_cap ranks few root rooted) (block_load ranks few root rooted) (blocks_bounded ranks few root rooted many many_few each moving first (wanted (Scatter root) ranks) (λ (k : ℕ). single root k) (TreeEdge ranks) give_end (λ k. refl) first_cap (λ v i k inside there w. (writes_first v i k inside there w).2) messages.send_there) (blocks_small ranks few root rooted many many_few each moving))
+      subst (λ (n : ℕ). IsCertified (made (Scatter root) ranks bytes) (initial (Scatter root) n) (wanted (Scatter root) n)) (sym (length_plans ranks count entry)) (blueprint_certified ranks count entry first (wanted (Scatter root) ranks) item_of_slot item_of_slot (TreeEdge ranks) bytes give_end take_end (λ m. low m.child) level blueprint (block_cap ranks few root rooted) (block_load ranks few root rooted) (blocks_bounded ranks few root rooted count_in count_in_few entry_in moving first (wanted (Scatter root) ranks) (λ (k : ℕ). single root k) (TreeEdge ranks) give_end (λ k. refl) first_cap (λ v i k inside there w. (writes_first v i k inside there w).2) tree_messages.send_there) (blocks_small ranks few root rooted count_in count_in_few entry_in moving))

@@ -8,7 +8,7 @@ use Rattle.goal_limits.specs.declared.collective.Collective.{Collective}
 use Rattle.goal_blocks.specs.Collectives.{initial, wanted}
 use Rattle.goal_blocks.specs.Right.{IsRight, IsRightFor, IsCertifiedByProof}
 use Rattle.goal_blocks.specs.Certified.{IsCertifiedFor}
-use Rattle.goal_blocks.proofs.ForCallers.{certified_right, made_certified, all_made_right}
+use Rattle.goal_blocks.proofs.ForCallers.{certified_right, made_certified, made_right_at_any_weight}
 use Rattle.sim_params.specs.Costs.{CostModel, is_eager}
 use Rattle.sim_params.specs.Run.{IsCompleteRun}
 use Rattle.sim_params.proofs.ForCallers.{complete_interleaving}
@@ -28,6 +28,6 @@ generated_certified what ranks bytes input output e small is =
       is.sched,
       is.shown.0.shown,
       is.shown.0.read_back,
-      subst (λ (ps : List Plan). IsRightFor what ps) (sym from.made) (all_made_right what ranks bytes from.possible small),
+      subst (λ (ps : List Plan). IsRightFor what ps) (sym from.made) (made_right_at_any_weight what ranks bytes from.possible small),
       λ proved. subst (λ (ps : List Plan). IsCertifiedFor what ps) (sym from.made) (made_certified what ranks bytes from.possible small proved),
     )

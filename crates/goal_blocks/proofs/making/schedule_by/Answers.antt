@@ -4,7 +4,7 @@ use Rattle.goal_graph.specs.Schedule.{Plan}
 use Rattle.goal_blocks.specs.Certified.{IsCertifiedFor}
 use Rattle.goal_blocks.specs.Right.{IsRightFor}
 use Rattle.goal_blocks.proofs.MadeAccepted.{made_accepted}
-use Rattle.goal_blocks.proofs.MadeCertified.{made_certified, all_made_right}
+use Rattle.goal_blocks.proofs.MadeCertified.{made_certified, made_right_at_any_weight}
 use Rattle.goal_blocks.proofs.making.schedule_by.Goals as goal
 
 pub build_accepted-requires : goal.build_accepted-requires
@@ -20,4 +20,4 @@ returns-in-Ok-clause-certified g c =
 
 pub returns-in-Ok-clause-right : goal.returns-in-Ok-clause-right
 returns-in-Ok-clause-right g c =
-    subst (λ (plans : List Plan). IsRightFor c.args.what plans) (sym (c.in-Ok.ensures ∙ c.in_ok-plans.ensures ∙ c.requires.told)) (all_made_right c.args.what c.args.ranks c.args.bytes c.requires.possible c.requires.size)
+    subst (λ (plans : List Plan). IsRightFor c.args.what plans) (sym (c.in-Ok.ensures ∙ c.in_ok-plans.ensures ∙ c.requires.told)) (made_right_at_any_weight c.args.what c.args.ranks c.args.bytes c.requires.possible c.requires.size)
