@@ -22,28 +22,28 @@ use Rattle.goal_graph.specs.Limits.{AreCountsWithin}
 use Rattle.goal_graph.specs.Widths.{IsKindInWidth, IsOpInWidth, IsNoteInWidth, IsPlanInWidth, AreInWidth}
 use Rattle.goal_graph.proofs.ForCallers.{option_or-none, no_fault_test_passed}
 use Rattle.goal_parser.specs.Plans.{empty_plan}
-use Rattle.goal_print.proofs.Lexes.{within}
+use Rattle.goal_print.proofs.Lexes.{nat_le_true}
 use Rattle.goal_print.proofs.Fits.{WildFits, KindFits, OpFits, DepFits, NoteFits, PlanFits}
 
 -- what holds of each item without a fault
-all_pass : {A : Type 0} (fault : ℕ → A → Option PlanFault) (P : A → Type 0) → ((k : ℕ) (x : A) → fault k x ≡ None → P x)
+all_without_fault : {A : Type 0} (fault : ℕ → A → Option PlanFault) (P : A → Type 0) → ((k : ℕ) (x : A) → fault k x ≡ None → P x)
     → (n : ℕ) (xs : List A) → first_fault fault n xs ≡ None → AllByRecursion P xs
 unfolding first_fault
-all_pass fault P holds n [] none = tt
-all_pass fault P holds n (x ∷ xs) none =
+all_without_fault fault P holds n [] none = tt
+all_without_fault fault P holds n (x ∷ xs) none =
     let parts = option_or-none (fault n x) (first_fault fault (n + 1) xs) none in
-    (holds n x parts.0, all_pass fault P holds (n + 1) xs parts.1)
+    (holds n x parts.0, all_without_fault fault P holds (n + 1) xs parts.1)
 
-all_both : {A : Type 0} (P Q R : A → Type 0) → ((x : A) → P x → Q x → R x) → (xs : List A) → AllByRecursion P xs → AllByRecursion Q xs → AllByRecursion R xs
-all_both P Q R joined [] ps qs = tt
-all_both P Q R joined (x ∷ xs) ps qs = (joined x ps.0 qs.0, all_both P Q R joined xs ps.1 qs.1)
+all_by_two_laws : {A : Type 0} (P Q R : A → Type 0) → ((x : A) → P x → Q x → R x) → (xs : List A) → AllByRecursion P xs → AllByRecursion Q xs → AllByRecursion R xs
+all_by_two_laws P Q R joined [] ps qs = tt
+all_by_two_laws P Q R joined (x ∷ xs) ps qs = (joined x ps.0 qs.0, all_by_two_laws P Q R joined xs ps.1 qs.1)
 
-passed_first : (a b : Bool) (first second : PlanFault) → (if a then (if b then None else Some second) else Some first) ≡ None → a ≡ true
-passed_first true b first second h = refl
-passed_first false b first second h = cc
+first_test_passed : (a b : Bool) (first second : PlanFault) → (if a then (if b then None else Some second) else Some first) ≡ None → a ≡ true
+first_test_passed true b first second h = refl
+first_test_passed false b first second h = cc
 
-below : (m n : ℕ) → nat_lt m n ≡ true → m < n
-below m n h = grind (arith, nat_tests)
+nat_lt_true : (m n : ℕ) → nat_lt m n ≡ true → m < n
+nat_lt_true m n h = grind (arith, nat_tests)
 
 -- an operation
 
@@ -52,12 +52,12 @@ wild_fits None h = tt
 wild_fits (Some n) h = h n refl
 
 kind_fits : (kind : Kind) (nic : ℕ) → value_fits kind nic ≡ true → IsKindInWidth kind → nic < 2 ^ 8 → KindFits kind nic
-kind_fits (Calc nanos) nic value width small = let parts = and_parts (nat_le nanos MAX_NANOS) (nic == 0) value in (within nanos MAX_NANOS parts.0, zero_nic parts.1)
+kind_fits (Calc nanos) nic value width small = let parts = and_parts (nat_le nanos MAX_NANOS) (nic == 0) value in (nat_le_true nanos MAX_NANOS parts.0, zero_nic parts.1)
   where
     zero_nic : (nic == 0) ≡ true → nic ≡ 0
     zero_nic h = grind (arith, nat_tests)
-kind_fits (Send bytes to tag) nic value width small = (within bytes MAX_BYTES value, width.1, width.2, omega arith)
-kind_fits (Recv bytes from tag) nic value width small = (within bytes MAX_BYTES value, wild_fits from width.1, wild_fits tag width.2, omega arith)
+kind_fits (Send bytes to tag) nic value width small = (nat_le_true bytes MAX_BYTES value, width.1, width.2, omega arith)
+kind_fits (Recv bytes from tag) nic value width small = (nat_le_true bytes MAX_BYTES value, wild_fits from width.1, wild_fits tag width.2, omega arith)
 
 op_fits : (o : Op) → value_fits o.kind o.nic ≡ true → IsOpInWidth o → OpFits o
 op_fits o value width = record { kind = kind_fits o.kind o.nic value width.kind width.nic; cpu = let small = width.cpu in omega arith }
@@ -65,7 +65,7 @@ op_fits o value width = record { kind = kind_fits o.kind o.nic value width.kind 
 -- a dependency and a note
 
 dep_fits : (ops : ℕ) (d : Dep) → dep_in_range ops d ≡ true → DepFits ops d
-dep_fits ops d h = let parts = and_parts (nat_lt d.later ops) (nat_lt d.earlier ops) h in (below d.later ops parts.0, below d.earlier ops parts.1)
+dep_fits ops d h = let parts = and_parts (nat_lt d.later ops) (nat_lt d.earlier ops) h in (nat_lt_true d.later ops parts.0, nat_lt_true d.earlier ops parts.1)
 
 note_fits_text : (os : List Op) (n : Note) → note_fits os n ≡ true → IsNoteInWidth n → NoteFits (length os) n
 note_fits_text os (Moves op lo hi) h width =
@@ -108,16 +108,16 @@ unfolding rank_fault
 plan_fits ranks rank p none width few =
     let first = option_or-none (first_fault (op_fault ranks rank) 0 p.ops) _ none in
     let second = option_or-none (first_fault (dep_fault (length p.ops) rank) 0 p.deps) _ first.1 in
-    let deps = all_pass (dep_fault (length p.ops) rank) (DepFits (length p.ops)) (λ k d h. dep_fits (length p.ops) d (no_fault_test_passed (dep_in_range (length p.ops) d) (DepRange rank k) h)) 0 p.deps second.0 in
+    let deps = all_without_fault (dep_fault (length p.ops) rank) (DepFits (length p.ops)) (λ k d h. dep_fits (length p.ops) d (no_fault_test_passed (dep_in_range (length p.ops) d) (DepRange rank k) h)) 0 p.deps second.0 in
     let notes =
-    all_both (λ n. note_fits p.ops n ≡ true) IsNoteInWidth (NoteFits (length p.ops)) (note_fits_text p.ops) p.notes
-    (all_pass (note_fault p.ops rank) (λ n. note_fits p.ops n ≡ true) (λ k n h. no_fault_test_passed (note_fits p.ops n) (NoteMisfit rank k) h) 0 p.notes second.1)
+    all_by_two_laws (λ n. note_fits p.ops n ≡ true) IsNoteInWidth (NoteFits (length p.ops)) (note_fits_text p.ops) p.notes
+    (all_without_fault (note_fault p.ops rank) (λ n. note_fits p.ops n ≡ true) (λ k n h. no_fault_test_passed (note_fits p.ops n) (NoteMisfit rank k) h) 0 p.notes second.1)
     (recursion_from_All IsNoteInWidth p.notes width.notes) in
     record {
       few = few;
       ops =
-          all_both (λ o. value_fits o.kind o.nic ≡ true) IsOpInWidth OpFits op_fits p.ops
-          (all_pass (op_fault ranks rank) (λ o. value_fits o.kind o.nic ≡ true) (λ k o h. passed_first (value_fits o.kind o.nic) (has_peer ranks o.kind) (Value rank k) (Peer rank k) h) 0 p.ops first.0)
+          all_by_two_laws (λ o. value_fits o.kind o.nic ≡ true) IsOpInWidth OpFits op_fits p.ops
+          (all_without_fault (op_fault ranks rank) (λ o. value_fits o.kind o.nic ≡ true) (λ k o h. first_test_passed (value_fits o.kind o.nic) (has_peer ranks o.kind) (Value rank k) (Peer rank k) h) 0 p.ops first.0)
           (recursion_from_All IsOpInWidth p.ops width.ops);
       deps = deps;
       notes = notes;
@@ -126,20 +126,20 @@ plan_fits ranks rank p none width few =
 
 -- all plans
 
-few_ops : (limit : ℕ) (plans : List Plan) → op_count plans ≤ limit → AllByRecursion (λ (p : Plan). length p.ops ≤ limit) plans
+each_plan_has_few_ops : (limit : ℕ) (plans : List Plan) → op_count plans ≤ limit → AllByRecursion (λ (p : Plan). length p.ops ≤ limit) plans
 unfolding op_count
-few_ops limit [] few = tt
-few_ops limit (p ∷ ps) few =
+each_plan_has_few_ops limit [] few = tt
+each_plan_has_few_ops limit (p ∷ ps) few =
     let sum = sum_by-cons (λ (q : Plan). length q.ops) p ps in
-    (omega (arith, sum), few_ops limit ps (omega (arith, sum)))
+    (omega (arith, sum), each_plan_has_few_ops limit ps (omega (arith, sum)))
 
 pub plans_fit : (plans : List Plan) → IsAccepted plans → AreCountsWithin plans → AreInWidth plans → AllByRecursion PlanFits plans
 unfolding plain_fault
 plans_fit plans accepted counts width =
     let faultless = (option_or-none (count_fault plans) (first_fault (rank_fault (length plans)) 0 plans) accepted.plain).1 in
-    let parts = all_both (λ p. IsPlanInWidth p) (λ p. length p.ops ≤ MAX_OPS) (λ p. IsPlanInWidth p × (length p.ops ≤ MAX_OPS)) (λ p w f. (w, f)) plans
-    (recursion_from_All IsPlanInWidth plans width.ranks) (few_ops MAX_OPS plans counts.ops) in
-    all_both (λ p. (rank : ℕ) × (rank_fault (length plans) rank p ≡ None)) (λ p. IsPlanInWidth p × (length p.ops ≤ MAX_OPS)) PlanFits
+    let parts = all_by_two_laws (λ p. IsPlanInWidth p) (λ p. length p.ops ≤ MAX_OPS) (λ p. IsPlanInWidth p × (length p.ops ≤ MAX_OPS)) (λ p w f. (w, f)) plans
+    (recursion_from_All IsPlanInWidth plans width.ranks) (each_plan_has_few_ops MAX_OPS plans counts.ops) in
+    all_by_two_laws (λ p. (rank : ℕ) × (rank_fault (length plans) rank p ≡ None)) (λ p. IsPlanInWidth p × (length p.ops ≤ MAX_OPS)) PlanFits
     (λ p h w. plan_fits (length plans) h.0 p h.1 w.0 w.1) plans
-    (all_pass (rank_fault (length plans)) (λ p. (rank : ℕ) × (rank_fault (length plans) rank p ≡ None)) (λ k p h. (k, h)) 0 plans faultless)
+    (all_without_fault (rank_fault (length plans)) (λ p. (rank : ℕ) × (rank_fault (length plans) rank p ≡ None)) (λ k p h. (k, h)) 0 plans faultless)
     parts

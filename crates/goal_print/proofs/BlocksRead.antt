@@ -25,7 +25,7 @@ use Rattle.goal_print.proofs.Fits.{KindFits, OpFits, DepFits, NoteFits}
 use Rattle.goal_print.proofs.TextKinds.{op_kinds, ops_kinds, deps_kinds, note_kinds, notes_kinds}
 use Rattle.goal_print.proofs.Seen.{Seen, ops_now, Good, BeginsItem}
 use Rattle.goal_print.proofs.ItemsRead.{after_op, calc_draft, send_draft, recv_draft, calc_read, send_read, recv_read, after_dep, after_note, dep_read, moves_read, adds_read}
-use Rattle.goal_print.proofs.LabelLaws.{Knows, knows_more, used_more, used_none}
+use Rattle.goal_print.proofs.LabelLaws.{Knows, knows_with_next_label, used_more, used_none}
 
 -- what a block leaves unchanged before its end
 pub record Frame : Type 0 where
@@ -60,12 +60,12 @@ module _ (s : Seen) (frame : Frame) (os : List Op) (n ops deps notes : ℕ) (lon
   new_label : is_defined s.defined (label n) ≡ false
   new_label = ap is_some (h.knows.new n (omega arith) few)
 
-  is_room : s.counts.ops < MAX_OPS
-  is_room = let fit = h.room.ops_fit in omega arith
+  room_for_next_op : s.counts.ops < MAX_OPS
+  room_for_next_op = let fit = h.room.ops_fit in omega arith
 
-  op_more : (at : ℕ) (st : State) (draft : Draft) (o : Op) → BeginsItem st → ended_ops st token.Close (op_of draft) (ops_now s) ≡ ops_now s ++ op_of draft ∷ []
+  op_ended_by_next_word : (at : ℕ) (st : State) (draft : Draft) (o : Op) → BeginsItem st → ended_ops st token.Close (op_of draft) (ops_now s) ≡ ops_now s ++ op_of draft ∷ []
       → op_of draft ≡ o → InOps (after_op s (label n) at st draft) frame (os ++ o ∷ []) ops deps notes
-  op_more at st draft o begins ends is = record {
+  op_ended_by_next_word at st draft o begins ends is = record {
     begins = begins;
     ops_are = ends ∙ ap (λ (l : List Op). l ++ op_of draft ∷ []) h.ops_are ∙ ap (λ (p : Op). os ++ p ∷ []) is;
     knows =
@@ -73,7 +73,7 @@ module _ (s : Seen) (frame : Frame) (os : List Op) (n ops deps notes : ℕ) (lon
         let same : length (ops_now s) ≡ n = ap length h.ops_are ∙ long in
         subst (λ (m : ℕ). Knows (s.defined ++ record { label = label n; op = length (ops_now s) } ∷ []) m) (sym longer)
         (subst (λ (m : ℕ). Knows (s.defined ++ record { label = label n; op = m } ∷ []) (n + 1)) (sym same)
-        (knows_more s.defined n few (subst (Knows s.defined) long h.knows)));
+        (knows_with_next_label s.defined n few (subst (Knows s.defined) long h.knows)));
     no_deps = h.no_deps;
     no_notes = h.no_notes;
     no_uses = h.no_uses;
@@ -86,18 +86,18 @@ module _ (s : Seen) (frame : Frame) (os : List Op) (n ops deps notes : ℕ) (lon
       → Good s (op_kinds n (record { kind = kind; cpu = cpu; nic = nic }) kinds) plans
   unfolding ends_action
   op_read (Calc nanos) cpu nic fits small good =
-      calc_read s (label n) kinds plans h.begins new_label is_room nanos cpu nic fits.0 small (λ at.
+      calc_read s (label n) kinds plans h.begins new_label room_for_next_op nanos cpu nic fits.0 small (λ at.
       good (after_op s (label n) at state.Calc2 (calc_draft s.draft nanos cpu))
-      (op_more at state.Calc2 (calc_draft s.draft nanos cpu) (record { kind = Calc nanos; cpu = cpu; nic = nic }) tt refl
+      (op_ended_by_next_word at state.Calc2 (calc_draft s.draft nanos cpu) (record { kind = Calc nanos; cpu = cpu; nic = nic }) tt refl
       (ap (λ (m : ℕ). record { kind = Calc nanos; cpu = cpu; nic = m }) (sym fits.1))))
   op_read (Send bytes to tag) cpu nic fits small good =
-      send_read s (label n) kinds plans h.begins new_label is_room bytes to tag cpu nic fits.0 fits.1 fits.2 small fits.3 (λ at.
+      send_read s (label n) kinds plans h.begins new_label room_for_next_op bytes to tag cpu nic fits.0 fits.1 fits.2 small fits.3 (λ at.
       good (after_op s (label n) at state.Send4 (send_draft bytes to tag cpu nic))
-      (op_more at state.Send4 (send_draft bytes to tag cpu nic) (record { kind = Send bytes to tag; cpu = cpu; nic = nic }) tt refl refl))
+      (op_ended_by_next_word at state.Send4 (send_draft bytes to tag cpu nic) (record { kind = Send bytes to tag; cpu = cpu; nic = nic }) tt refl refl))
   op_read (Recv bytes from tag) cpu nic fits small good =
-      recv_read s (label n) kinds plans h.begins new_label is_room bytes from tag cpu nic fits.0 fits.1 fits.2 small fits.3 (λ at.
+      recv_read s (label n) kinds plans h.begins new_label room_for_next_op bytes from tag cpu nic fits.0 fits.1 fits.2 small fits.3 (λ at.
       good (after_op s (label n) at state.Recv4 (recv_draft bytes from tag cpu nic))
-      (op_more at state.Recv4 (recv_draft bytes from tag cpu nic) (record { kind = Recv bytes from tag; cpu = cpu; nic = nic }) tt refl refl))
+      (op_ended_by_next_word at state.Recv4 (recv_draft bytes from tag cpu nic) (record { kind = Recv bytes from tag; cpu = cpu; nic = nic }) tt refl refl))
 
 -- all operations of a rank
 pub ops_read : (more : List Op) (s : Seen) (frame : Frame) (os : List Op) (n ops deps notes : ℕ) (kinds : List TokenKind) (plans : List Plan)
@@ -143,10 +143,10 @@ module _ (s : Seen) (frame : Frame) (os : List Op) (ds : List Dep) (ns : List No
   label_number knows i below = ap (λ (o : Option ℕ). unwrap_or o 0) (knows.there i below)
 
   -- another dependency
-  dep_more : (d : Dep) → DepFits (length os) d → InItems s frame os ds ns ops (deps + 1) notes
+  next_dep_read : (d : Dep) → DepFits (length os) d → InItems s frame os ds ns ops (deps + 1) notes
       → ((t : Seen) → InItems t frame os (ds ++ d ∷ []) ns ops deps notes → Good t kinds plans) → Good s (deps_kinds (d ∷ []) kinds) plans
   unfolding ends_action
-  dep_more d fits h good =
+  next_dep_read d fits h good =
       dep_read s kinds plans h.begins (label d.later) (label d.earlier) d.when (let fit = h.room.deps_fit in omega arith)
       (λ at there. good (after_dep s (label d.later) (label d.earlier) at there d.when) (record {
         begins = tt;
@@ -184,12 +184,12 @@ module _ (s : Seen) (frame : Frame) (os : List Op) (ds : List Dep) (ns : List No
     room = let fit = h.room.notes_fit in record { ops_fit = h.room.ops_fit; deps_fit = h.room.deps_fit; notes_fit = omega arith };
   }
 
-  note_more : (n : Note) → NoteFits (length os) n → InItems s frame os ds ns ops deps (notes + 1)
+  next_note_read : (n : Note) → NoteFits (length os) n → InItems s frame os ds ns ops deps (notes + 1)
       → ((t : Seen) → InItems t frame os ds (ns ++ n ∷ []) ops deps notes → Good t kinds plans) → Good s (note_kinds n kinds) plans
-  note_more (Moves op lo hi) fits h good =
+  next_note_read (Moves op lo hi) fits h good =
       moves_read s kinds plans h.begins (label op) lo hi (let fit = h.room.notes_fit in omega arith) fits.1 fits.2
       (λ at. good (after_note s (label op) at verb.Moves lo hi) (after_note-items op verb.Moves lo hi at fits.0 h))
-  note_more (Adds op from to) fits h good =
+  next_note_read (Adds op from to) fits h good =
       adds_read s kinds plans h.begins (label op) from to (let fit = h.room.notes_fit in omega arith) fits.1 fits.2
       (λ at. good (after_note s (label op) at verb.Adds from to) (after_note-items op verb.Adds from to at fits.0 h))
 
@@ -200,7 +200,7 @@ deps_read [] s frame os ds ops deps notes kinds plans fits h good =
     good s (subst (λ (l : List Dep). InItems s frame os l [] ops deps notes) (sym (append-nil ds)) (subst (λ (m : ℕ). InItems s frame os ds [] ops m notes) (omega arith) h))
 deps_read (d ∷ more) s frame os ds ops deps notes kinds plans fits h good =
     let left : deps + length (d ∷ more) ≡ deps + length more + 1 = omega arith in
-    dep_more s frame os ds [] ops (deps + length more) notes (deps_kinds more kinds) plans d fits.0
+    next_dep_read s frame os ds [] ops (deps + length more) notes (deps_kinds more kinds) plans d fits.0
     (subst (λ (m : ℕ). InItems s frame os ds [] ops m notes) left h)
     (λ t h2. deps_read more t frame os (ds ++ d ∷ []) ops deps notes kinds plans fits.1 h2
     (λ u h3. good u (subst (λ (l : List Dep). InItems u frame os l [] ops deps notes) (append_assoc ds (d ∷ []) more) h3)))
@@ -212,7 +212,7 @@ notes_read [] s frame os ds ns ops deps notes kinds plans fits h good =
     good s (subst (λ (l : List Note). InItems s frame os ds l ops deps notes) (sym (append-nil ns)) (subst (λ (m : ℕ). InItems s frame os ds ns ops deps m) (omega arith) h))
 notes_read (n ∷ more) s frame os ds ns ops deps notes kinds plans fits h good =
     let left : notes + length (n ∷ more) ≡ notes + length more + 1 = omega arith in
-    note_more s frame os ds ns ops deps (notes + length more) (notes_kinds more kinds) plans n fits.0
+    next_note_read s frame os ds ns ops deps (notes + length more) (notes_kinds more kinds) plans n fits.0
     (subst (λ (m : ℕ). InItems s frame os ds ns ops deps m) left h)
     (λ t h2. notes_read more t frame os ds (ns ++ n ∷ []) ops deps notes kinds plans fits.1 h2
     (λ u h3. good u (subst (λ (l : List Note). InItems u frame os ds l ops deps notes) (append_assoc ns (n ∷ []) more) h3)))

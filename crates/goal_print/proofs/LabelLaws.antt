@@ -30,12 +30,12 @@ pub record Knows (ds : List Definition) (n : ℕ) : Type 0 where
   pub there : (i : ℕ) → i < n → defined_as ds (label i) ≡ Some i
   pub new : (i : ℕ) → n ≤ i → i < 2 ^ 32 → defined_as ds (label i) ≡ None
 
-pub knows_none : Knows [] 0
+pub knows_no_labels : Knows [] 0
 unfolding defined_as
-knows_none = record { there = λ i below. absurd (omega arith); new = λ i above fits. refl }
+knows_no_labels = record { there = λ i below. absurd (omega arith); new = λ i above fits. refl }
 
-pub knows_more : (ds : List Definition) (n : ℕ) → n < 2 ^ 32 → Knows ds n → Knows (ds ++ record { label = label n; op = n } ∷ []) (n + 1)
-knows_more ds n fits knows = record {
+pub knows_with_next_label : (ds : List Definition) (n : ℕ) → n < 2 ^ 32 → Knows ds n → Knows (ds ++ record { label = label n; op = n } ∷ []) (n + 1)
+knows_with_next_label ds n fits knows = record {
   there = λ i below. defined_as-append ds (record { label = label n; op = n }) (label i) ∙ there_now i below (nat_eq i n) refl;
   new = λ i above i_fits.
       defined_as-append ds (record { label = label n; op = n }) (label i)

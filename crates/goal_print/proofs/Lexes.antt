@@ -24,13 +24,13 @@ pub record Lexes (text : List ℕ) (kinds : List TokenKind) : Type 0 where
   pub right : AreRight pieces []
   pub tells : (place : ℕ) → kinds_of (tokens_of place pieces) ≡ kinds
 
-pub lexes_nothing : Lexes [] []
-lexes_nothing = record { pieces = []; spells = refl; right = tt; tells = λ place. refl }
+pub lexes_empty : Lexes [] []
+lexes_empty = record { pieces = []; spells = refl; right = tt; tells = λ place. refl }
 
 -- another piece
-one_more : (p : Piece) (new : List TokenKind) (text : List ℕ) (kinds : List TokenKind) → IsRight p text
+lexes_piece : (p : Piece) (new : List TokenKind) (text : List ℕ) (kinds : List TokenKind) → IsRight p text
     → ((place : ℕ) → kinds_of (piece_tokens place p) ≡ new) → Lexes text kinds → Lexes (bytes_of p ++ text) (new ++ kinds)
-one_more p new text kinds right tells rest = record {
+lexes_piece p new text kinds right tells rest = record {
   pieces = p ∷ rest.pieces;
   spells = ap (λ (t : List ℕ). bytes_of p ++ t) rest.spells;
   right = (subst (IsRight p) (rest.spells ∙ sym (append-nil (spelled rest.pieces))) right, rest.right);
@@ -41,25 +41,25 @@ one_more p new text kinds right tells rest = record {
 }
 
 pub lexes_space : {text : List ℕ} {kinds : List TokenKind} → Lexes text kinds → Lexes (32 ∷ text) kinds
-lexes_space {text} {kinds} rest = one_more (blank 32) [] text kinds refl (λ place. refl) rest
+lexes_space {text} {kinds} rest = lexes_piece (blank 32) [] text kinds refl (λ place. refl) rest
 
 pub lexes_line_feed : {text : List ℕ} {kinds : List TokenKind} → Lexes text kinds → Lexes (10 ∷ text) kinds
-lexes_line_feed {text} {kinds} rest = one_more (blank 10) [] text kinds refl (λ place. refl) rest
+lexes_line_feed {text} {kinds} rest = lexes_piece (blank 10) [] text kinds refl (λ place. refl) rest
 
 pub lexes_colon : {text : List ℕ} {kinds : List TokenKind} → Lexes text kinds → Lexes (58 ∷ text) (token.Colon ∷ kinds)
-lexes_colon {text} {kinds} rest = one_more (sign 58) (token.Colon ∷ []) text kinds refl (λ place. refl) rest
+lexes_colon {text} {kinds} rest = lexes_piece (sign 58) (token.Colon ∷ []) text kinds refl (λ place. refl) rest
 
 pub lexes_open : {text : List ℕ} {kinds : List TokenKind} → Lexes text kinds → Lexes (123 ∷ text) (token.Open ∷ kinds)
-lexes_open {text} {kinds} rest = one_more (sign 123) (token.Open ∷ []) text kinds refl (λ place. refl) rest
+lexes_open {text} {kinds} rest = lexes_piece (sign 123) (token.Open ∷ []) text kinds refl (λ place. refl) rest
 
 pub lexes_close : {text : List ℕ} {kinds : List TokenKind} → Lexes text kinds → Lexes (125 ∷ text) (token.Close ∷ kinds)
-lexes_close {text} {kinds} rest = one_more (sign 125) (token.Close ∷ []) text kinds refl (λ place. refl) rest
+lexes_close {text} {kinds} rest = lexes_piece (sign 125) (token.Close ∷ []) text kinds refl (λ place. refl) rest
 
 -- a word that no run byte follows
 pub lexes_word : (word : List ℕ) (kind : TokenKind) {text : List ℕ} {kinds : List TokenKind} → AreWord word → length word ≤ 64
     → run_kind Word word ≡ kind → begins_run text ≡ false → Lexes text kinds → Lexes (word ++ text) (kind ∷ kinds)
 lexes_word word kind {text} {kinds} are short is apart rest =
-    one_more (run Word word) (kind ∷ []) text kinds (are, short, apart) (λ place. ap (λ (k : TokenKind). k ∷ []) is) rest
+    lexes_piece (run Word word) (kind ∷ []) text kinds (are, short, apart) (λ place. ap (λ (k : TokenKind). k ∷ []) is) rest
 
 pub lexes_label : (op : ℕ) {text : List ℕ} {kinds : List TokenKind} → op + 1 < 2 ^ 64 → begins_run text ≡ false
     → Lexes text kinds → Lexes (label op ++ text) (token.Label (label op) ∷ kinds)
@@ -70,7 +70,7 @@ pub lexes_number : (n : ℕ) {text : List ℕ} {kinds : List TokenKind} → n < 
     → Lexes text kinds → Lexes (decimal n ++ text) (token.Number n ∷ kinds)
 lexes_number n {text} {kinds} small apart rest =
     let long : length (decimal n) ≤ 20 = length-decimal n small in
-    one_more (run Digits (decimal n)) (token.Number n ∷ []) text kinds (decimal_digits n small, omega arith, apart)
+    lexes_piece (run Digits (decimal n)) (token.Number n ∷ []) text kinds (decimal_digits n small, omega arith, apart)
     (λ place. ap (λ (m : ℕ). token.Number m ∷ []) (number_value-decimal n small)) rest
 
 pub lexes_size : (n : ℕ) {text : List ℕ} {kinds : List TokenKind} → n < 2 ^ 64 → begins_run text ≡ false
@@ -78,7 +78,7 @@ pub lexes_size : (n : ℕ) {text : List ℕ} {kinds : List TokenKind} → n < 2 
 lexes_size n {text} {kinds} small apart rest =
     let long : length (decimal n ++ 98 ∷ []) ≤ 64 = omega (arith, length-decimal n small, length-append (decimal n) (98 ∷ [])) in
     subst (λ (t : List ℕ). Lexes t (token.Size n ∷ kinds)) (append_assoc (decimal n) (98 ∷ []) text)
-    (one_more (run Sized (decimal n ++ 98 ∷ [])) (token.Size n ∷ []) text kinds
+    (lexes_piece (run Sized (decimal n ++ 98 ∷ [])) (token.Size n ∷ []) text kinds
     ((decimal n, refl, decimal_digits n small), long, apart)
     (λ place. ap (λ (k : TokenKind). k ∷ []) (size_kind n small)) rest)
 
@@ -91,24 +91,24 @@ abbrev pub is_word : List ℕ → Bool
 is_word [] = false
 is_word (c ∷ cs) = begins_word c && (all_run cs && nat_le (length (c ∷ cs)) 64)
 
-each_run : (cs : List ℕ) → all_run cs ≡ true → Each is_run_byte cs
-each_run [] h = tt
-each_run (c ∷ cs) h = let parts = and_parts (is_run_byte c) (all_run cs) h in (parts.0, each_run cs parts.1)
+all_run_gives_each : (cs : List ℕ) → all_run cs ≡ true → Each is_run_byte cs
+all_run_gives_each [] h = tt
+all_run_gives_each (c ∷ cs) h = let parts = and_parts (is_run_byte c) (all_run cs) h in (parts.0, all_run_gives_each cs parts.1)
 
 -- a test that passed
-pub within : (m n : ℕ) → nat_le m n ≡ true → m ≤ n
-within m n h = grind (arith, nat_tests)
+pub nat_le_true : (m n : ℕ) → nat_le m n ≡ true → m ≤ n
+nat_le_true m n h = grind (arith, nat_tests)
 
-word_of : (w : List ℕ) → is_word w ≡ true → AreWord w × (length w ≤ 64)
-word_of [] h = cc
-word_of (c ∷ cs) h =
+is_word_gives_word : (w : List ℕ) → is_word w ≡ true → AreWord w × (length w ≤ 64)
+is_word_gives_word [] h = cc
+is_word_gives_word (c ∷ cs) h =
     let first = and_parts (begins_word c) (all_run cs && nat_le (length (c ∷ cs)) 64) h in
     let second = and_parts (all_run cs) (nat_le (length (c ∷ cs)) 64) first.1 in
-    ((first.0, each_run cs second.0), within (length (c ∷ cs)) 64 second.1)
+    ((first.0, all_run_gives_each cs second.0), nat_le_true (length (c ∷ cs)) 64 second.1)
 
 pub lexes_reserved : (word : List ℕ) (kind : TokenKind) {text : List ℕ} {kinds : List TokenKind} → is_word word ≡ true
     → run_kind Word word ≡ kind → begins_run text ≡ false → Lexes text kinds → Lexes (word ++ text) (kind ∷ kinds)
-lexes_reserved word kind are is apart rest = let known = word_of word are in lexes_word word kind known.0 known.1 is apart rest
+lexes_reserved word kind are is apart rest = let known = is_word_gives_word word are in lexes_word word kind known.0 known.1 is apart rest
 
 -- the tokens of a text have these kinds, and it has no other tokens
 
@@ -122,11 +122,11 @@ nothing_at_end p after same right = by p same right
         cc
     by _ same right = cc
 
-no_fault : (fault : Option ℕ) (place : ℕ) → EndsWith fault place [] → fault ≡ None
-no_fault None place ends = refl
-no_fault (Some at) place ends = absurd (ends.1 refl)
+no_fault_at_end : (fault : Option ℕ) (place : ℕ) → EndsWith fault place [] → fault ≡ None
+no_fault_at_end None place ends = refl
+no_fault_at_end (Some at) place ends = absurd (ends.1 refl)
 
-pub lexed_of : (text : List ℕ) (kinds : List TokenKind) → Lexes text kinds → (kinds_of (lexed text).0 ≡ kinds) × ((lexed text).1 ≡ None)
-lexed_of text kinds is =
+pub lexed_has_kinds : (text : List ℕ) (kinds : List TokenKind) → Lexes text kinds → (kinds_of (lexed text).0 ≡ kinds) × ((lexed text).1 ≡ None)
+lexed_has_kinds text kinds is =
     let known = only_reading text is.pieces [] (record { whole = is.spells ∙ sym (append-nil (spelled is.pieces)); right = is.right }) nothing_at_end in
-    (ap kinds_of known.0 ∙ is.tells 0, no_fault (lexed text).1 (length (spelled is.pieces)) known.1)
+    (ap kinds_of known.0 ∙ is.tells 0, no_fault_at_end (lexed text).1 (length (spelled is.pieces)) known.1)

@@ -14,9 +14,9 @@ use Rattle.goal_print.specs.Canonical.{label}
 use Rattle.goal_lexer.proofs.ForCallers.{Each-push}
 
 -- decimal numbers are of digits
-digits_more : (ds : List ℕ) (c : ℕ) → AreDigits ds → is_digit c ≡ true → AreDigits (ds ++ c ∷ [])
-digits_more [] c are digit = absurd are
-digits_more (d ∷ ds) c are digit = (are.0, Each-push is_digit ds c are.1 digit)
+digits_with_last : (ds : List ℕ) (c : ℕ) → AreDigits ds → is_digit c ≡ true → AreDigits (ds ++ c ∷ [])
+digits_with_last [] c are digit = absurd are
+digits_with_last (d ∷ ds) c are digit = (are.0, Each-push is_digit ds c are.1 digit)
 
 is_digit-of : (m : ℕ) → m < 10 → is_digit (48 + m) ≡ true
 is_digit-of m h = grind (arith, nat_tests)
@@ -25,17 +25,17 @@ pub decimal_digits : (n : ℕ) → n < 2 ^ 64 → AreDigits (decimal n)
 decimal_digits =
     decimal_by_steps (λ (n : ℕ) (ds : List ℕ). AreDigits ds)
     (λ n below. (is_digit-of n below, tt))
-    (λ n ds above are. digits_more ds (48 + n % 10) are (is_digit-of (n % 10) (omega arith)))
+    (λ n ds above are. digits_with_last ds (48 + n % 10) are (is_digit-of (n % 10) (omega arith)))
 
-value_more : (ds : List ℕ) (m : ℕ) → decimal_value (ds ++ (48 + m) ∷ []) ≡ decimal_value ds * 10 + m
-value_more ds m =
+value_with_last_digit : (ds : List ℕ) (m : ℕ) → decimal_value (ds ++ (48 + m) ∷ []) ≡ decimal_value ds * 10 + m
+value_with_last_digit ds m =
     fold-append (λ (value digit : ℕ). value * 10 + (digit - 48)) 0 ds ((48 + m) ∷ []) ∙ omega arith
 
 pub decimal_value-decimal : (n : ℕ) → n < 2 ^ 64 → decimal_value (decimal n) ≡ n
 decimal_value-decimal =
     decimal_by_steps (λ (n : ℕ) (ds : List ℕ). decimal_value ds ≡ n)
     (λ n below. omega arith)
-    (λ n ds above is. value_more ds (n % 10) ∙ omega arith)
+    (λ n ds above is. value_with_last_digit ds (n % 10) ∙ omega arith)
 
 pub number_value-decimal : (n : ℕ) → n < 2 ^ 64 → number_value (decimal n) ≡ n
 number_value-decimal n h = let is : decimal_value (decimal n) ≡ n = decimal_value-decimal n h in omega arith
@@ -64,10 +64,10 @@ label_kind op = refl
 
 -- sizes
 
-take_front : (ds : List ℕ) (c : ℕ) → take (length (ds ++ c ∷ []) - 1) (ds ++ c ∷ []) ≡ ds
-take_front ds c =
+take_all_but_last : (ds : List ℕ) (c : ℕ) → take (length (ds ++ c ∷ []) - 1) (ds ++ c ∷ []) ≡ ds
+take_all_but_last ds c =
     let long : length (ds ++ c ∷ []) - 1 ≡ length ds = omega (arith, length-append ds (c ∷ [])) in
     ap (λ (n : ℕ). take n (ds ++ c ∷ [])) long ∙ take-append_seam ds (c ∷ [])
 
 pub size_kind : (n : ℕ) → n < 2 ^ 64 → run_kind Sized (decimal n ++ 98 ∷ []) ≡ token.Size n
-size_kind n h = ap (λ (ds : List ℕ). token.Size (number_value ds)) (take_front (decimal n) 98) ∙ ap (λ (m : ℕ). token.Size m) (number_value-decimal n h)
+size_kind n h = ap (λ (ds : List ℕ). token.Size (number_value ds)) (take_all_but_last (decimal n) 98) ∙ ap (λ (m : ℕ). token.Size m) (number_value-decimal n h)

@@ -17,7 +17,7 @@ use Rattle.goal_parser.specs.Sentence.{state_of}
 use Rattle.goal_parser.specs.Plans.{plans_of}
 use Rattle.goal_parser.specs.Reads.{last_fault, text_fault, text_plans, reads, reading, plans}
 use Rattle.goal_print.specs.Canonical.{canonical}
-use Rattle.goal_print.proofs.Lexes.{Lexes, lexed_of}
+use Rattle.goal_print.proofs.Lexes.{Lexes, lexed_has_kinds}
 use Rattle.goal_print.proofs.Seen.{seen_of, Ends, Good, good_tokens}
 use Rattle.goal_print.proofs.TextKinds.{canonical_kinds, lexes_canonical}
 use Rattle.goal_print.proofs.TextRead.{canonical_read}
@@ -28,7 +28,7 @@ reads_good : (text : List ℕ) (kinds : List TokenKind) (ps : List Plan) → Lex
 unfolding reads text_fault text_plans
 reads_good text kinds ps lexes good =
     let tokens : List Token = (lexed text).0 in
-    let known = lexed_of text kinds lexes in
+    let known = lexed_has_kinds text kinds lexes in
     let read = good_tokens [] tokens ps (subst (λ (ks : List TokenKind). Good (seen_of []) ks ps) (sym known.0) good) in
     let ends : Ends (seen_of (reverse tokens)) ps = subst (λ (l : List Token). Ends (seen_of l) ps) (append-nil (reverse tokens)) read.1 in
     ap (λ (o : Option TextFault). reading (option_or o (last_fault (lexed text).1 (state_of (reverse tokens)) (length text))) (plans_of (reverse tokens))) read.0

@@ -15,7 +15,7 @@ use Rattle.goal_graph.specs.declared.plan.Note.TheVariants.{Moves, Adds}
 use Rattle.goal_graph.specs.Schedule.{Plan}
 use Rattle.goal_print.specs.Canonical.{line_feed, label, number_or_any, action, op_line, op_lines, verb, dep_line, note_line, block, unless_empty, blocks, canonical}
 use Rattle.goal_print.proofs.Fits.{WildFits, KindFits, OpFits, DepFits, NoteFits, PlanFits}
-use Rattle.goal_print.proofs.Lexes.{Lexes, lexes_nothing, lexes_space, lexes_line_feed, lexes_colon, lexes_open, lexes_close, lexes_reserved, lexes_label, lexes_number, lexes_size}
+use Rattle.goal_print.proofs.Lexes.{Lexes, lexes_empty, lexes_space, lexes_line_feed, lexes_colon, lexes_open, lexes_close, lexes_reserved, lexes_label, lexes_number, lexes_size}
 
 abbrev pub wild_kind : Option ℕ → TokenKind
 wild_kind None = token.Any
@@ -70,8 +70,8 @@ abbrev pub canonical_kinds : List Plan → List TokenKind
 canonical_kinds plans = token.NumRanks ∷ token.Number (length plans) ∷ blocks_kinds 0 plans
 
 -- the line of a dependency, with what follows it
-dep_text : (later verb earlier text : List ℕ) → (later ++ verb ++ earlier ++ line_feed) ++ text ≡ later ++ (verb ++ (earlier ++ 10 ∷ text))
-dep_text later verb earlier text =
+dep_line_reassociated : (later verb earlier text : List ℕ) → (later ++ verb ++ earlier ++ line_feed) ++ text ≡ later ++ (verb ++ (earlier ++ 10 ∷ text))
+dep_line_reassociated later verb earlier text =
     append_assoc (later ++ verb ++ earlier) line_feed text
     ∙ append_assoc (later ++ verb) earlier (10 ∷ text)
     ∙ append_assoc later verb (earlier ++ 10 ∷ text)
@@ -135,12 +135,12 @@ lexes_dep ops d {text} {kinds} small fits rest = by d.when
   where
     by : (w : When) → Lexes ((label d.later ++ verb w ++ label d.earlier ++ line_feed) ++ text) (token.Label (label d.later) ∷ verb_kind w ∷ token.Label (label d.earlier) ∷ kinds)
     by AfterEnd =
-        rw (dep_text (label d.later) (verb AfterEnd) (label d.earlier) text)
+        rw (dep_line_reassociated (label d.later) (verb AfterEnd) (label d.earlier) text)
         (lexes_label d.later (omega arith) refl
         (lexes_space (lexes_reserved (codes "requires") token.Requires refl refl refl
         (lexes_space (lexes_label d.earlier (omega arith) refl (lexes_line_feed rest))))))
     by AfterStart =
-        rw (dep_text (label d.later) (verb AfterStart) (label d.earlier) text)
+        rw (dep_line_reassociated (label d.later) (verb AfterStart) (label d.earlier) text)
         (lexes_label d.later (omega arith) refl
         (lexes_space (lexes_reserved (codes "irequires") token.Irequires refl refl refl
         (lexes_space (lexes_label d.earlier (omega arith) refl (lexes_line_feed rest))))))
@@ -191,7 +191,7 @@ lexes_block rank p {text} {kinds} small fits rest =
 
 lexes_blocks : (rank : ℕ) (ps : List Plan) → rank + length ps < 2 ^ 64 → AllByRecursion PlanFits ps → Lexes (blocks rank ps) (blocks_kinds rank ps)
 unfolding blocks
-lexes_blocks rank [] small fits = lexes_nothing
+lexes_blocks rank [] small fits = lexes_empty
 lexes_blocks rank (p ∷ ps) small fits = by p.ops (lexes_blocks (rank + 1) ps (omega arith) fits.1)
   where
     by : (os : List Op) → Lexes (blocks (rank + 1) ps) (blocks_kinds (rank + 1) ps)

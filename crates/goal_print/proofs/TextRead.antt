@@ -26,7 +26,7 @@ use Rattle.goal_parser.specs.Plans.{empty_plan, plans_of}
 use Rattle.goal_print.proofs.Fits.{PlanFits}
 use Rattle.goal_print.proofs.TextKinds.{ops_kinds, deps_kinds, notes_kinds, block_kinds, unless_no_ops, blocks_kinds, canonical_kinds}
 use Rattle.goal_print.proofs.Seen.{Seen, seen_of, step, fault_in, ends, next, ops_now, plan_now, Good, at_close, close_read, passes_number, passes_rank}
-use Rattle.goal_print.proofs.LabelLaws.{Knows, knows_none}
+use Rattle.goal_print.proofs.LabelLaws.{Knows, knows_no_labels}
 use Rattle.goal_print.proofs.BlocksRead.{Frame, IsRoom, ops_read, items_begin, deps_read, notes_read}
 
 -- No block is open. The ranks from this number on have had no block, and these plans are read.
@@ -55,8 +55,8 @@ open_read s rank kinds plans top below fits fresh good =
     next (λ a b. passes_rank rank s.ranks s.blocks a below fits fresh) (λ a b.
     next (λ a b. refl) (λ a b. good))))
 
-fresh_more : (blocks : List ℕ) (rank i : ℕ) → list_any (nat_eq i) blocks ≡ false → rank < i → list_any (nat_eq i) (blocks ++ rank ∷ []) ≡ false
-fresh_more blocks rank i fresh above =
+rank_stays_without_block : (blocks : List ℕ) (rank i : ℕ) → list_any (nat_eq i) blocks ≡ false → rank < i → list_any (nat_eq i) (blocks ++ rank ∷ []) ≡ false
+rank_stays_without_block blocks rank i fresh above =
     let other : nat_eq i rank ≡ false = grind (arith, nat_tests) in
     list_any-append (nat_eq i) blocks (rank ∷ []) ∙ rw (fresh, other)
 
@@ -75,7 +75,7 @@ block_read s ranks rank p ps ops deps notes kinds plans below small fits h room 
     refl (omega (arith, fits.few)) fits.ops (record {
       begins = tt;
       ops_are = h.no_ops;
-      knows = subst (λ l. Knows l 0) (sym h.no_names) knows_none;
+      knows = subst (λ l. Knows l 0) (sym h.no_names) knows_no_labels;
       no_deps = h.no_deps;
       no_notes = h.no_notes;
       no_uses = h.no_uses;
@@ -93,7 +93,7 @@ block_read s ranks rank p ps ops deps notes kinds plans below small fits h room 
       no_notes = refl;
       no_uses = refl;
       ranks_are = ap (λ (f : Frame). f.ranks) h3.frame_is ∙ h.ranks_are;
-      fresh = λ i above. ap (λ (f : Frame). list_any (nat_eq i) f.blocks) h3.frame_is ∙ fresh_more s.blocks rank i (h.fresh i (omega arith)) (omega arith);
+      fresh = λ i above. ap (λ (f : Frame). list_any (nat_eq i) f.blocks) h3.frame_is ∙ rank_stays_without_block s.blocks rank i (h.fresh i (omega arith)) (omega arith);
       plans_are =
           ap (λ (f : Frame). slice_set f.plans f.rank (plan_now v)) h3.frame_is
           ∙ ap (λ (l : List Plan). slice_set l rank (plan_now v)) h.plans_are
@@ -111,14 +111,14 @@ block_read s ranks rank p ps ops deps notes kinds plans below small fits h room 
 abbrev pub with_empty : List Plan → ℕ → List Plan
 with_empty done n = done ++ replicate n empty_plan
 
-set_next : (done : List Plan) (rank : ℕ) (p : Plan) (n : ℕ) → length done ≡ rank → slice_set (with_empty done (suc n)) rank p ≡ with_empty (done ++ p ∷ []) n
-set_next done rank p n long =
+set_plan_of_next_rank : (done : List Plan) (rank : ℕ) (p : Plan) (n : ℕ) → length done ≡ rank → slice_set (with_empty done (suc n)) rank p ≡ with_empty (done ++ p ∷ []) n
+set_plan_of_next_rank done rank p n long =
     ap (λ (i : ℕ). slice_set (with_empty done (suc n)) i p) (sym long)
     ∙ set-append_seam done empty_plan (replicate n empty_plan) p
     ∙ sym (append_assoc done (p ∷ []) (replicate n empty_plan))
 
-keep_next : (done : List Plan) (p : Plan) (n : ℕ) → p ≡ empty_plan → with_empty done (suc n) ≡ with_empty (done ++ p ∷ []) n
-keep_next done p n is =
+keep_empty_plan_of_next_rank : (done : List Plan) (p : Plan) (n : ℕ) → p ≡ empty_plan → with_empty done (suc n) ≡ with_empty (done ++ p ∷ []) n
+keep_empty_plan_of_next_rank done p n is =
     ap (λ (q : Plan). done ++ q ∷ replicate n empty_plan) (sym is) ∙ sym (append_assoc done (p ∷ []) (replicate n empty_plan))
 
 InTop-later : (s : Seen) (ranks rank : ℕ) (ps qs : List Plan) → ps ≡ qs → InTop s ranks rank ps → InTop s ranks (rank + 1) qs
@@ -169,12 +169,12 @@ module _ (p : Plan) (more : List Plan) (s : Seen) (ranks rank : ℕ) (done plans
   rank_read : (os : List Op) → p.ops ≡ os → IsRoom s.counts (op_count more + length p.ops) (dep_count more + length p.deps) (note_count more + length p.notes)
       → Good s (unless_no_ops os (block_kinds rank p (blocks_kinds (rank + 1) more)) (blocks_kinds (rank + 1) more)) plans
   rank_read [] none room =
-      rest s (InTop-later s ranks rank (with_empty done (suc (length more))) (with_empty (done ++ p ∷ []) (length more)) (keep_next done p (length more) (fits.nothing none)) h)
+      rest s (InTop-later s ranks rank (with_empty done (suc (length more))) (with_empty (done ++ p ∷ []) (length more)) (keep_empty_plan_of_next_rank done p (length more) (fits.nothing none)) h)
       (IsRoom-fewer s.counts (op_count more) (dep_count more) (note_count more) (length p.ops) (length p.deps) (length p.notes) room)
   rank_read (o ∷ os) some room =
       block_read s ranks rank p (with_empty done (suc (length more))) (op_count more) (dep_count more) (note_count more) (blocks_kinds (rank + 1) more) plans
       below small fits h room
-      (λ t h2 room2. rest t (subst (InTop t ranks (rank + 1)) (set_next done rank p (length more) long) h2) room2)
+      (λ t h2 room2. rest t (subst (InTop t ranks (rank + 1)) (set_plan_of_next_rank done rank p (length more) long) h2) room2)
 
 -- all blocks
 blocks_read : (more : List Plan) (s : Seen) (ranks rank : ℕ) (done : List Plan) → length done ≡ rank → rank + length more ≡ ranks → ranks < 2 ^ 32
