@@ -42,10 +42,10 @@ abbrev is_earlier : ℕ → Dep → Bool
 is_earlier op p = p.earlier == op
 
 -- a dependency is listed at its earlier side as at its later side, for the same moment
-waiting_in : (ds : List Dep) (later : ℕ) (d : Need) → Contains (map earlier_of (filter (is_later later) ds)) d → Contains (map later_of (filter (is_earlier d.op) ds)) (record { op = later; when = d.when })
-waiting_in [] later d c = absurd (omega (arith, c.1))
-waiting_in (p ∷ ds) later d c =
-    go (λ q. waiting_in ds later d q) (is_later later p) refl (is_earlier d.op p) refl c
+listed_on_both_sides : (ds : List Dep) (later : ℕ) (d : Need) → Contains (map earlier_of (filter (is_later later) ds)) d → Contains (map later_of (filter (is_earlier d.op) ds)) (record { op = later; when = d.when })
+listed_on_both_sides [] later d c = absurd (omega (arith, c.1))
+listed_on_both_sides (p ∷ ds) later d c =
+    go (λ q. listed_on_both_sides ds later d q) (is_later later p) refl (is_earlier d.op p) refl c
   where
     go : (Contains (map earlier_of (filter (is_later later) ds)) d → Contains (map later_of (filter (is_earlier d.op) ds)) (record { op = later; when = d.when })) → (s : Bool) → is_later later p ≡ s → (b : Bool) → is_earlier d.op p ≡ b → Contains (map earlier_of (cond s (p ∷ filter (is_later later) ds) (filter (is_later later) ds))) d → Contains (map later_of (cond b (p ∷ filter (is_earlier d.op) ds) (filter (is_earlier d.op) ds))) (record { op = later; when = d.when })
     go more false l false f q = more q
@@ -58,10 +58,10 @@ waiting_in (p ∷ ds) later d c =
     go more true l false f (suc n, k, g) = more (n, omega (arith, k), g)
 
 -- what x needs, x waits for
-awaits_from : (plans : List Plan) (class : Class) (x y : OpId) (d : Need) → Contains (needs plans x) d → gives class d.when ≡ true → y ≡ needed x d → Awaits plans class y x
+need_is_awaited : (plans : List Plan) (class : Class) (x y : OpId) (d : Need) → Contains (needs plans x) d → gives class d.when ≡ true → y ≡ needed x d → Awaits plans class y x
 unfolding needs waiting_on
-awaits_from plans class x y d c given e =
-    let awaits : Awaits plans class (needed x d) x = record { need = record { op = x.op; when = d.when }; listed = waiting_in (deps_at plans x.rank) x.op d c; named = refl; given = given } in
+need_is_awaited plans class x y d c given e =
+    let awaits : Awaits plans class (needed x d) x = record { need = record { op = x.op; when = d.when }; listed = listed_on_both_sides (deps_at plans x.rank) x.op d c; named = refl; given = given } in
     subst (λ (z : OpId). Awaits plans class z x) (sym e) awaits
 
 -- after h, y is the operation of an action, or its partner, or waits for a moment that the action gives
@@ -92,16 +92,16 @@ module _ (plans : List Plan) (eager : OpId → Bool) (a : Act) (h : List Act) (n
       go (inr f) =
           let d = unready_need plans eager h x f in
           let met = newly_met d.0.when (needed x d.0) d.2 (ready_need plans eager (a ∷ h) x d.0 e d.1) in
-          inr (inr (inr (awaits_from plans a.class x a.op d.0 d.1 met.0 met.1)))
+          inr (inr (inr (need_is_awaited plans a.class x a.op d.0 d.1 met.0 met.1)))
 
-  listed_new : (p : Pair) → new_pair plans (pairs plans h) h a.class a.op ≡ Some p → IsListed p (pairs plans (a ∷ h))
+  new_pair_is_listed : (p : Pair) → new_pair plans (pairs plans h) h a.class a.op ≡ Some p → IsListed p (pairs plans (a ∷ h))
   unfolding pairs
-  listed_new p e = subst (λ (o : Option Pair). IsListed p (add_pair (pairs plans h) o)) (sym e) (inl refl)
+  new_pair_is_listed p e = subst (λ (o : Option Pair). IsListed p (add_pair (pairs plans h) o)) (sym e) (inl refl)
 
   newly_partner : (x : OpId) → is_paired (pairs plans h) x ≡ false → is_paired (pairs plans (a ∷ h)) x ≡ true → MayConcern x
   newly_partner x free taken =
       let p = newly_paired plans a h x free taken in
-      let both = listed_partners plans eager (a ∷ h) p.0 now (listed_new p.0 p.1) in
+      let both = listed_partners plans eager (a ∷ h) p.0 now (new_pair_is_listed p.0 p.1) in
       go p.0 (new_pair_is plans a h p.0 p.1).by both p.2
     where
       go : (p : Pair) → ((a ≡ act_of Arrive p.send) × (is_paired (pairs plans h) p.recv ≡ false)) ⊎ ((a ≡ act_of Post p.recv) × (is_paired (pairs plans h) p.send ≡ false)) → (partner (pairs plans (a ∷ h)) p.send ≡ Some p.recv) × (partner (pairs plans (a ∷ h)) p.recv ≡ Some p.send) → ((p.send ≡ x) ⊎ (p.recv ≡ x)) → MayConcern x
@@ -145,8 +145,8 @@ module _ (plans : List Plan) (eager : OpId → Bool) (a : Act) (h : List Act) (n
 
 -- those of a list of needs that are not yet read
 module _ (items : List Need) (k : ℕ) (d : Need) (class : Class) (x y : OpId) where
-  pub await_rest : k < length items → IsAwaiting (drop k items) class x y → ¬ (y ≡ needed x (get_or items k d)) → IsAwaiting (drop (k + 1) items) class x y
-  await_rest l n differ = record {
+  pub awaiting_after_next : k < length items → IsAwaiting (drop k items) class x y → ¬ (y ≡ needed x (get_or items k d)) → IsAwaiting (drop (k + 1) items) class x y
+  awaiting_after_next l n differ = record {
     need = n.need;
     listed = unread_after_next items k d n.need l n.listed (λ e. differ (n.named ∙ ap (needed x) e));
     named = n.named;
@@ -154,13 +154,13 @@ module _ (items : List Need) (k : ℕ) (d : Need) (class : Class) (x y : OpId) w
   }
 
   -- nor do those wait for it whose need is of the other moment
-  pub await_skipped : k < length items → gives class (get_or items k d).when ≡ false → IsAwaiting (drop k items) class x y → IsAwaiting (drop (k + 1) items) class x y
-  await_skipped l other n = record {
+  pub awaiting_after_other_moment : k < length items → gives class (get_or items k d).when ≡ false → IsAwaiting (drop k items) class x y → IsAwaiting (drop (k + 1) items) class x y
+  awaiting_after_other_moment l other n = record {
     need = n.need;
     listed = unread_after_next items k d n.need l n.listed (λ e. both_ways _ other (ap (λ (m : Need). gives class m.when) (sym e) ∙ n.given));
     named = n.named;
     given = n.given;
   }
 
-  pub await_none : length items ≤ k → IsAwaiting (drop k items) class x y → ⊥
-  await_none l n = nothing_after_end items k n.need l n.listed
+  pub none_awaiting_past_end : length items ≤ k → IsAwaiting (drop k items) class x y → ⊥
+  none_awaiting_past_end l n = nothing_after_end items k n.need l n.listed

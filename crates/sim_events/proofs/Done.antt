@@ -12,19 +12,19 @@ use Rattle.goal_graph.specs.Interleaving.{IsInterleaving}
 use Rattle.goal_graph.specs.Laws.{IsCalc}
 use Rattle.goal_graph.proofs.ForCallers.{allowed_arrive, allowed_begin, allowed_fresh, allowed_data, allowed_post, allowed_serve, arrived_begun, ended_receive, ended_started, fits_send, not_receive_calc, not_send_calc, not_send_receive, partner_of_receive, served_message, started_receive}
 
-another : (c : Class) → (place c ≡ place Serve → ⊥) → c ≢ Serve
-another c n e = n (ap place e)
+other_class_is_not_serve : (c : Class) → (place c ≡ place Serve → ⊥) → c ≢ Serve
+other_class_is_not_serve c n e = n (ap place e)
 
 pub serve_or_not : (c : Class) → (c ≡ Serve) ⊎ (c ≢ Serve)
-serve_or_not Arrive = inr (another Arrive (λ e. omega (arith, e)))
+serve_or_not Arrive = inr (other_class_is_not_serve Arrive (λ e. omega (arith, e)))
 serve_or_not Serve = inl refl
-serve_or_not Data = inr (another Data (λ e. omega (arith, e)))
-serve_or_not Post = inr (another Post (λ e. omega (arith, e)))
-serve_or_not Begin = inr (another Begin (λ e. omega (arith, e)))
+serve_or_not Data = inr (other_class_is_not_serve Data (λ e. omega (arith, e)))
+serve_or_not Post = inr (other_class_is_not_serve Post (λ e. omega (arith, e)))
+serve_or_not Begin = inr (other_class_is_not_serve Begin (λ e. omega (arith, e)))
 
 module _ (plans : List Plan) (eager : OpId → Bool) (h : List Act) (x y : OpId) (interleaving : IsInterleaving plans eager h) (receive : IsReceive plans x) (served : happened Serve x h ≡ true) (mates : partner (pairs plans h) x ≡ Some y) where
-  sent : (eager y || happened Data y h) ≡ true
-  sent =
+  message_is_sent : (eager y || happened Data y h) ≡ true
+  message_is_sent =
       subst (λ (o : Option OpId). is_served plans eager h o ≡ true) mates (served_message plans eager h x interleaving served)
 
   pub served_is_done : (c : Class) → allowed plans eager h c y ≡ true → ⊥
@@ -32,7 +32,7 @@ module _ (plans : List Plan) (eager : OpId → Bool) (h : List Act) (x y : OpId)
       both_ways _ (allowed_fresh plans eager h Begin y t) (arrived_begun plans eager h y interleaving (partner_of_receive plans h x y receive mates).arrived)
   served_is_done Arrive t = both_ways _ (allowed_fresh plans eager h Arrive y t) (partner_of_receive plans h x y receive mates).arrived
   served_is_done Data t =
-      elim (or_cases (eager y) (happened Data y h) sent) [ inl e ↦ both_ways _ (allowed_data plans eager h y t).1 e | inr s ↦ both_ways _ (allowed_fresh plans eager h Data y t) s ]
+      elim (or_cases (eager y) (happened Data y h) message_is_sent) [ inl e ↦ both_ways _ (allowed_data plans eager h y t).1 e | inr s ↦ both_ways _ (allowed_fresh plans eager h Data y t) s ]
   served_is_done Post t =
       not_send_receive plans y (fits_send plans x y (partner_of_receive plans h x y receive mates).fit) (allowed_post plans eager h y t).0
   served_is_done Serve t =

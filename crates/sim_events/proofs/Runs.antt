@@ -24,29 +24,29 @@ module _ {C : Type 0} (model : C → CostModel) (old new : RunSoFar C) where
   stepped_length (Some a) s = omega (arith, ap (λ (v : RunSoFar C). length v.history) s.1)
 
   -- with each step fewer are left
-  pub fewer_left : (r : Option Timed) → is_some r ≡ true → IsStepped model old new r → IsRun new.plans (model new.costs) new.history → 3 * length (operations new.plans) - length new.history < 3 * length (operations old.plans) - length old.history
-  fewer_left None t s run = absurd (cc)
-  fewer_left (Some a) t s run =
+  pub step_leaves_fewer : (r : Option Timed) → is_some r ≡ true → IsStepped model old new r → IsRun new.plans (model new.costs) new.history → 3 * length (operations new.plans) - length new.history < 3 * length (operations old.plans) - length old.history
+  step_leaves_fewer None t s run = absurd (cc)
+  step_leaves_fewer (Some a) t s run =
       let most = run_length new.plans (model new.costs) new.history run in
       let plans = ap (λ (v : RunSoFar C). length (operations v.plans)) s.1 in
       let history = ap (λ (v : RunSoFar C). length v.history) s.1 in
       omega (arith, most, plans, history)
 
   -- where a step finds nothing, nothing is possible
-  pub stepped_last : (r : Option Timed) → is_some r ≡ false → IsStepped model old new r → IsFinished new.plans (model new.costs) new.history
-  stepped_last (Some a) t s = absurd (cc)
-  stepped_last None t s = subst (λ (v : RunSoFar C). IsFinished v.plans (model v.costs) v.history) (sym s.1) s.0
+  pub empty_step_is_finished : (r : Option Timed) → is_some r ≡ false → IsStepped model old new r → IsFinished new.plans (model new.costs) new.history
+  empty_step_is_finished (Some a) t s = absurd (cc)
+  empty_step_is_finished None t s = subst (λ (v : RunSoFar C). IsFinished v.plans (model v.costs) v.history) (sym s.1) s.0
 
 -- an answer that is none is no action
-pub none_counted : (r : Option Timed) → is_some r ≡ false → count_of r ≡ 0
-none_counted None t = refl
-none_counted (Some a) t = absurd (cc)
+pub no_action_counts_zero : (r : Option Timed) → is_some r ≡ false → count_of r ≡ 0
+no_action_counts_zero None t = refl
+no_action_counts_zero (Some a) t = absurd (cc)
 
 -- a look that finds an action costs no more, and one that finds none costs what it does
-pub some_look : (r : Option Timed) → is_some r ≡ true → last_look r ≡ 0
-some_look None t = absurd (cc)
-some_look (Some a) t = refl
+pub look_with_action_is_free : (r : Option Timed) → is_some r ≡ true → last_look r ≡ 0
+look_with_action_is_free None t = absurd (cc)
+look_with_action_is_free (Some a) t = refl
 
-pub look_most : (r : Option Timed) → last_look r ≤ 3
-look_most None = omega arith
-look_most (Some a) = omega arith
+pub look_costs_at_most_three : (r : Option Timed) → last_look r ≤ 3
+look_costs_at_most_three None = omega arith
+look_costs_at_most_three (Some a) = omega arith

@@ -28,25 +28,25 @@ use Rattle.sim_state.proofs.ForCallers.{there_at as moment_at}
 
 module _ (plans : List Plan) (costs : CostModel) (h : List Timed) where
   -- what waits is not possible before all is free
-  not_before : (class : Class) (x : OpId) (k : Option Kind) → waits_for_room class ≡ true → may plans (is_eager plans costs) (plain h) class x k ≡ true → free_of plans costs h x k ≤ time_of plans costs h class x k
-  not_before class x None w m = omega arith
-  not_before Arrive x (Some k) w m = absurd (cc)
-  not_before Post x (Some k) w m = absurd (cc)
-  not_before Begin x (Some (Calc nanos)) w m = omega arith
-  not_before Begin x (Some (Send bytes to tag)) w m = omega arith
-  not_before Begin x (Some (Recv room from tag)) w m = absurd (cc)
-  not_before Data x (Some (Calc nanos)) w m = absurd (cc)
-  not_before Data x (Some (Send bytes to tag)) w m = omega arith
-  not_before Data x (Some (Recv room from tag)) w m = absurd (cc)
-  not_before Serve x (Some (Calc nanos)) w m = absurd (cc)
-  not_before Serve x (Some (Send bytes to tag)) w m = absurd (cc)
-  not_before Serve x (Some (Recv room from tag)) w m = omega arith
+  not_possible_before_free : (class : Class) (x : OpId) (k : Option Kind) → waits_for_room class ≡ true → may plans (is_eager plans costs) (plain h) class x k ≡ true → free_of plans costs h x k ≤ time_of plans costs h class x k
+  not_possible_before_free class x None w m = omega arith
+  not_possible_before_free Arrive x (Some k) w m = absurd (cc)
+  not_possible_before_free Post x (Some k) w m = absurd (cc)
+  not_possible_before_free Begin x (Some (Calc nanos)) w m = omega arith
+  not_possible_before_free Begin x (Some (Send bytes to tag)) w m = omega arith
+  not_possible_before_free Begin x (Some (Recv room from tag)) w m = absurd (cc)
+  not_possible_before_free Data x (Some (Calc nanos)) w m = absurd (cc)
+  not_possible_before_free Data x (Some (Send bytes to tag)) w m = omega arith
+  not_possible_before_free Data x (Some (Recv room from tag)) w m = absurd (cc)
+  not_possible_before_free Serve x (Some (Calc nanos)) w m = absurd (cc)
+  not_possible_before_free Serve x (Some (Send bytes to tag)) w m = absurd (cc)
+  not_possible_before_free Serve x (Some (Recv room from tag)) w m = omega arith
 
   pub free_first : (class : Class) (x : OpId) → waits_for_room class ≡ true → allowed plans (is_eager plans costs) (plain h) class x ≡ true → free plans costs h x ≤ time plans costs h class x
   unfolding time allowed
   free_first class x w a =
       let both = and_parts (not (happened class x (plain h))) (may plans (is_eager plans costs) (plain h) class x (kind_at plans x)) a in
-      not_before class x (kind_at plans x) w both.1
+      not_possible_before_free class x (kind_at plans x) w both.1
 
 module _ (plans : List Plan) (costs : CostModel) (a : Timed) (h : List Timed) where
   -- a station is not free sooner
@@ -87,19 +87,19 @@ module _ (plans : List Plan) (costs : CostModel) (a : Timed) (h : List Timed) wh
             ap (there_at plans costs (a ∷ h) x) (mate_stays plans costs a h x m is) ∙ part m (is_eager plans costs m) (is_some_from _ m is) e
 
     -- the time of an action that may happen, after one more
-    after : (class : Class) (x : OpId) (k : Option Kind) → kind_at plans x ≡ k → may plans (is_eager plans costs) (plain h) class x k ≡ true
+    time_of_kind_after_action : (class : Class) (x : OpId) (k : Option Kind) → kind_at plans x ≡ k → may plans (is_eager plans costs) (plain h) class x k ≡ true
         → time_of plans costs (a ∷ h) class x k ≡ (if waits_for_room class then max (time_of plans costs h class x k) (free_of plans costs (a ∷ h) x k) else time_of plans costs h class x k)
-    after Begin x (Some (Calc nanos)) is m = omega (arith, ready_kept x m, free_of_grows x (Some (Calc nanos)))
-    after Begin x (Some (Send bytes to tag)) is m = omega (arith, ready_kept x m, free_of_grows x (Some (Send bytes to tag)))
-    after Post x (Some (Recv room from tag)) is m = ready_kept x m
-    after Arrive x (Some (Send bytes to tag)) is m =
+    time_of_kind_after_action Begin x (Some (Calc nanos)) is m = omega (arith, ready_kept x m, free_of_grows x (Some (Calc nanos)))
+    time_of_kind_after_action Begin x (Some (Send bytes to tag)) is m = omega (arith, ready_kept x m, free_of_grows x (Some (Send bytes to tag)))
+    time_of_kind_after_action Post x (Some (Recv room from tag)) is m = ready_kept x m
+    time_of_kind_after_action Arrive x (Some (Send bytes to tag)) is m =
         let send : IsSend plans x = record { bytes = bytes; to = to; tag = tag; kind = is } in
         omega (arith, start_kept plans costs a h x (started_send plans (plain h) x send ∙ m))
-    after Data x (Some (Send bytes to tag)) is m =
+    time_of_kind_after_action Data x (Some (Send bytes to tag)) is m =
         omega (arith, paired_at_kept plans costs a h x (and_parts _ _ m).1, free_of_grows x (Some (Send bytes to tag)))
-    after Serve x (Some (Recv room from tag)) is m = omega (arith, message_kept x m, free_of_grows x (Some (Recv room from tag)))
-    after _ x _ is m = absurd (both_ways false refl m)
+    time_of_kind_after_action Serve x (Some (Recv room from tag)) is m = omega (arith, message_kept x m, free_of_grows x (Some (Recv room from tag)))
+    time_of_kind_after_action _ x _ is m = absurd (both_ways false refl m)
 
     pub time_after : (class : Class) (x : OpId) → allowed plans (is_eager plans costs) (plain h) class x ≡ true → time plans costs (a ∷ h) class x ≡ (if waits_for_room class then max (time plans costs h class x) (free plans costs (a ∷ h) x) else time plans costs h class x)
     unfolding time allowed
-    time_after class x p = after class x (kind_at plans x) refl (and_parts (not (happened class x (plain h))) _ p).1
+    time_after class x p = time_of_kind_after_action class x (kind_at plans x) refl (and_parts (not (happened class x (plain h))) _ p).1

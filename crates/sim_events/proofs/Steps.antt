@@ -18,7 +18,7 @@ use Rattle.sim_events.specs.Changes.{HaveChanged}
 use Rattle.std.proofs.lemmas.List.Sums.{sum_by-cons}
 use Rattle.sim_events.specs.Cost.{given_by, reads_of_run}
 use Rattle.sim_events.proofs.Changes.{changed_settled}
-use Rattle.sim_events.proofs.Settled.{after_settled}
+use Rattle.sim_events.proofs.Settled.{due_after_settled}
 
 module _ {C : Type 0} (model : C → CostModel) where
   abbrev pub QueueAt : RunSoFar C → Stationed → Type 0
@@ -35,7 +35,7 @@ module _ {C : Type 0} (model : C → CostModel) where
   due_after old new a queued settled slot e run next q here by =
       let then : RunSoFar C = record { plans = old.plans; costs = old.costs; history = a ∷ old.history } in
       let by_then : IsSettledBy (cpu old.plans (model old.costs) (a ∷ old.history) a.op) (side old.plans (model old.costs) (a ∷ old.history) a.op) slot a queued settled = subst (λ (v : RunSoFar C). IsSettledBy (cpu v.plans (model v.costs) v.history a.op) (side v.plans (model v.costs) v.history a.op) slot a queued settled) e by in
-      subst (λ (v : RunSoFar C). IsQueueBut v.plans (model v.costs) v.history (IsDueAfter v.plans (model v.costs) v.history a) settled) (sym e) (after_settled old.plans (model old.costs) old.history a run next.possible queued settled slot q here by_then)
+      subst (λ (v : RunSoFar C). IsQueueBut v.plans (model v.costs) v.history (IsDueAfter v.plans (model v.costs) v.history a) settled) (sym e) (due_after_settled old.plans (model old.costs) old.history a run next.possible queued settled slot q here by_then)
 
   -- what it holds is free later
   pub later_after : (old new : RunSoFar C) (a : Timed) (queued : Stationed) (slot : ℕ) → new ≡ record { plans = old.plans; costs = old.costs; history = a ∷ old.history } → NextAt old a → QueueAt old queued → slice_get (operations old.plans) slot ≡ Some a.op → IsLater queued.free (pair_of queued slot) (cpu new.plans (model new.costs) new.history a.op) (side new.plans (model new.costs) new.history a.op)
@@ -49,8 +49,8 @@ module _ {C : Type 0} (model : C → CostModel) where
       subst (λ (v : RunSoFar C). HaveChanged v.plans v.history settled all) (sym e) (changed_settled old.plans (model old.costs) old.history a queued q.of_it slot here _ _ settled by all changed)
 
   -- with one more action a look is counted at the needs whose moment it may give
-  pub looked_more : (old new : RunSoFar C) (a : Timed) → new ≡ record { plans = old.plans; costs = old.costs; history = a ∷ old.history } → reads_of_run new.plans new.history ≡ given_by old.plans a + reads_of_run old.plans old.history
-  looked_more old new a e =
+  pub looks_after_action : (old new : RunSoFar C) (a : Timed) → new ≡ record { plans = old.plans; costs = old.costs; history = a ∷ old.history } → reads_of_run new.plans new.history ≡ given_by old.plans a + reads_of_run old.plans old.history
+  looks_after_action old new a e =
       subst (λ (v : RunSoFar C). reads_of_run v.plans v.history ≡ given_by old.plans a + reads_of_run old.plans old.history) (sym e) (sum_by-cons (given_by old.plans) a old.history)
 
   -- an action changes no plans
@@ -58,15 +58,15 @@ module _ {C : Type 0} (model : C → CostModel) where
   plans_after old new a e = sym (ap (λ (v : RunSoFar C). v.plans) e)
 
   -- what happens next is an action of an operation
-  pub next_op : (state : RunSoFar C) (a : Timed) → NextAt state a → IsOp state.plans a.op
-  next_op state a next = possible_exists state.plans (model state.costs) state.history a next.possible
+  pub next_is_of_an_op : (state : RunSoFar C) (a : Timed) → NextAt state a → IsOp state.plans a.op
+  next_is_of_an_op state a next = possible_exists state.plans (model state.costs) state.history a next.possible
 
   pub op_after : (old new : RunSoFar C) (a : Timed) → new ≡ record { plans = old.plans; costs = old.costs; history = a ∷ old.history } → NextAt old a → IsOp new.plans a.op
   op_after old new a e next =
-      subst (λ (ps : List Plan). IsOp ps a.op) (sym (ap (λ (v : RunSoFar C). v.plans) e)) (next_op old a next)
+      subst (λ (ps : List Plan). IsOp ps a.op) (sym (ap (λ (v : RunSoFar C). v.plans) e)) (next_is_of_an_op old a next)
 
   -- nothing is possible exactly where no operation has a key
-  pub done_at : (v w : RunSoFar C) (queued : Stationed) (T : Type 0) → v ≡ w → RunAt w → QueueAt v queued → (T ↔ IsEmptyMap queued.keys) → T ↔ IsFinished w.plans (model w.costs) w.history
-  done_at v w queued T e run q empty =
+  pub finished_iff_queue_empty : (v w : RunSoFar C) (queued : Stationed) (T : Type 0) → v ≡ w → RunAt w → QueueAt v queued → (T ↔ IsEmptyMap queued.keys) → T ↔ IsFinished w.plans (model w.costs) w.history
+  finished_iff_queue_empty v w queued T e run q empty =
       let queue : QueueAt w queued = subst (λ (u : RunSoFar C). QueueAt u queued) e q in
       (λ t. finished w.plans (model w.costs) w.history run queued queue (empty.0 t), λ f. empty.1 (empty_from w.plans (model w.costs) w.history queued queue f))

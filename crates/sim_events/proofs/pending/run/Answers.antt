@@ -3,7 +3,7 @@ use Rattle.goal_graph.specs.Schedule.{operations}
 use Rattle.sim_events.proofs.Changes.{changed_most}
 use Rattle.sim_events.proofs.Costs.{spent_none}
 use Rattle.sim_events.proofs.Queue.{empty_from}
-use Rattle.sim_events.proofs.Runs.{stepped_plans, stepped_costs, stepped_length, stepped_last, fewer_left, none_counted, some_look, look_most}
+use Rattle.sim_events.proofs.Runs.{stepped_plans, stepped_costs, stepped_length, empty_step_is_finished, step_leaves_fewer, no_action_counts_zero, look_with_action_is_free, look_costs_at_most_three}
 use Rattle.sim_events.proofs.pending.run.Goals as goal
 
 pub steps-preserved : goal.steps-preserved
@@ -16,7 +16,7 @@ steps-preserved g c =
       stepped_costs g.C.Costs.model _ _ c.step.result stepped ∙ c.steps.invariant.2,
       λ k few.
           let step = c.step.ensures.counted k (omega (arith, few, ap (λ ps. length (operations ps)) c.steps.invariant.1)) in
-          omega (arith, c.steps.invariant.3 k few, step, ap (λ n. n * (18 * k + 29)) more, some_look c.step.result (sym c.is_some.ensures ∙ c.steps-test.true)),
+          omega (arith, c.steps.invariant.3 k few, step, ap (λ n. n * (18 * k + 29)) more, look_with_action_is_free c.step.result (sym c.is_some.ensures ∙ c.steps-test.true)),
       λ all changed.
           let so_far = c.steps.invariant.4 all changed in
           let now = c.step.ensures.moved so_far.now so_far.changed in
@@ -27,7 +27,7 @@ steps-preserved g c =
 
 pub steps-smaller : goal.steps-smaller
 steps-smaller g c =
-    fewer_left g.C.Costs.model _ _ c.step.result (sym c.is_some.ensures ∙ c.steps-test.true) c.step.ensures.stepped c.step.ensures.run
+    step_leaves_fewer g.C.Costs.model _ _ c.step.result (sym c.is_some.ensures ∙ c.steps-test.true) c.step.ensures.stepped c.step.ensures.run
 
 pub returns-clause-plans : goal.returns-clause-plans
 returns-clause-plans g c =
@@ -40,7 +40,7 @@ returns-clause-costs g c =
 pub returns-clause-complete : goal.returns-clause-complete
 returns-clause-complete g c = record {
   run = c.step.ensures.run;
-  finished = stepped_last g.C.Costs.model _ _ c.step.result (sym c.is_some.ensures ∙ c.steps-test.false) c.step.ensures.stepped;
+  finished = empty_step_is_finished g.C.Costs.model _ _ c.step.result (sym c.is_some.ensures ∙ c.steps-test.false) c.step.ensures.stepped;
 }
 
 pub returns-clause-counted : goal.returns-clause-counted
@@ -49,11 +49,11 @@ returns-clause-counted g c =
     let model = g.C.Costs.model in
     let stepped = c.step.ensures.stepped in
     let none = sym c.is_some.ensures ∙ c.steps-test.false in
-    let finished = stepped_last model _ _ c.step.result none stepped in
+    let finished = empty_step_is_finished model _ _ c.step.result none stepped in
     let empty = empty_from _ _ _ c.step.new.queue c.step.ensures.pending.0 finished in
     let step = c.step.ensures.counted k (omega (arith, few, ap (λ ps. length (operations ps)) c.steps.invariant.1)) in
     let more = stepped_length model _ _ c.step.result stepped in
-    omega (arith, c.steps.invariant.3 k few, step, ap (λ n. n * (18 * k + 29)) more, ap (λ n. n * (18 * k + 29)) (none_counted c.step.result none), spent_none k c.step.new.queue empty, look_most c.step.result)
+    omega (arith, c.steps.invariant.3 k few, step, ap (λ n. n * (18 * k + 29)) more, ap (λ n. n * (18 * k + 29)) (no_action_counts_zero c.step.result none), spent_none k c.step.new.queue empty, look_costs_at_most_three c.step.result)
 
 pub returns-clause-looked : goal.returns-clause-looked
 returns-clause-looked g c =

@@ -8,7 +8,7 @@ use Rattle.sim_events.specs.Comparisons.{count_of, last_look}
 use Rattle.sim_events.proofs.Costs.{spent_same}
 use Rattle.sim_events.proofs.Settled.{spent_settled}
 use Rattle.sim_events.proofs.Changes.{changed_placed}
-use Rattle.sim_events.proofs.Steps.{next_op, plans_after, op_after, due_after, later_after, changed_after, looked_more}
+use Rattle.sim_events.proofs.Steps.{next_is_of_an_op, plans_after, op_after, due_after, later_after, changed_after, looks_after_action}
 use Rattle.sim_events.proofs.pending.step.Goals as goal
 
 pub returns-in_err-slot-clause-counted : goal.returns-in_err-slot-clause-counted
@@ -19,7 +19,7 @@ returns-in_err-slot-clause-counted g c =
 
 pub waiting_after-waiting-requires : goal.waiting_after-waiting-requires
 waiting_after-waiting-requires g c =
-    (next_op g.C.Costs.model c.args.state.now c.in_ok-slot.action c.in_ok-slot.ensures.next)
+    (next_is_of_an_op g.C.Costs.model c.args.state.now c.in_ok-slot.action c.in_ok-slot.ensures.next)
 
 pub settle-requires-clause-exists : goal.settle-requires-clause-exists
 settle-requires-clause-exists g c =
@@ -82,4 +82,4 @@ returns-in_err-slot-clause-pending g c =
 
 pub returns-clause-needed : goal.returns-clause-needed
 returns-clause-needed g c =
-    omega (arith, c.perform.ensures.given, looked_more g.C.Costs.model c.args.state.now c.perform.new.self c.in_ok-slot.action c.perform.ensures.performed)
+    omega (arith, c.perform.ensures.given, looks_after_action g.C.Costs.model c.args.state.now c.perform.new.self c.in_ok-slot.action c.perform.ensures.performed)
