@@ -7,7 +7,7 @@ ghost use Rattle.goal_graph.specs.Tables.{index_of, AreStarts, IsTabled};
 
 use crate::action::OpId;
 use crate::plan::{Need, Op, RankPlan};
-use crate::rows::{Listing, Rows};
+use crate::rows::{Listing, NeedRows};
 use std::alloc::{AllocError, Global};
 use std::marker::Model;
 
@@ -16,8 +16,8 @@ use std::marker::Model;
 pub struct Tables {
     plans: Vec<RankPlan>,
     starts: Vec<u32>,
-    needs: Rows,
-    waiting_on: Rows,
+    needs: NeedRows,
+    waiting_on: NeedRows,
 }
 
 impl Model for Tables {
@@ -35,8 +35,8 @@ impl Tables {
         ensures { IfOk result (λ tables. tables ≡ plans.items) }
     {
         let starts = starts_of(alloc, &plans)?;
-        let needs = Rows::of(alloc, &plans, Listing::Needs)?;
-        let waiting_on = Rows::of(alloc, &plans, Listing::WaitingOn)?;
+        let needs = NeedRows::of(alloc, &plans, Listing::Needs)?;
+        let waiting_on = NeedRows::of(alloc, &plans, Listing::WaitingOn)?;
         Ok(Tables {
             plans,
             starts,
