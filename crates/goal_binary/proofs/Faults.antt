@@ -20,7 +20,7 @@ use Rattle.goal_binary.proofs.FieldsTaken.{IsBytes-take}
 use Rattle.goal_binary.proofs.FieldsRead.{long_enough}
 use Rattle.goal_binary.proofs.RanksTaken.{records_taken}
 use Rattle.goal_binary.proofs.RanksAgain.{meaning_fits}
-use Rattle.goal_binary.proofs.Readers.{Completed, Halts, Stop, take-shorter, take-front, IsBytes-append}
+use Rattle.goal_binary.proofs.Readers.{Completed, Halts, ReadStop, take-shorter, take-front, IsBytes-append}
 use Rattle.goal_binary.proofs.RanksRead.{body, body_reads}
 use Rattle.goal_binary.proofs.Limits.{body_gives}
 use Rattle.goal_binary.proofs.Opening.{front_bytes, plans_is, IsOpened, IsClosed, opened_is, open_or_closed}
@@ -147,7 +147,7 @@ module _ (bytes : List ℕ) (fits : IsBytes bytes) where
         let both = sym (meaning_err other f read) ∙ meaning_fits l b.plans b.have_file in
         absurd cc
 
-    stopped_true : (f : FileFault) (s : Stop l (body l) bytes 12 f) → Halts (body l) bytes 12 s.place s.width f → IsTrueOf bytes f
+    stopped_true : (f : FileFault) (s : ReadStop l (body l) bytes 12 f) → Halts (body l) bytes 12 s.place s.width f → IsTrueOf bytes f
     stopped_true f s how = go f how
       where
         before : BeginAFile l (take s.place bytes)

@@ -14,7 +14,7 @@ use Rattle.goal_binary.specs.Fields.{Read, ◌>>=◌, allow, byte_or_short, byte
 use Rattle.goal_binary.specs.Laws.{IsWidth}
 use Rattle.goal_binary.proofs.Steps.{IsBytes, ok_injective}
 use Rattle.goal_binary.proofs.FieldsTaken.{leb-le}
-use Rattle.goal_binary.proofs.Readers.{Completed, Halts, Stop, Reads, field, reads_as}
+use Rattle.goal_binary.proofs.Readers.{Completed, Halts, ReadStop, Reads, field, reads_as}
 
 -- a text of the width has a value that passes
 pub record CanPass (l : Layout) (width : ℕ) (value : List ℕ → ℕ) (test : ℕ → Bool) : Type 0 where
@@ -98,23 +98,23 @@ module _ {V : ℕ → Type 0} (l : Layout) (width : ℕ) (value : List ℕ → �
         is = field_is (front ++ can.text) at (value can.text) room (ap value taken) ∙ ap (λ (b : Bool). allow b at (value can.text, at + width)) can.passes ∙ ap (λ (p : ℕ). Ok (value can.text, p)) place;
       }
 
-  field_stops : (bytes : List ℕ) (at : ℕ) (fault : FileFault) → at ≤ length bytes → field width value test bytes at ≡ Err fault → Stop l (field width value test) bytes at fault
+  field_stops : (bytes : List ℕ) (at : ℕ) (fault : FileFault) → at ≤ length bytes → field width value test bytes at ≡ Err fault → ReadStop l (field width value test) bytes at fault
   unfolding field
   field_stops bytes at fault le e = go (ltb (length bytes - at) width) (test (value (take width (drop at bytes)))) refl refl e
     where
       front_len : length (take at bytes) ≡ at
       front_len = omega (arith, length-take at bytes, le)
 
-      made : (f : FileFault) → Halts (field width value test) bytes at at width f → Stop l (field width value test) bytes at f
+      made : (f : FileFault) → Halts (field width value test) bytes at at width f → ReadStop l (field width value test) bytes at f
       made f how = record { place = at; width = width; from = omega arith; within = le; is_width = can.is_width; done = field_completed at (take at bytes) front_len; how = how }
 
       go : (short good : Bool) → ltb (length bytes - at) width ≡ short → test (value (take width (drop at bytes))) ≡ good
-          → cond short (Err (Short (length bytes))) (allow good at (pair (value (take width (drop at bytes))) (at + width))) ≡ Err fault → Stop l (field width value test) bytes at fault
-      go true good is passed e = subst (λ (f : FileFault). Stop l (field width value test) bytes at f) (error_is (Short (length bytes)) fault e) (made (Short (length bytes)) (refl, omega (arith, short_is (length bytes - at) width is)))
+          → cond short (Err (Short (length bytes))) (allow good at (pair (value (take width (drop at bytes))) (at + width))) ≡ Err fault → ReadStop l (field width value test) bytes at fault
+      go true good is passed e = subst (λ (f : FileFault). ReadStop l (field width value test) bytes at f) (error_is (Short (length bytes)) fault e) (made (Short (length bytes)) (refl, omega (arith, short_is (length bytes - at) width is)))
       go false true is passed e = absurd cc
       go false false is passed e =
           let room : at + width ≤ length bytes = omega (arith, ltb-false _ _ is, can.some) in
-          subst (λ (f : FileFault). Stop l (field width value test) bytes at f) (error_is (Field at) fault e)
+          subst (λ (f : FileFault). ReadStop l (field width value test) bytes at f) (error_is (Field at) fault e)
           (made (Field at) (
             refl,
             room,

@@ -13,7 +13,7 @@ use Rattle.goal_graph.specs.declared.plan.Note.TheVariants.{Moves, Adds}
 use Rattle.goal_graph.specs.Fault.{value_fits}
 use Rattle.goal_graph.specs.Widths.{IsKindInWidth, IsNoteInWidth}
 use Rattle.goal_graph.proofs.ForCallers.{and_left, and_right}
-use Rattle.goal_binary.specs.declared.form.Form.{Form}
+use Rattle.goal_binary.specs.declared.form.OpForm.{OpForm}
 use Rattle.goal_binary.specs.Fitting.{OpFits, DepFits}
 use Rattle.goal_binary.specs.File.{spelled_u32, spelled_u64, kind_code, flags_of, peer_of, tag_of, size_of, op_bytes, fixed_op, fixed_dep, fixed_note, when_code}
 use Rattle.goal_binary.specs.Fields.{byte_at, u32_at, byte_up_to, u32_up_to, u64_up_to}
@@ -117,7 +117,7 @@ module _ (bytes : List ℕ) where
       let f = byte_up_to_again bytes (most_flags kind) k.place flags rest flags_fit k.rest_is in
       record { place = f.place; is = rw (k.is, f.is) refl; rest_is = f.rest_is }
 
-  op_steps : (at : ℕ) (form : Form × ℕ) (cpu nic peer tag unused size : ℕ × ℕ) → form_at bytes at ≡ Ok form → byte_at bytes form.1 ≡ Ok cpu → byte_up_to bytes (most_nic form.0) cpu.1 ≡ Ok nic
+  op_steps : (at : ℕ) (form : OpForm × ℕ) (cpu nic peer tag unused size : ℕ × ℕ) → form_at bytes at ≡ Ok form → byte_at bytes form.1 ≡ Ok cpu → byte_up_to bytes (most_nic form.0) cpu.1 ≡ Ok nic
       → u32_up_to bytes (most_peer form.0) nic.1 ≡ Ok peer → u32_up_to bytes (most_tag form.0) peer.1 ≡ Ok tag → u32_up_to bytes 0 tag.1 ≡ Ok unused → u64_up_to bytes (most_size form.0) unused.1 ≡ Ok size
       → fixed_op_at bytes at ≡ Ok (record { kind = kind_of form.0 peer.0 tag.0 size.0; cpu = cpu.0; nic = nic.0 }, size.1)
   unfolding fixed_op_at

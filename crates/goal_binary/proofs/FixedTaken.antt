@@ -3,7 +3,7 @@ use Rattle.std.proofs.Common.{◌≡◌, ℕ, zero, suc, ◌≤◌, List, [], �
 use Rattle.goal_graph.specs.declared.plan.Op.{Op}
 use Rattle.goal_graph.specs.declared.plan.Dep.{Dep}
 use Rattle.goal_graph.specs.declared.plan.Note.{Note}
-use Rattle.goal_binary.specs.declared.form.Form.{Form}
+use Rattle.goal_binary.specs.declared.form.OpForm.{OpForm}
 use Rattle.goal_binary.specs.File.{spelled_u32, spelled_u64, op_bytes, note_bytes, fixed_op, fixed_dep, fixed_note, when_code, note_fields}
 use Rattle.goal_binary.specs.Fields.{◌>>=◌, byte_at, u32_at, byte_up_to, u32_up_to, u64_up_to}
 use Rattle.goal_binary.specs.Reading.{most_flags, form_of, most_nic, most_peer, most_tag, most_size, kind_of, when_of, note_of, form_at, fixed_op_at, fixed_dep_at, fixed_note_at}
@@ -48,7 +48,7 @@ note_of-fields (suc zero) op first second h = refl
 note_of-fields (suc (suc k)) op first second h = absurd (omega arith)
 
 module _ (bytes : List ℕ) where
-  pub record FormTaken (at : ℕ) (form : Form) (after : ℕ) : Type 0 where
+  pub record FormTaken (at : ℕ) (form : OpForm) (after : ℕ) : Type 0 where
     pub kind : ℕ
     pub flags : ℕ
     pub kind_fits : kind ≤ 2
@@ -56,7 +56,7 @@ module _ (bytes : List ℕ) where
     pub form_is : form_of kind flags ≡ form
     pub takes : Takes bytes at (kind ∷ flags ∷ []) after
 
-  pub form_taken : (at : ℕ) (x : Form × ℕ) → form_at bytes at ≡ Ok x → FormTaken at x.0 x.1
+  pub form_taken : (at : ℕ) (x : OpForm × ℕ) → form_at bytes at ≡ Ok x → FormTaken at x.0 x.1
   unfolding form_at
   form_taken at x e =
       let a = bind_ok (byte_up_to bytes 2 at) (λ kind. byte_up_to bytes (most_flags kind.0) kind.1 >>= λ flags. Ok (form_of kind.0 flags.0, flags.1)) x e in
@@ -70,8 +70,8 @@ module _ (bytes : List ℕ) where
         flags = b.0.0;
         kind_fits = k.1;
         flags_fit = f.1;
-        form_is = ap (λ (p : Form × ℕ). p.0) is;
-        takes = subst (λ (p : ℕ). Takes bytes at (a.0.0 ∷ b.0.0 ∷ []) p) (ap (λ (p : Form × ℕ). p.1) is) both;
+        form_is = ap (λ (p : OpForm × ℕ). p.0) is;
+        takes = subst (λ (p : ℕ). Takes bytes at (a.0.0 ∷ b.0.0 ∷ []) p) (ap (λ (p : OpForm × ℕ). p.1) is) both;
       }
 
   module _ (fits : IsBytes bytes) where
@@ -122,16 +122,16 @@ module _ (bytes : List ℕ) where
     none_taken at n after t = subst (λ (m : ℕ). Takes bytes at (spelled_u32 m) after) (is_zero n t.1) t.0
 
     -- an operation of that form, whose other fields are within its limits
-    formed : (at cpu_at nic_at peer_at tag_at unused_at size_at after : ℕ) (form : Form) (cpu nic peer tag size : ℕ) → FormTaken at form cpu_at → nic ≤ most_nic form → peer ≤ most_peer form → tag ≤ most_tag form → Takes bytes cpu_at (cpu ∷ []) nic_at → Takes bytes nic_at (nic ∷ []) peer_at → Takes bytes peer_at (spelled_u32 peer) tag_at → Takes bytes tag_at (spelled_u32 tag) unused_at → Takes bytes unused_at (spelled_u32 0) size_at → Takes bytes size_at (spelled_u64 size) after → Takes bytes at (fixed_op (record { kind = kind_of form peer tag size; cpu = cpu; nic = nic })) after
+    formed : (at cpu_at nic_at peer_at tag_at unused_at size_at after : ℕ) (form : OpForm) (cpu nic peer tag size : ℕ) → FormTaken at form cpu_at → nic ≤ most_nic form → peer ≤ most_peer form → tag ≤ most_tag form → Takes bytes cpu_at (cpu ∷ []) nic_at → Takes bytes nic_at (nic ∷ []) peer_at → Takes bytes peer_at (spelled_u32 peer) tag_at → Takes bytes tag_at (spelled_u32 tag) unused_at → Takes bytes unused_at (spelled_u32 0) size_at → Takes bytes size_at (spelled_u64 size) after → Takes bytes at (fixed_op (record { kind = kind_of form peer tag size; cpu = cpu; nic = nic })) after
     formed at cpu_at nic_at peer_at tag_at unused_at size_at after form cpu nic peer tag size taken nic_fits peer_fits tag_fits its_cpu its_nic its_peer its_tag none its_size =
         let fields : AreFields taken.kind taken.flags nic peer tag = record {
           kind_fits = taken.kind_fits;
           flags_fit = taken.flags_fit;
-          nic_fits = subst (λ (f : Form). nic ≤ most_nic f) (sym taken.form_is) nic_fits;
-          peer_fits = subst (λ (f : Form). peer ≤ most_peer f) (sym taken.form_is) peer_fits;
-          tag_fits = subst (λ (f : Form). tag ≤ most_tag f) (sym taken.form_is) tag_fits;
+          nic_fits = subst (λ (f : OpForm). nic ≤ most_nic f) (sym taken.form_is) nic_fits;
+          peer_fits = subst (λ (f : OpForm). peer ≤ most_peer f) (sym taken.form_is) peer_fits;
+          tag_fits = subst (λ (f : OpForm). tag ≤ most_tag f) (sym taken.form_is) tag_fits;
         } in
-        subst (λ (f : Form). Takes bytes at (fixed_op (record { kind = kind_of f peer tag size; cpu = cpu; nic = nic })) after) taken.form_is (op_taken at cpu_at nic_at peer_at tag_at unused_at size_at after taken.kind taken.flags cpu nic peer tag size fields taken.takes its_cpu its_nic its_peer its_tag none its_size)
+        subst (λ (f : OpForm). Takes bytes at (fixed_op (record { kind = kind_of f peer tag size; cpu = cpu; nic = nic })) after) taken.form_is (op_taken at cpu_at nic_at peer_at tag_at unused_at size_at after taken.kind taken.flags cpu nic peer tag size fields taken.takes its_cpu its_nic its_peer its_tag none its_size)
 
     pub fixed_op_taken : (at : ℕ) (x : Op × ℕ) → fixed_op_at bytes at ≡ Ok x → Takes bytes at (fixed_op x.0) x.1
     unfolding fixed_op_at

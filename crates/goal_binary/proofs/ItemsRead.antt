@@ -2,7 +2,7 @@
 use Rattle.std.proofs.Common.{ℕ, ◌/◌, ◌%◌, ◌≤◌, Bool, true, false, refl}
 use Rattle.goal_graph.specs.declared.plan.Op.{Op}
 use Rattle.goal_graph.specs.declared.plan.Dep.{Dep}
-use Rattle.goal_binary.specs.declared.form.Form.{Form}
+use Rattle.goal_binary.specs.declared.form.OpForm.{OpForm}
 use Rattle.goal_binary.specs.declared.layout.Layout.{Layout}
 use Rattle.goal_binary.specs.declared.layout.Layout.TheVariants.{Fixed, Packed}
 use Rattle.goal_binary.specs.Fields.{byte_up_to, some_byte_at}
@@ -23,7 +23,7 @@ form_reads =
     (λ kind _. then_reads {P = λ bytes at. byte_up_to bytes (most_flags kind) at} {Q = λ flags. give (form_of kind flags)} (byte_up_to_reads Fixed (most_flags kind))
     (λ flags _. give_reads (form_of kind flags) tt)))
 
-unfoldable pub made_op : Form → (peer tag size cpu nic : ℕ) → Op
+unfoldable pub made_op : OpForm → (peer tag size cpu nic : ℕ) → Op
 made_op form peer tag size cpu nic = record { kind = kind_of form peer tag size; cpu = cpu; nic = nic }
 
 fixed_op_reads : Reads Fixed anything fixed_op_at

@@ -9,8 +9,8 @@ use Rattle.goal_limits.specs.declared.limits.TheConstants.{MAX_OPS, MAX_DEPS, MA
 use Rattle.goal_graph.specs.Schedule.{Plan}
 use Rattle.goal_graph.specs.Fault.{op_count, dep_count, note_count}
 use Rattle.goal_graph.specs.Widths.{IsNoteInWidth}
-use Rattle.goal_binary.specs.declared.form.Form.{Form}
-use Rattle.goal_binary.specs.declared.form.Form.TheVariants as form
+use Rattle.goal_binary.specs.declared.form.OpForm.{OpForm}
+use Rattle.goal_binary.specs.declared.form.OpForm.TheVariants as form
 use Rattle.goal_binary.specs.declared.form.Head.{Head}
 use Rattle.goal_binary.specs.declared.layout.Layout.{Layout}
 use Rattle.goal_binary.specs.declared.layout.Layout.TheVariants.{Fixed, Packed}
@@ -106,7 +106,7 @@ unless_below true n bound v lt e = absurd cc
 unless_below false n bound v lt e = omega (arith, lt, some_is n v e)
 
 -- numbers that an operation of this form may have
-record AreNumbers (f : Form) (peer tag size cpu nic : ℕ) : Type 0 where
+record AreNumbers (f : OpForm) (peer tag size cpu nic : ℕ) : Type 0 where
   nic_below : nic ≤ most_nic f
   nic_width : nic < 2 ^ 8
   cpu_width : cpu < 2 ^ 8
@@ -115,7 +115,7 @@ record AreNumbers (f : Form) (peer tag size cpu nic : ℕ) : Type 0 where
   size_below : size ≤ most_size f
   size_width : size < 2 ^ 64
 
-op_fits : (f : Form) (peer tag size cpu nic : ℕ) → AreNumbers f peer tag size cpu nic → OpFits (made_op f peer tag size cpu nic)
+op_fits : (f : OpForm) (peer tag size cpu nic : ℕ) → AreNumbers f peer tag size cpu nic → OpFits (made_op f peer tag size cpu nic)
 unfolding made_op
 op_fits form.Calc peer tag size cpu nic a = record {
   width = record { kind = a.size_width; cpu = a.cpu_width; nic = a.nic_width };
@@ -227,7 +227,7 @@ nic_room : (h : Head) (nic : ℕ) → HasRoom h → IsThere h.has_nic 8 nic → 
 nic_room h nic (inl none) n = omega (arith, n.none none)
 nic_room h nic (inr some) n = omega (arith, some, n.width)
 
-size_room : (f : Form) (size : ℕ) → size ≤ most_size f → size < 2 ^ 64
+size_room : (f : OpForm) (size : ℕ) → size ≤ most_size f → size < 2 ^ 64
 size_room form.Calc size h = omega (arith, h)
 size_room form.Send size h = omega (arith, h)
 size_room (form.Recv any_source any_tag) size h = omega (arith, h)

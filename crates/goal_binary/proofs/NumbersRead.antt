@@ -11,7 +11,7 @@ use Rattle.goal_binary.specs.declared.layout.Layout.TheVariants.{Fixed, Packed}
 use Rattle.goal_binary.specs.Fields.{Read, ◌>>=◌, allow, given, groups_at, u32_at, packed_at, packed_up_to, number_at, count_at, rank_count_at}
 use Rattle.goal_binary.proofs.Steps.{IsBytes, bind_ok, allow_ok}
 use Rattle.goal_binary.proofs.FieldsTaken.{leb-le}
-use Rattle.goal_binary.proofs.Readers.{Reader, Completed, Halts, Stop, Reads, reads_as}
+use Rattle.goal_binary.proofs.Readers.{Reader, Completed, Halts, ReadStop, Reads, reads_as}
 use Rattle.goal_binary.proofs.FieldsRead.{pair, short_is, error_is, u32_tested_reads}
 use Rattle.goal_binary.proofs.Packed.{read_of, field_ends, groups_again-low, groups_cut, groups_same, packed_ok}
 
@@ -69,16 +69,16 @@ module _ {V : ℕ → Type 0} (test : ℕ → Bool) (valid : (n : ℕ) → test 
         is = passes_is test bytes at first r.place (record { read = r.is; passed = first_passes }) ∙ ap (λ (p : ℕ). Ok (first, p)) place;
       }
 
-  number_stops : (bytes : List ℕ) (at : ℕ) (fault : FileFault) → at ≤ length bytes → tested_number test bytes at ≡ Err fault → Stop Packed (tested_number test) bytes at fault
+  number_stops : (bytes : List ℕ) (at : ℕ) (fault : FileFault) → at ≤ length bytes → tested_number test bytes at ≡ Err fault → ReadStop Packed (tested_number test) bytes at fault
   number_stops bytes at fault le e = go (groups_at bytes 10 at) refl (sym (tested_is test bytes at) ∙ e)
     where
       front_len : length (take at bytes) ≡ at
       front_len = omega (arith, length-take at bytes, le)
 
-      made : (width : ℕ) (f : FileFault) → (0 < width) × (width ≤ 10) → Halts (tested_number test) bytes at at width f → Stop Packed (tested_number test) bytes at f
+      made : (width : ℕ) (f : FileFault) → (0 < width) × (width ≤ 10) → Halts (tested_number test) bytes at at width f → ReadStop Packed (tested_number test) bytes at f
       made width f is_width how = record { place = at; width = width; from = omega arith; within = le; is_width = is_width; done = number_completed at (take at bytes) front_len; how = how }
 
-      bad : (v : Option ℕ) (after : ℕ) → groups_at bytes 10 at ≡ Ok (read_of v after) → Fails test v → Stop Packed (tested_number test) bytes at (Field at)
+      bad : (v : Option ℕ) (after : ℕ) → groups_at bytes 10 at ≡ Ok (read_of v after) → Fails test v → ReadStop Packed (tested_number test) bytes at (Field at)
       bad v after is fails =
           let ends = field_ends bytes 9 at v after is in
           let place : at + (after - at) ≡ after = omega (arith, ends.from) in
@@ -90,15 +90,15 @@ module _ {V : ℕ → Type 0} (test : ℕ → Bool) (valid : (n : ℕ) → test 
                 tested_is test other at ∙ ap (test_result test at) (groups_same bytes other 10 at v after le is alike) ∙ fails_is test at v after fails,
           )
 
-      decided : (n after : ℕ) (b : Bool) → test n ≡ b → groups_at bytes 10 at ≡ Ok (read_of (Some n) after) → allow b at (pair n after) ≡ Err fault → Stop Packed (tested_number test) bytes at fault
+      decided : (n after : ℕ) (b : Bool) → test n ≡ b → groups_at bytes 10 at ≡ Ok (read_of (Some n) after) → allow b at (pair n after) ≡ Err fault → ReadStop Packed (tested_number test) bytes at fault
       decided n after true passed is e = absurd cc
-      decided n after false passed is e = subst (λ (f : FileFault). Stop Packed (tested_number test) bytes at f) (error_is (Field at) fault e) (bad (Some n) after is passed)
+      decided n after false passed is e = subst (λ (f : FileFault). ReadStop Packed (tested_number test) bytes at f) (error_is (Field at) fault e) (bad (Some n) after is passed)
 
-      go : (r : Read (Option ℕ)) → groups_at bytes 10 at ≡ r → test_result test at r ≡ Err fault → Stop Packed (tested_number test) bytes at fault
+      go : (r : Read (Option ℕ)) → groups_at bytes 10 at ≡ r → test_result test at r ≡ Err fault → ReadStop Packed (tested_number test) bytes at fault
       go (Err d) is e =
           let cut = groups_cut bytes 10 at d le is in
-          subst (λ (f : FileFault). Stop Packed (tested_number test) bytes at f) (cut.0 ∙ error_is d fault e) (made 10 (Short (length bytes)) (omega arith, omega arith) (refl, cut.1))
-      go (Ok (None, after)) is e = subst (λ (f : FileFault). Stop Packed (tested_number test) bytes at f) (error_is (Field at) fault e) (bad None after is tt)
+          subst (λ (f : FileFault). ReadStop Packed (tested_number test) bytes at f) (cut.0 ∙ error_is d fault e) (made 10 (Short (length bytes)) (omega arith, omega arith) (refl, cut.1))
+      go (Ok (None, after)) is e = subst (λ (f : FileFault). ReadStop Packed (tested_number test) bytes at f) (error_is (Field at) fault e) (bad None after is tt)
       go (Ok (Some n, after)) is e = decided n after (test n) refl is e
 
   pub tested_reads : Reads Packed V (tested_number test)

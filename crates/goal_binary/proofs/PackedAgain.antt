@@ -9,7 +9,7 @@ use Rattle.goal_graph.specs.declared.plan.Dep.{Dep}
 use Rattle.goal_graph.specs.declared.plan.Note.{Note}
 use Rattle.goal_graph.specs.declared.plan.Note.TheVariants.{Moves, Adds}
 use Rattle.goal_graph.specs.Widths.{IsNoteInWidth}
-use Rattle.goal_binary.specs.declared.form.Form.{Form}
+use Rattle.goal_binary.specs.declared.form.OpForm.{OpForm}
 use Rattle.goal_binary.specs.declared.form.Head.{Head}
 use Rattle.goal_binary.specs.Fitting.{OpFits, DepFits}
 use Rattle.goal_binary.specs.File.{packed, kind_code, flags_of, peer_in, tag_in, size_of, peer_of, tag_of, when_code, byte_unless_zero, packed_if_some, head_code, packed_op, packed_dep, packed_note}
@@ -21,7 +21,7 @@ use Rattle.goal_binary.proofs.FixedAgain.{AreFitting, kind_again, kind_fits, whe
 use Rattle.goal_binary.proofs.PackedItems.{is_some, joined, IsHead, parts_of, head_passes, packed_if, flag_is, byte_is}
 
 -- the form of an operation, and the parts of its head
-abbrev form_in : Kind → Form
+abbrev form_in : Kind → OpForm
 form_in k = form_of (kind_code k) (flags_of k)
 
 abbrev head_of_op : Op → Head

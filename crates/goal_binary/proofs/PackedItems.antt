@@ -3,8 +3,8 @@ use Rattle.std.proofs.Common.{◌≡◌, ℕ, zero, suc, ◌+◌, ◌*◌, ◌/�
 use Rattle.std.proofs.lemmas.Bool.{lt-ltb, le-leb, eqb-true}
 use Rattle.std.proofs.lemmas.Bool.Decides.{nat_tests}
 use Rattle.goal_graph.proofs.ForCallers.{and_left, and_right}
-use Rattle.goal_binary.specs.declared.form.Form.{Form}
-use Rattle.goal_binary.specs.declared.form.Form.TheVariants as form
+use Rattle.goal_binary.specs.declared.form.OpForm.{OpForm}
+use Rattle.goal_binary.specs.declared.form.OpForm.TheVariants as form
 use Rattle.goal_binary.specs.File.{packed, kind_code, flags_of, peer_in, tag_in, size_of, flag_unless_zero, byte_unless_zero, packed_if_some}
 use Rattle.goal_binary.specs.Reading.{most_flags, form_of, has_peer, has_tag, kind_of, is_head}
 use Rattle.goal_binary.proofs.FieldsTaken.{leb-le}
@@ -129,19 +129,19 @@ flags_of-of (suc (suc (suc n))) flags peer tag size k h = absurd (omega (arith, 
 abbrev pub packed_if : Bool → ℕ → List ℕ
 packed_if there n = cond there (packed n) []
 
-pub peer_in-of : (f : Form) (peer tag size : ℕ) → packed_if_some (peer_in (kind_of f peer tag size)) ≡ packed_if (has_peer f) peer
+pub peer_in-of : (f : OpForm) (peer tag size : ℕ) → packed_if_some (peer_in (kind_of f peer tag size)) ≡ packed_if (has_peer f) peer
 peer_in-of form.Calc peer tag size = refl
 peer_in-of form.Send peer tag size = refl
 peer_in-of (form.Recv true any_tag) peer tag size = refl
 peer_in-of (form.Recv false any_tag) peer tag size = refl
 
-pub tag_in-of : (f : Form) (peer tag size : ℕ) → packed_if_some (tag_in (kind_of f peer tag size)) ≡ packed_if (has_tag f) tag
+pub tag_in-of : (f : OpForm) (peer tag size : ℕ) → packed_if_some (tag_in (kind_of f peer tag size)) ≡ packed_if (has_tag f) tag
 tag_in-of form.Calc peer tag size = refl
 tag_in-of form.Send peer tag size = refl
 tag_in-of (form.Recv any_source true) peer tag size = refl
 tag_in-of (form.Recv any_source false) peer tag size = refl
 
-pub size_of-of : (f : Form) (peer tag size : ℕ) → size_of (kind_of f peer tag size) ≡ size
+pub size_of-of : (f : OpForm) (peer tag size : ℕ) → size_of (kind_of f peer tag size) ≡ size
 size_of-of form.Calc peer tag size = refl
 size_of-of form.Send peer tag size = refl
 size_of-of (form.Recv any_source any_tag) peer tag size = refl

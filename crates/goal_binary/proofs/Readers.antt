@@ -35,7 +35,7 @@ Halts P bytes at place width (Field p) =
 Halts P bytes at place width _ = ⊥
 
 -- the field at which reading ends, after bytes that have a continuation
-pub record Stop {A : Type 0} (l : Layout) (P : Reader A) (bytes : List ℕ) (at : ℕ) (fault : FileFault) : Type 0 where
+pub record ReadStop {A : Type 0} (l : Layout) (P : Reader A) (bytes : List ℕ) (at : ℕ) (fault : FileFault) : Type 0 where
   pub place : ℕ
   pub width : ℕ
   pub from : at ≤ place
@@ -49,7 +49,7 @@ pub record Reads {A : Type 0} (l : Layout) (V : A → Type 0) (P : Reader A) : T
   pub inside : (bytes : List ℕ) (at : ℕ) (x : A) (after : ℕ) → at ≤ length bytes → P bytes at ≡ Ok (x, after) → (at ≤ after) × (after ≤ length bytes) × V x
   pub same : (bytes other : List ℕ) (at : ℕ) (x : A) (after : ℕ) → at ≤ length bytes → P bytes at ≡ Ok (x, after) → take after other ≡ take after bytes → P other at ≡ Ok (x, after)
   pub starts : (front : List ℕ) → Completed P (length front) front
-  pub stops : (bytes : List ℕ) (at : ℕ) (fault : FileFault) → at ≤ length bytes → P bytes at ≡ Err fault → Stop l P bytes at fault
+  pub stops : (bytes : List ℕ) (at : ℕ) (fault : FileFault) → at ≤ length bytes → P bytes at ≡ Err fault → ReadStop l P bytes at fault
 
 pub take-shorter : (m n : ℕ) (xs ys : List ℕ) → m ≤ n → take n xs ≡ take n ys → take m xs ≡ take m ys
 take-shorter m n xs ys le same = sym (take-take m n xs le) ∙ ap (take m) same ∙ take-take m n ys le
@@ -122,7 +122,7 @@ module _ {l : Layout} {A : Type 0} {B : Type 0} {V : A → Type 0} {W : B → Ty
       bind_is (P other at) (λ x. Q x.0 other x.1) a.0 (first.same bytes other at a.0.0 a.0.1 le a.1 (take-shorter a.0.1 end other bytes q.0 same))
       ∙ (second a.0.0 p.2).same bytes other a.0.1 y end p.1 a.2 same
 
-  stops_first : (bytes : List ℕ) (at : ℕ) (fault : FileFault) → at ≤ length bytes → P bytes at ≡ Err fault → Stop l (then P Q) bytes at fault
+  stops_first : (bytes : List ℕ) (at : ℕ) (fault : FileFault) → at ≤ length bytes → P bytes at ≡ Err fault → ReadStop l (then P Q) bytes at fault
   unfolding then
   stops_first bytes at fault le e =
       let s = first.stops bytes at fault le e in
@@ -136,7 +136,7 @@ module _ {l : Layout} {A : Type 0} {B : Type 0} {V : A → Type 0} {W : B → Ty
         how = Halts-map P (then P Q) bytes at at s.place s.width fault s.how (λ other same wide stopped. bind_err (P other at) (λ x. Q x.0 other x.1) fault stopped);
       }
 
-  stops_second : (bytes : List ℕ) (at : ℕ) (fault : FileFault) (x : A) (mid : ℕ) → at ≤ length bytes → P bytes at ≡ Ok (x, mid) → Q x bytes mid ≡ Err fault → Stop l (then P Q) bytes at fault
+  stops_second : (bytes : List ℕ) (at : ℕ) (fault : FileFault) (x : A) (mid : ℕ) → at ≤ length bytes → P bytes at ≡ Ok (x, mid) → Q x bytes mid ≡ Err fault → ReadStop l (then P Q) bytes at fault
   unfolding then
   stops_second bytes at fault x mid le e f =
       let p = first.inside bytes at x mid le e in
@@ -154,11 +154,11 @@ module _ {l : Layout} {A : Type 0} {B : Type 0} {V : A → Type 0} {W : B → Ty
             bind_is (P other at) (λ y. Q y.0 other y.1) (x, mid) (first.same bytes other at x mid le e (take-shorter mid (s.place + s.width) other bytes (omega (arith, s.from)) same)) ∙ stopped);
       }
 
-  both_stop : (bytes : List ℕ) (at : ℕ) (fault : FileFault) → at ≤ length bytes → then P Q bytes at ≡ Err fault → Stop l (then P Q) bytes at fault
+  both_stop : (bytes : List ℕ) (at : ℕ) (fault : FileFault) → at ≤ length bytes → then P Q bytes at ≡ Err fault → ReadStop l (then P Q) bytes at fault
   unfolding then
   both_stop bytes at fault le e = go (P bytes at) refl e
     where
-      go : (r : Read A) → P bytes at ≡ r → (r >>= λ x. Q x.0 bytes x.1) ≡ Err fault → Stop l (then P Q) bytes at fault
+      go : (r : Read A) → P bytes at ≡ r → (r >>= λ x. Q x.0 bytes x.1) ≡ Err fault → ReadStop l (then P Q) bytes at fault
       go (Ok x) is f = stops_second bytes at fault x.0 x.1 le is f
       go (Err d) is f = let same : d ≡ fault = err_is {A = B} d fault f in stops_first bytes at fault le (is ∙ ap Err same)
 

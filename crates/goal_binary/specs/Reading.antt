@@ -11,8 +11,8 @@ use Rattle.goal_graph.specs.declared.plan.Note.{Note}
 use Rattle.goal_graph.specs.declared.plan.Note.TheVariants.{Moves, Adds}
 use Rattle.goal_graph.specs.Schedule.{Plan}
 use Rattle.goal_graph.specs.Fault.{op_count, dep_count, note_count}
-use Rattle.goal_binary.specs.declared.form.Form.{Form}
-use Rattle.goal_binary.specs.declared.form.Form.TheVariants as form
+use Rattle.goal_binary.specs.declared.form.OpForm.{OpForm}
+use Rattle.goal_binary.specs.declared.form.OpForm.TheVariants as form
 use Rattle.goal_binary.specs.declared.layout.Layout.{Layout}
 use Rattle.goal_binary.specs.declared.layout.Layout.TheVariants.{Fixed, Packed}
 use Rattle.goal_binary.specs.declared.form.Head.{Head}
@@ -25,7 +25,7 @@ most_flags (suc zero) = 0
 most_flags (suc (suc k)) = 3
 
 -- the form of a kind with its flags
-abbrev pub form_of : ℕ → ℕ → Form
+abbrev pub form_of : ℕ → ℕ → OpForm
 form_of zero flags = form.Calc
 form_of (suc zero) flags = form.Send
 form_of (suc (suc k)) flags = form.Recv (flags % 2 == 1) (nat_le 2 flags)
@@ -38,12 +38,12 @@ abbrev pub head_of : ℕ → Head
 head_of head = record { form = form_of (head % 4) (head / 4 % 4); has_cpu = head / 16 % 2 == 1; has_nic = nat_le 32 head }
 
 -- an operation of this form has a peer; it has a tag
-abbrev pub has_peer : Form → Bool
+abbrev pub has_peer : OpForm → Bool
 has_peer form.Calc = false
 has_peer form.Send = true
 has_peer (form.Recv any_source any_tag) = not any_source
 
-abbrev pub has_tag : Form → Bool
+abbrev pub has_tag : OpForm → Bool
 has_tag form.Calc = false
 has_tag form.Send = true
 has_tag (form.Recv any_source any_tag) = not any_tag
@@ -52,22 +52,22 @@ has_tag (form.Recv any_source any_tag) = not any_tag
 abbrev pub used_unless : Bool → ℕ
 used_unless any = if any then 0 else 4294967295
 
-abbrev pub most_nic : Form → ℕ
+abbrev pub most_nic : OpForm → ℕ
 most_nic form.Calc = 0
 most_nic form.Send = 255
 most_nic (form.Recv any_source any_tag) = 255
 
-abbrev pub most_peer : Form → ℕ
+abbrev pub most_peer : OpForm → ℕ
 most_peer form.Calc = 0
 most_peer form.Send = 4294967295
 most_peer (form.Recv any_source any_tag) = used_unless any_source
 
-abbrev pub most_tag : Form → ℕ
+abbrev pub most_tag : OpForm → ℕ
 most_tag form.Calc = 0
 most_tag form.Send = 4294967295
 most_tag (form.Recv any_source any_tag) = used_unless any_tag
 
-abbrev pub most_size : Form → ℕ
+abbrev pub most_size : OpForm → ℕ
 most_size form.Calc = calc_limit
 most_size form.Send = size_limit
 most_size (form.Recv any_source any_tag) = size_limit
@@ -76,7 +76,7 @@ most_size (form.Recv any_source any_tag) = size_limit
 abbrev pub unless_any : Bool → ℕ → Option ℕ
 unless_any any n = if any then None else Some n
 
-abbrev pub kind_of : Form → (peer tag size : ℕ) → Kind
+abbrev pub kind_of : OpForm → (peer tag size : ℕ) → Kind
 kind_of form.Calc peer tag size = Calc size
 kind_of form.Send peer tag size = Send size peer tag
 kind_of (form.Recv any_source any_tag) peer tag size = Recv size (unless_any any_source peer) (unless_any any_tag tag)
@@ -104,7 +104,7 @@ list_at item_at (suc n) at = do
 
 module _ (bytes : List ℕ) where
   -- the kind and the flags of an operation
-  unfoldable pub form_at : ℕ → Read Form
+  unfoldable pub form_at : ℕ → Read OpForm
   form_at at = do
     kind ← byte_up_to bytes 2 at
     flags ← byte_up_to bytes (most_flags kind.0) kind.1

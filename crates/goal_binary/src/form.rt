@@ -9,7 +9,7 @@ use goal_limits::{MAX_BYTES, MAX_NANOS};
 
 /// The kind of an operation, without its numbers.
 #[derive(Clone, Copy)]
-pub enum Form {
+pub enum OpForm {
     /// A calc.
     Calc,
     /// A send.
@@ -29,13 +29,13 @@ fn most_flags(kind: u8) -> u8
 }
 
 /// Returns the form of a kind with its flags.
-fn form_of(kind: u8, flags: u8) -> Form
+fn form_of(kind: u8, flags: u8) -> OpForm
     ensures { result ≡ form_of kind flags }
 {
     match kind {
-        0 => Form::Calc,
-        1 => Form::Send,
-        _ => Form::Recv {
+        0 => OpForm::Calc,
+        1 => OpForm::Send,
+        _ => OpForm::Recv {
             any_source: flags % 2 == 1,
             any_tag: flags >= 2,
         },
@@ -56,14 +56,14 @@ fn unless_any(any: bool, number: u32) -> Option<u32>
     if any { None } else { Some(number) }
 }
 
-impl Form {
+impl OpForm {
     /// Returns the greatest NIC.
     pub fn most_nic(self) -> u8
         ensures { result ≡ most_nic self }
     {
         match self {
-            Form::Calc => 0,
-            Form::Send | Form::Recv { .. } => 255,
+            OpForm::Calc => 0,
+            OpForm::Send | OpForm::Recv { .. } => 255,
         }
     }
 
@@ -72,9 +72,9 @@ impl Form {
         ensures { result ≡ most_peer self }
     {
         match self {
-            Form::Calc => 0,
-            Form::Send => u32::MAX,
-            Form::Recv { any_source, .. } => used_unless(any_source),
+            OpForm::Calc => 0,
+            OpForm::Send => u32::MAX,
+            OpForm::Recv { any_source, .. } => used_unless(any_source),
         }
     }
 
@@ -83,9 +83,9 @@ impl Form {
         ensures { result ≡ most_tag self }
     {
         match self {
-            Form::Calc => 0,
-            Form::Send => u32::MAX,
-            Form::Recv { any_tag, .. } => used_unless(any_tag),
+            OpForm::Calc => 0,
+            OpForm::Send => u32::MAX,
+            OpForm::Recv { any_tag, .. } => used_unless(any_tag),
         }
     }
 
@@ -94,9 +94,9 @@ impl Form {
         ensures { result ≡ has_peer self }
     {
         match self {
-            Form::Calc => false,
-            Form::Send => true,
-            Form::Recv { any_source, .. } => !any_source,
+            OpForm::Calc => false,
+            OpForm::Send => true,
+            OpForm::Recv { any_source, .. } => !any_source,
         }
     }
 
@@ -105,9 +105,9 @@ impl Form {
         ensures { result ≡ has_tag self }
     {
         match self {
-            Form::Calc => false,
-            Form::Send => true,
-            Form::Recv { any_tag, .. } => !any_tag,
+            OpForm::Calc => false,
+            OpForm::Send => true,
+            OpForm::Recv { any_tag, .. } => !any_tag,
         }
     }
 
@@ -116,8 +116,8 @@ impl Form {
         ensures { result ≡ most_size self }
     {
         match self {
-            Form::Calc => MAX_NANOS,
-            Form::Send | Form::Recv { .. } => MAX_BYTES,
+            OpForm::Calc => MAX_NANOS,
+            OpForm::Send | OpForm::Recv { .. } => MAX_BYTES,
         }
     }
 
@@ -126,13 +126,13 @@ impl Form {
         ensures { result ≡ kind_of self peer tag size }
     {
         match self {
-            Form::Calc => Kind::Calc { nanos: size },
-            Form::Send => Kind::Send {
+            OpForm::Calc => Kind::Calc { nanos: size },
+            OpForm::Send => Kind::Send {
                 bytes: size,
                 to: peer,
                 tag,
             },
-            Form::Recv {
+            OpForm::Recv {
                 any_source,
                 any_tag,
             } => Kind::Recv {
@@ -146,7 +146,7 @@ impl Form {
 
 /// Reads the kind and the flags of the operation at this place.
 #[tactic(auto, unfolding(crate::specs::Reading::form_at))]
-pub fn form_at(bytes: &[u8], at: usize) -> Result<(Form, usize), FileFault>
+pub fn form_at(bytes: &[u8], at: usize) -> Result<(OpForm, usize), FileFault>
     ensures { result ≡ form_at bytes.now at }
 {
     let (kind, flags_at) = byte_up_to(bytes, 2, at)?;
@@ -158,7 +158,7 @@ pub fn form_at(bytes: &[u8], at: usize) -> Result<(Form, usize), FileFault>
 #[derive(Clone, Copy)]
 pub struct Head {
     /// The form of the operation.
-    pub form: Form,
+    pub form: OpForm,
     /// Whether a byte for the cpu follows; otherwise the cpu is 0.
     pub has_cpu: bool,
     /// Whether a byte for the NIC follows; otherwise the NIC is 0.

@@ -13,7 +13,7 @@ use std::alloc::Global;
 
 /// The numbers of operations, dependencies and notes of some ranks together.
 #[derive(Clone, Copy)]
-struct Totals {
+struct CountsSoFar {
     ops: u32,
     deps: u32,
     notes: u32,
@@ -25,7 +25,7 @@ fn rank_at(
     alloc: Global,
     bytes: &[u8],
     layout: Layout,
-    before: Totals,
+    before: CountsSoFar,
     at: usize,
 ) -> Result<(RankPlan, usize), FileFault>
     ensures plan { Gives (λ x. x) result (rank_at bytes.now layout before.ops before.deps before.notes at) }
@@ -59,7 +59,7 @@ fn ranks_at(
     ensures { Gives (λ x. (x.0.items, x.1)) result (ranks_at bytes.now layout count [] at) }
 {
     let mut plans: Vec<RankPlan> = Vec::new(alloc);
-    let mut totals = Totals {
+    let mut totals = CountsSoFar {
         ops: 0,
         deps: 0,
         notes: 0,
@@ -67,7 +67,7 @@ fn ranks_at(
     let mut place = at;
     for _ in 0..count {
         let (plan, after) = rank_at(alloc, bytes, layout, totals, place)?;
-        totals = Totals {
+        totals = CountsSoFar {
             ops: totals.ops + plan.ops.len() as u32,
             deps: totals.deps + plan.deps.len() as u32,
             notes: totals.notes + plan.notes.len() as u32,
