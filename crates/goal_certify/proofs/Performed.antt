@@ -12,14 +12,14 @@ use Rattle.goal_graph.proofs.ForCallers.{allowed_fresh, allowed_arrive, allowed_
 use Rattle.goal_blocks.specs.Walk.{no_send}
 use Rattle.sim_match.specs.PostsAndArrivals.{PostsAndArrivals, is_post_or_arrival_class}
 use Rattle.sim_match.proofs.ForCallers.{happened_filtered}
-use Rattle.goal_certify.specs.declared.walk.action.Action.{Action}
+use Rattle.goal_certify.specs.declared.walk.action.PlainAction.{PlainAction}
 use Rattle.goal_certify.specs.declared.walk.entry.OpProgress.{OpProgress}
 use Rattle.goal_certify.specs.WalkSoFar.{WalkSoFar, act_of, acts, with_class, with_entry, with_partner, met, more_met, entry_known, Represents}
 use Rattle.goal_certify.specs.WalkQueue.{may_act}
 use Rattle.goal_certify.proofs.AfterAction.{AfterMet, after_met, table_known, partner_there}
 
 -- another action is the newest
-acts_push : (items : List Action) (a : Action) → acts (items ++ a ∷ []) ≡ act_of a ∷ acts items
+acts_push : (items : List PlainAction) (a : PlainAction) → acts (items ++ a ∷ []) ≡ act_of a ∷ acts items
 acts_push items a = ap (map act_of) (reverse-append items (a ∷ []))
 
 -- of two views that are equal
@@ -69,8 +69,8 @@ module _ (plans : List Plan) (h : List Act) (entries : List OpProgress) (matcher
     }
 
 -- the same, as they lie
-pub performed : (plans : List Plan) (items : List Action) (entries : List OpProgress) (matcher : PostsAndArrivals) (m : Represents plans (acts items) entries matcher) (a : Action) (may : may_act plans (acts items) a.class a.op ≡ true)
-    (new_items : List Action) (payload written : List OpProgress) (new_matcher : PostsAndArrivals) (n : ℕ) (o : Option OpId) (entry done : OpProgress) → entry ≡ entry_known plans (acts items) a.op → done ≡ with_class a.class entry → new_items ≡ items ++ a ∷ [] → n ≡ length entries → payload ≡ entries → length written ≡ length payload → o ≡ met matcher.plans matcher.actions a.class a.op → new_matcher.plans ≡ matcher.plans → new_matcher.actions ≡ more_met matcher.actions a.class a.op → written ≡ map (with_partner a.op o (with_entry a.op done (entry_known plans (acts items)))) (operations plans) → Represents plans (acts new_items) (take n (written ++ drop (length written) entries)) new_matcher
+pub performed : (plans : List Plan) (items : List PlainAction) (entries : List OpProgress) (matcher : PostsAndArrivals) (m : Represents plans (acts items) entries matcher) (a : PlainAction) (may : may_act plans (acts items) a.class a.op ≡ true)
+    (new_items : List PlainAction) (payload written : List OpProgress) (new_matcher : PostsAndArrivals) (n : ℕ) (o : Option OpId) (entry done : OpProgress) → entry ≡ entry_known plans (acts items) a.op → done ≡ with_class a.class entry → new_items ≡ items ++ a ∷ [] → n ≡ length entries → payload ≡ entries → length written ≡ length payload → o ≡ met matcher.plans matcher.actions a.class a.op → new_matcher.plans ≡ matcher.plans → new_matcher.actions ≡ more_met matcher.actions a.class a.op → written ≡ map (with_partner a.op o (with_entry a.op done (entry_known plans (acts items)))) (operations plans) → Represents plans (acts new_items) (take n (written ++ drop (length written) entries)) new_matcher
 performed plans items entries matcher m a may new_items payload written new_matcher n o entry done was is_done pushed count same kept is plans_same more told =
     let table : take n (written ++ drop (length written) entries) ≡ written = borrowed_whole_restored n written entries (kept ∙ ap length same) count in
     let list : act_of a ∷ acts items ≡ acts new_items = sym (ap acts pushed ∙ acts_push items a) in

@@ -6,7 +6,7 @@ use Rattle.goal_graph.proofs.ForCallers.{happened_and_left}
 use Rattle.goal_graph.specs.Fault.{IsOp}
 use Rattle.goal_graph.specs.Interleaving.{IsInterleaving}
 use Rattle.goal_blocks.specs.Walk.{no_send, ComesFirst, TakesFirst, IsWalk}
-use Rattle.goal_certify.specs.declared.walk.action.Action.{Action}
+use Rattle.goal_certify.specs.declared.walk.action.PlainAction.{PlainAction}
 use Rattle.goal_certify.specs.WalkSoFar.{WalkSoFar, act_of, with_action, IsLater}
 use Rattle.goal_certify.specs.WalkQueue.{may_act, IsQueue, IsQueueBut, IsMoved, AreCursors}
 use Rattle.goal_certify.specs.declared.walk.cursor.Cursor.{Cursor}
@@ -14,7 +14,7 @@ use Rattle.goal_certify.proofs.Cursors.{cursors_kept}
 use Rattle.goal_certify.proofs.Places.{allowed_exists}
 use Rattle.goal_certify.proofs.Queue.{queue_after}
 
-module _ (old new : WalkSoFar) (a : Action) (after : new ≡ with_action old a) (may : may_act old.plans old.history a.class a.op ≡ true) where
+module _ (old new : WalkSoFar) (a : PlainAction) (after : new ≡ with_action old a) (may : may_act old.plans old.history a.class a.op ≡ true) where
   -- the action is one of an operation
   pub op_after : IsOp new.plans a.op
   op_after =
@@ -39,7 +39,7 @@ module _ (old new : WalkSoFar) (a : Action) (after : new ≡ with_action old a) 
       subst (λ (v : WalkSoFar). AreCursors v.plans v.history cursors) (sym after) (cursors_kept old.plans no_send (act_of a) old.history cursors cur)
 
 -- with each step fewer are left
-pub fewer_left : (old new : WalkSoFar) (r : Option Action) → is_some r ≡ true → IfSome r (λ a. new ≡ with_action old a) → IsInterleaving new.plans no_send new.history → 3 * length (operations new.plans) - length new.history < 3 * length (operations old.plans) - length old.history
+pub fewer_left : (old new : WalkSoFar) (r : Option PlainAction) → is_some r ≡ true → IfSome r (λ a. new ≡ with_action old a) → IsInterleaving new.plans no_send new.history → 3 * length (operations new.plans) - length new.history < 3 * length (operations old.plans) - length old.history
 fewer_left old new None t after each = absurd (cc)
 fewer_left old new (Some a) t after each =
     let most = happened_and_left new.plans no_send new.history each in
@@ -48,20 +48,20 @@ fewer_left old new (Some a) t after each =
     omega (arith, most, plans, history)
 
 -- and more has happened
-pub later_after : (old new : WalkSoFar) (r : Option Action) (h : List Act) → is_some r ≡ true → IfSome r (λ a. new ≡ with_action old a) → IsLater h old.history → IsLater h new.history
+pub later_after : (old new : WalkSoFar) (r : Option PlainAction) (h : List Act) → is_some r ≡ true → IfSome r (λ a. new ≡ with_action old a) → IsLater h old.history → IsLater h new.history
 later_after old new None h t after later = absurd (cc)
 later_after old new (Some a) h t after later =
     (act_of a ∷ later.0, ap (λ (v : WalkSoFar). v.history) after ∙ ap (λ (l : List Act). act_of a ∷ l) later.1)
 
-pub plans_after : (old new : WalkSoFar) (r : Option Action) → is_some r ≡ true → IfSome r (λ a. new ≡ with_action old a) → new.plans ≡ old.plans
+pub plans_after : (old new : WalkSoFar) (r : Option PlainAction) → is_some r ≡ true → IfSome r (λ a. new ≡ with_action old a) → new.plans ≡ old.plans
 plans_after old new None t after = absurd (cc)
 plans_after old new (Some a) t after = ap (λ (v : WalkSoFar). v.plans) after
 
 -- where nothing happens any more
-pub walk_at : (old new : WalkSoFar) (r : Option Action) → is_some r ≡ false → IfNone r (IsWalk old.plans old.history) → IfNone r (new ≡ old) → IsWalk new.plans new.history
+pub walk_at : (old new : WalkSoFar) (r : Option PlainAction) → is_some r ≡ false → IfNone r (IsWalk old.plans old.history) → IfNone r (new ≡ old) → IsWalk new.plans new.history
 walk_at old new (Some a) t walk same = absurd (cc)
 walk_at old new None t walk same = subst (λ (v : WalkSoFar). IsWalk v.plans v.history) (sym same) walk
 
-pub unchanged_if_none : (old new : WalkSoFar) (r : Option Action) → is_some r ≡ false → IfNone r (new ≡ old) → new ≡ old
+pub unchanged_if_none : (old new : WalkSoFar) (r : Option PlainAction) → is_some r ≡ false → IfNone r (new ≡ old) → new ≡ old
 unchanged_if_none old new (Some a) t same = absurd (cc)
 unchanged_if_none old new None t same = same

@@ -17,7 +17,7 @@ use Rattle.goal_blocks.specs.Certification.{IsSmall, HasEqualLengths, IsLight}
 use Rattle.goal_blocks.specs.Faults.{IsTooHeavy, IsFirstTooHeavy}
 use Rattle.goal_values.specs.Kept.{Kept, values}
 use Rattle.goal_values.specs.Summed.{Summed, payload_values, IsPayload}
-use Rattle.goal_certify.specs.declared.walk.action.Action.{Action}
+use Rattle.goal_certify.specs.declared.walk.action.PlainAction.{PlainAction}
 use Rattle.goal_certify.specs.declared.walk.parcel.Parcel.{Parcel}
 use Rattle.goal_certify.specs.declared.walk.parcel.Holdings.{Holdings}
 use Rattle.goal_certify.specs.WalkSoFar.{WalkSoFar, act_of}
@@ -88,7 +88,7 @@ GrowsTooHeavy w old fault =
 
 -- the conditions for an action that has just happened: the walk is of a small schedule, the table is of its notes, and
 -- `old` was held before the action
-pub record IsTaken (w : WalkSoFar) (table : List Plan) (a : Action) (old : Holdings) : Type 0 where
+pub record IsTaken (w : WalkSoFar) (table : List Plan) (a : PlainAction) (old : Holdings) : Type 0 where
   pub small : IsSmall w.plans
   pub table_is : table ≡ w.plans
   pub newest : w.history ≡ act_of a ∷ drop 1 w.history

@@ -11,7 +11,7 @@ use Rattle.goal_graph.specs.Fault.{IsAccepted}
 use Rattle.goal_graph.specs.Interleaving.{IsInterleaving}
 use Rattle.goal_blocks.specs.Walk.{no_send}
 use Rattle.sim_match.specs.PostsAndArrivals.{PostsAndArrivals, is_post_or_arrival, is_post_or_arrival_class, send_for, receive_for}
-use Rattle.goal_certify.specs.declared.walk.action.Action.{Action}
+use Rattle.goal_certify.specs.declared.walk.action.PlainAction.{PlainAction}
 use Rattle.goal_certify.specs.declared.walk.entry.OpProgress.{OpProgress}
 
 -- the plans of the schedule, and the actions so far, the newest first
@@ -19,11 +19,11 @@ pub record WalkSoFar : Type 0 where
   pub plans : List Plan
   pub history : List Act
 
-abbrev pub act_of : Action → Act
+abbrev pub act_of : PlainAction → Act
 act_of a = record { class = a.class; op = a.op }
 
 -- after another action
-abbrev pub with_action : WalkSoFar → Action → WalkSoFar
+abbrev pub with_action : WalkSoFar → PlainAction → WalkSoFar
 with_action w a = record { plans = w.plans; history = act_of a ∷ w.history }
 
 -- the later list of actions is the other with newer actions before it, or itself
@@ -31,7 +31,7 @@ abbrev pub IsLater : List Act → List Act → Type 0
 IsLater h later = (more : List Act) × (later ≡ more ++ h)
 
 -- actions that are kept with the oldest first
-abbrev pub acts : List Action → List Act
+abbrev pub acts : List PlainAction → List Act
 acts items = map act_of (reverse items)
 
 -- whether the action of this class has happened, by what is kept of its operation

@@ -27,7 +27,7 @@ mod stray;
 mod turns;
 mod values;
 
-use action::Action;
+use action::PlainAction;
 use cursor::{Cursor, at_first};
 use follow::{fill, follow, next};
 pub use outcome::{check_walk, find_stray};
@@ -86,7 +86,7 @@ impl<'a> Walker<'a> {
 
     /// Performs the first allowed action, and returns it. Where no action is allowed it returns None and changes nothing:
     /// the history is then the walk.
-    pub fn next(&mut self) -> Option<Action>
+    pub fn next(&mut self) -> Option<PlainAction>
         ensures allowed { IfSome result (λ a. allowed self.old.plans no_send self.old.history a.class a.op ≡ true) }
         ensures first { IfSome result (λ a. (b : Act) → allowed self.old.plans no_send self.old.history b.class b.op ≡ true → ComesFirst (act_of a) b) }
         ensures after { IfSome result (λ a. self.new ≡ with_action self.old a) }

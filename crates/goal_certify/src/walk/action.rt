@@ -4,7 +4,7 @@ use goal_graph::{Class, OpId};
 
 /// A class of action, of one operation; for `Arrive` and `Data` that is the send.
 #[derive(Clone, Copy)]
-pub struct Action {
+pub struct PlainAction {
     /// The class.
     pub class: Class,
     /// The operation; for `Arrive` and `Data` the send.

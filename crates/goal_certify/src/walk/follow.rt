@@ -11,7 +11,7 @@ ghost use Rattle.goal_blocks.specs.Walk.{no_send, ComesFirst};
 ghost use Rattle.goal_certify.specs.WalkSoFar.{act_of};
 ghost use Rattle.goal_certify.specs.WalkQueue.{may_act, IsChoice, IsQueue, IsQueueBut, IsRefreshed, IsMoved, WaitsAt, moves_partner, IsCursorOf, AreCursors};
 
-use super::action::Action;
+use super::action::PlainAction;
 use super::cursor::Cursor;
 use super::state::{WalkState, is_moment};
 use super::turns::Turns;
@@ -45,7 +45,7 @@ fn fill_one(state: &WalkState, queue: &mut Turns, id: OpId)
 }
 
 /// Returns the action that happens next, or `None` if none may happen.
-pub fn next(state: &WalkState, queue: &Turns) -> Option<Action>
+pub fn next(state: &WalkState, queue: &Turns) -> Option<PlainAction>
     requires { IsQueue state.now.plans state.now.history queue.now }
     ensures may { IfSome result (λ a. may_act state.now.plans state.now.history a.class a.op ≡ true) }
     ensures first { IfSome result (λ a. (b : Act) → may_act state.now.plans state.now.history b.class b.op ≡ true → ComesFirst (act_of a) b) }
@@ -56,7 +56,7 @@ pub fn next(state: &WalkState, queue: &Turns) -> Option<Action>
         return None;
     };
     let op = state.sched().operations()[slot as usize];
-    Some(Action {
+    Some(PlainAction {
         class: state.class_of(op),
         op,
     })
@@ -64,7 +64,7 @@ pub fn next(state: &WalkState, queue: &Turns) -> Option<Action>
 
 /// Updates the keys of the operations whose next action may be another after this action, the last that has happened:
 /// its operation, the partner of this, and the operations that wait for it.
-pub fn follow(state: &WalkState, queue: &mut Turns, cursors: &mut [Cursor], action: Action)
+pub fn follow(state: &WalkState, queue: &mut Turns, cursors: &mut [Cursor], action: PlainAction)
     requires exists { IsOp state.now.plans action.op }
     requires newest { state.now.history ≡ act_of action ∷ drop 1 state.now.history }
     requires rest { IsQueueBut state.now.plans state.now.history (λ slot. IsMoved state.now.plans state.now.history action.class action.op) queue.old }
@@ -79,7 +79,7 @@ pub fn follow(state: &WalkState, queue: &mut Turns, cursors: &mut [Cursor], acti
 
 // Updates the key of the operation of an action, the last that has happened. Its needs are not tested, because it has
 // started.
-fn follow_own(state: &WalkState, queue: &mut Turns, action: Action)
+fn follow_own(state: &WalkState, queue: &mut Turns, action: PlainAction)
     requires exists { IsOp state.now.plans action.op }
     requires each { length queue.old ≡ length (operations state.now.plans) }
     requires newest { state.now.history ≡ act_of action ∷ drop 1 state.now.history }
@@ -104,7 +104,7 @@ fn moves_partner(class: Class) -> bool
 
 // Updates the key of the partner of an action's operation, if it has one and the action may let it act. The action is
 // the last that has happened.
-fn follow_partner(state: &WalkState, queue: &mut Turns, action: Action)
+fn follow_partner(state: &WalkState, queue: &mut Turns, action: PlainAction)
     requires exists { IsOp state.now.plans action.op }
     requires newest { state.now.history ≡ act_of action ∷ drop 1 state.now.history }
     requires rest { IsQueueBut state.now.plans state.now.history (λ slot y.
@@ -123,7 +123,7 @@ fn follow_partner(state: &WalkState, queue: &mut Turns, action: Action)
 }
 
 // Updates the keys of the operations that wait for this action.
-fn follow_waiting(state: &WalkState, queue: &mut Turns, cursors: &mut [Cursor], action: Action)
+fn follow_waiting(state: &WalkState, queue: &mut Turns, cursors: &mut [Cursor], action: PlainAction)
     requires exists { IsOp state.now.plans action.op }
     requires rest { IsQueueBut state.now.plans state.now.history (λ slot. WaitsAt state.now.plans action.class action.op) queue.old }
     requires cursors { AreCursors state.now.plans state.now.history cursors.old }

@@ -13,7 +13,7 @@ ghost use Rattle.sim_match.specs.PostsAndArrivals.{is_post_or_arrival_class};
 ghost use Rattle.goal_certify.specs.WalkSoFar.{act_of, entry_known, with_action, met, more_met};
 ghost use Rattle.goal_certify.specs.WalkQueue.{may_act, class_at, IsChoice, IsCursorOf};
 
-use super::action::Action;
+use super::action::PlainAction;
 use super::cursor::Cursor;
 use super::entry::{BLANK, OpProgress, is_done, with_class, write_met};
 use super::progress::Progress;
@@ -30,7 +30,7 @@ use std::marker::Model;
 pub struct WalkState<'a> {
     sched: &'a Sched,
     // the actions so far, the oldest first
-    history: Past<Action>,
+    history: Past<PlainAction>,
     // what is known of each operation, in the order of all
     entries: Vec<OpProgress>,
     // the matcher
@@ -158,7 +158,7 @@ impl<'a> WalkState<'a> {
 
     /// Returns the class of the action of an operation that may happen after this one, its own and the last that has
     /// happened.
-    pub fn choice_after(&self, action: Action) -> Option<Class>
+    pub fn choice_after(&self, action: PlainAction) -> Option<Class>
         requires op { IsOp self.now.plans action.op }
         requires newest { self.now.history ≡ act_of action ∷ drop 1 self.now.history }
         ensures { IsChoice self.now.plans self.now.history action.op result }
@@ -284,7 +284,7 @@ impl<'a> WalkState<'a> {
     }
 
     /// Lets an action happen.
-    pub fn perform(&mut self, action: Action)
+    pub fn perform(&mut self, action: PlainAction)
         requires { may_act self.old.plans self.old.history action.class action.op ≡ true }
         ensures { self.new ≡ with_action self.old action }
     {
@@ -321,7 +321,7 @@ impl Progress for WalkState<'_> {
 }
 
 // Gives an action to the matcher. Returns the operation that this pairs with that of the action.
-fn meet(matcher: &mut Matcher, action: Action) -> Option<OpId>
+fn meet(matcher: &mut Matcher, action: PlainAction) -> Option<OpId>
     requires receive { action.class ≡ Post → IsReceive matcher.old.plans action.op }
     requires send { action.class ≡ Arrive → IsSend matcher.old.plans action.op }
     requires fresh { is_post_or_arrival_class action.class ≡ true → happened action.class action.op matcher.old.actions ≡ false }

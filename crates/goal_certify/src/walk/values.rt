@@ -20,7 +20,7 @@ ghost use Rattle.goal_certify.specs.Carried.{size_of, values_of_parcel, parcel_o
 ghost use Rattle.goal_certify.specs.WalkSoFar.{act_of};
 
 use super::Walker;
-use super::action::Action;
+use super::action::PlainAction;
 use super::parcel::{Holdings, Parcel};
 use goal_blocks::{CertFault, SlotTable};
 use goal_graph::{Class, Kind, OpId};
@@ -131,7 +131,7 @@ fn begin(
     walker: &Walker,
     table: &SlotTable,
     held: &mut Holdings,
-    action: Action,
+    action: PlainAction,
 ) -> Result<(), CertFault>
     requires taken { IsTaken walker.now table.now action held.old }
     requires class { action.class ≡ Begin }
@@ -151,7 +151,7 @@ fn serve(
     walker: &Walker,
     table: &SlotTable,
     held: &mut Holdings,
-    action: Action,
+    action: PlainAction,
 ) -> Result<(), CertFault>
     requires taken { IsTaken walker.now table.now action held.old }
     requires ends { HasEqualEnds walker.now.plans }
@@ -179,7 +179,7 @@ fn send(
     walker: &Walker,
     table: &SlotTable,
     held: &mut Holdings,
-    action: Action,
+    action: PlainAction,
 ) -> Result<(), CertFault>
     requires taken { IsTaken walker.now table.now action held.old }
     requires class { action.class ≡ Data }
@@ -202,7 +202,7 @@ pub fn apply(
     walker: &Walker,
     table: &SlotTable,
     held: &mut Holdings,
-    action: Action,
+    action: PlainAction,
 ) -> Result<(), CertFault>
     requires taken { IsTaken walker.now table.now action held.old }
     requires ends { HasEqualEnds walker.now.plans }
