@@ -10,7 +10,7 @@ use goal_blocks::{Collective, Formula, Step, back, digits};
 
 /// A request for the schedule of a collective, for a possible number of ranks.
 #[derive(Drop)]
-pub struct Asked {
+pub struct CollectiveRequest {
     /// The collective.
     pub what: Collective,
     /// The number of ranks.
@@ -23,7 +23,7 @@ pub struct Asked {
     ghost root: { HasRoot what ranks } by { HasRoot-prop what ranks },
 }
 
-impl Formula for Asked {
+impl Formula for CollectiveRequest {
     ghost use Rattle.goal_blocks.specs.Generated.{count_in, entry_in};
 
     ghost rank_count = { λ f. f.ranks };

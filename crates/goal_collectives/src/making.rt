@@ -7,7 +7,7 @@ ghost use Rattle.goal_blocks.specs.Right.{IsCertifiedByProof, IsRightFor};
 ghost use Rattle.goal_blocks.specs.Generated.{made, IsPossible};
 ghost use Rattle.goal_blocks.specs.GenFaults.{IsGenFault};
 
-use crate::formula::Asked;
+use crate::formula::CollectiveRequest;
 use goal_blocks::{Collective, GenFault, possible, schedule_by};
 use goal_graph::Sched;
 use goal_limits::MAX_BYTES;
@@ -40,6 +40,6 @@ pub fn generate(alloc: Global, what: Collective, ranks: u32, bytes: u64) -> Resu
     ensures possible { IsPossible what ranks → IsOkUnless result GenFault.NoMemory }
 {
     possible(what, ranks)?;
-    let asked = Asked { what, ranks, bytes };
-    schedule_by(alloc, what, ranks, bytes, &asked)
+    let request = CollectiveRequest { what, ranks, bytes };
+    schedule_by(alloc, what, ranks, bytes, &request)
 }

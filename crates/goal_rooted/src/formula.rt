@@ -11,7 +11,7 @@ use goal_blocks::{Collective, Formula, Step, back};
 
 /// A request for the schedule of a collective, for a possible number of ranks.
 #[derive(Drop)]
-pub struct Asked {
+pub struct RootedRequest {
     /// The collective.
     pub what: Collective,
     /// The number of ranks.
@@ -24,7 +24,7 @@ pub struct Asked {
     ghost root: { HasRoot what ranks } by { HasRoot-prop what ranks },
 }
 
-impl Formula for Asked {
+impl Formula for RootedRequest {
     ghost use Rattle.goal_blocks.specs.Generated.{count_in, entry_in};
 
     ghost rank_count = { λ f. f.ranks };

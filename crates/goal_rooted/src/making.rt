@@ -8,7 +8,7 @@ ghost use Rattle.goal_blocks.specs.Generated.{made, IsPossible};
 ghost use Rattle.goal_rooted.specs.Faults.{IsRootedFault};
 
 use crate::fault::RootedFault;
-use crate::formula::Asked;
+use crate::formula::RootedRequest;
 use goal_blocks::{Collective, schedule_by};
 use goal_graph::Sched;
 use goal_limits::MAX_BYTES;
@@ -51,8 +51,8 @@ pub fn generate_rooted(
     if !what.has_root(ranks) {
         return Err(RootedFault::Root);
     }
-    let asked = Asked { what, ranks, bytes };
-    match schedule_by(alloc, what, ranks, bytes, &asked) {
+    let request = RootedRequest { what, ranks, bytes };
+    match schedule_by(alloc, what, ranks, bytes, &request) {
         Ok(sched) => Ok(sched),
         Err(_) => Err(RootedFault::NoMemory),
     }

@@ -1,6 +1,6 @@
 use Rattle.std.proofs.Common.{arith}
 use Rattle.goal_rooted.proofs.RootedCases.{rounds_within, at_most_one_parent}
-use Rattle.goal_rooted.proofs.formula.AskedFormula.count.Goals as goal
+use Rattle.goal_rooted.proofs.formula.RootedRequestFormula.count.Goals as goal
 
 pub overflow_mul-result : goal.overflow_mul-result
 overflow_mul-result c =

@@ -1,6 +1,6 @@
 use Rattle.std.proofs.Common.{◌-◌, arith}
 use Rattle.goal_blocks.proofs.ForCallers.{digits_few}
-use Rattle.goal_collectives.proofs.formula.AskedFormula.count.Goals as goal
+use Rattle.goal_collectives.proofs.formula.CollectiveRequestFormula.count.Goals as goal
 
 pub overflow_mul-result : goal.overflow_mul-result
 overflow_mul-result c =
