@@ -5,4 +5,4 @@ mod receiving;
 mod sending;
 
 pub use receiving::{serve, serve_at, serve_message};
-pub use sending::{Begun, begin_at, eager_begin, eager_begin_message, transfer};
+pub use sending::{SendTimes, begin_at, eager_begin, eager_begin_message, transfer};

@@ -11,7 +11,7 @@ use sim_resources::Resources;
 
 /// When a send that has begun releases its cpu, and when its data arrive, in nanoseconds.
 #[derive(Clone, Copy, Debug, PartialEq, Eq)]
-pub struct Begun {
+pub struct SendTimes {
     /// When the send releases its cpu.
     pub end: u64,
     /// When its data arrive at the receiver.
@@ -39,7 +39,7 @@ pub fn transfer<C: Costs>(
     to: u32,
     bytes: u64,
     at: u64,
-) -> Begun
+) -> SendTimes
     requires sends { IsSend res.old.plans send }
     requires size { bytes < 2 ^ 40 }
     requires over_fits { at + (C.model costs.now).over send.rank to bytes < 2 ^ 63 }
@@ -57,7 +57,7 @@ pub fn transfer<C: Costs>(
     let arrive = at + spans.flight;
     res.hold_cpu(send, end);
     res.hold_tx(send, sent);
-    Begun { end, arrive }
+    SendTimes { end, arrive }
 }
 
 /// Begins an eager send at the time `at`, in nanoseconds. The send holds its cpu for the overhead and the sending side
@@ -68,7 +68,7 @@ pub fn eager_begin<C: Costs>(
     res: &mut Resources,
     send: OpId,
     at: u64,
-) -> Begun
+) -> SendTimes
     requires same_schedule { res.old.plans ≡ sched.now }
     requires sends { IsSend sched.now send }
     requires over_fits { at + over sched.now (C.model costs.now) send < 2 ^ 63 }
@@ -93,7 +93,7 @@ pub fn eager_begin_message<C: Costs>(
     to: u32,
     bytes: u64,
     at: u64,
-) -> Begun
+) -> SendTimes
     requires same_schedule { res.old.plans ≡ sched.now }
     requires message { IsMessage sched.now send to bytes }
     requires over_fits { at + over sched.now (C.model costs.now) send < 2 ^ 63 }
