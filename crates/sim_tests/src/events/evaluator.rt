@@ -17,7 +17,7 @@ const ENOUGH: u32 = 200;
 
 // A send and the receive that takes it, and when they were paired.
 #[derive(Clone, Copy)]
-struct Pair {
+struct MatchedPair {
     send: OpId,
     recv: OpId,
     at: u64,
@@ -32,19 +32,19 @@ enum Resource {
 
 /// What the rules say after a history, whose oldest action is the first.
 #[derive(Drop)]
-pub struct Past<'a> {
+pub struct AfterHistory<'a> {
     plans: &'a [RankPlan],
     params: Params,
     history: &'a [Timed],
     // computed from the history
-    pairs: Vec<Pair>,
+    pairs: Vec<MatchedPair>,
 }
 
 /// All actions of a run, the oldest first. `Err` means out of memory.
 pub fn run(alloc: Global, plans: &[RankPlan], params: Params) -> Result<Vec<Timed>, AllocError> {
     let mut history = Vec::new(alloc);
     for _ in 0..ENOUGH {
-        let next = Past::of(alloc, plans, params, &history)?.next();
+        let next = AfterHistory::of(alloc, plans, params, &history)?.next();
         match next {
             Some(action) => history.push(action)?,
             None => break,
@@ -53,31 +53,31 @@ pub fn run(alloc: Global, plans: &[RankPlan], params: Params) -> Result<Vec<Time
     Ok(history)
 }
 
-impl<'a> Past<'a> {
+impl<'a> AfterHistory<'a> {
     /// Reads a history, whose oldest action is the first. `Err` means out of memory.
     pub fn of(
         alloc: Global,
         plans: &'a [RankPlan],
         params: Params,
         history: &'a [Timed],
-    ) -> Result<Past<'a>, AllocError> {
+    ) -> Result<AfterHistory<'a>, AllocError> {
         let pairs = Vec::new(alloc);
-        let mut past = Past {
+        let mut after = AfterHistory {
             plans,
             params,
             history,
             pairs,
         };
         for (i, action) in history.iter().enumerate() {
-            if let Some(pair) = past.new_pair(&history[..i], *action) {
-                past.pairs.push(pair)?;
+            if let Some(pair) = after.new_pair(&history[..i], *action) {
+                after.pairs.push(pair)?;
             }
         }
-        Ok(past)
+        Ok(after)
     }
 
     // The pair that an action makes after earlier ones: with the first operation that is not paired and fits.
-    fn new_pair(&self, earlier: &[Timed], action: Timed) -> Option<Pair> {
+    fn new_pair(&self, earlier: &[Timed], action: Timed) -> Option<MatchedPair> {
         for other in earlier {
             let (send, recv) = match (action.class, other.class) {
                 (Class::Arrive, Class::Post) => (action.op, other.op),
@@ -86,7 +86,7 @@ impl<'a> Past<'a> {
             };
             if self.pair(other.op).is_none() && self.fits(recv, send) {
                 let at = action.time;
-                return Some(Pair { send, recv, at });
+                return Some(MatchedPair { send, recv, at });
             }
         }
         None
@@ -112,7 +112,7 @@ impl<'a> Past<'a> {
         }
     }
 
-    fn pair(&self, x: OpId) -> Option<Pair> {
+    fn pair(&self, x: OpId) -> Option<MatchedPair> {
         for pair in &self.pairs {
             if pair.send == x || pair.recv == x {
                 return Some(*pair);
@@ -302,7 +302,7 @@ impl<'a> Past<'a> {
     }
 
     // When the message of a pair is available to its receive.
-    fn there(&self, pair: Pair) -> Option<u64> {
+    fn there(&self, pair: MatchedPair) -> Option<u64> {
         let bytes = self.bytes(pair.send)?;
         if self.is_eager(bytes) {
             return Some(pair.at);

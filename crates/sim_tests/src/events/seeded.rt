@@ -1,7 +1,7 @@
 //! The engine and the plain evaluator of the rules do the same on small schedules, which are drawn from a seed.
 ghost use Rattle.std.specs.Prelude.{◌<◌};
 
-use super::evaluator::{Past, run};
+use super::evaluator::{AfterHistory, run};
 use super::told;
 use crate::same::{same, same_list};
 use goal_graph::{Dep, Kind, Op, RankPlan, Sched, Timed, When};
@@ -152,15 +152,15 @@ impl Seeded {
 fn compared(
     rt: &impl Abort,
     engine: &Engine<'_, LogGops>,
-    past: &Past<'_>,
+    after: &AfterHistory<'_>,
     history: &[Timed],
 ) -> bool {
     same_list(rt, engine.trace(), history);
     let mut stuck = false;
     for id in engine.sched().operations() {
-        let expected = (past.start(*id), past.end(*id), past.partner(*id));
+        let expected = (after.start(*id), after.end(*id), after.partner(*id));
         same(rt, &told(rt, engine, id.rank, id.op), &expected);
-        stuck |= past.end(*id).is_none();
+        stuck |= after.end(*id).is_none();
     }
     stuck
 }
@@ -170,10 +170,10 @@ fn is_stuck(rt: &impl Abort, alloc: Global, params: Params, seed: u64) -> Result
     let plans = Seeded { state: seed }.plans(alloc, params.sync)?;
     let sched = Sched::build(alloc, plans)?;
     let history = run(alloc, sched.plans(), params)?;
-    let past = Past::of(alloc, sched.plans(), params, &history)?;
+    let after = AfterHistory::of(alloc, sched.plans(), params, &history)?;
     let mut engine = Engine::new(alloc, &sched, LogGops { params })?;
     engine.run();
-    Ok(compared(rt, &engine, &past, &history))
+    Ok(compared(rt, &engine, &after, &history))
 }
 
 #[test]
