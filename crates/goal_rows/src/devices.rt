@@ -53,7 +53,7 @@ const ALL: usize = 4096;
 
 // A call of `goal` on a host whose file "a" is the text and whose file "m" is the machine, and what it must leave.
 #[derive(Clone, Copy)]
-struct Row<'a> {
+struct HostCall<'a> {
     text: &'a [u8],
     line: &'a [&'a str],
     // How many bytes the host and the standard output move per call.
@@ -71,7 +71,7 @@ struct Row<'a> {
 }
 
 // A run of the message on devices that do not fail.
-const SIM: Row<'static> = Row {
+const SIM: HostCall<'static> = HostCall {
     text: MESSAGE,
     line: &["sim", "a"],
     host_most: ALL,
@@ -99,7 +99,7 @@ fn words_of(alloc: Global, line: &[&str]) -> Result<Vec<String>, AllocError> {
 }
 
 // Checks that the call of a row leaves what it must.
-fn leaves(rt: &impl Abort, alloc: Global, row: &Row<'_>) -> Result<(), Fail> {
+fn leaves(rt: &impl Abort, alloc: Global, row: &HostCall<'_>) -> Result<(), Fail> {
     assert!(rt; row.host_most > 0);
     assert!(rt; row.out_most > 0);
     let words = words_of(alloc, row.line)?;
@@ -118,14 +118,14 @@ fn leaves(rt: &impl Abort, alloc: Global, row: &Row<'_>) -> Result<(), Fail> {
 
 #[test]
 fn runs_on_devices(rt: HostRuntime) -> Result<(), Fail> {
-    let unread = Row {
+    let unread = HostCall {
         host_fails: &[2],
         status: Status::ReadFault,
         out: b"",
         err: READ_FAULT,
         ..SIM
     };
-    let cut = Row {
+    let cut = HostCall {
         out_most: 10,
         out_fails: &[3],
         status: Status::WriteFault,
@@ -135,26 +135,26 @@ fn runs_on_devices(rt: HostRuntime) -> Result<(), Fail> {
     };
     for row in &[
         unread,
-        Row {
+        HostCall {
             text: CALC,
             ..unread
         },
-        Row {
+        HostCall {
             line: &["sim", "absent"],
             host_fails: &[],
             ..unread
         },
         cut,
-        Row {
+        HostCall {
             text: CALC,
             out: b"ranks 1 ops 1 stuck ",
             ..cut
         },
-        Row {
+        HostCall {
             host_most: 1,
             ..SIM
         },
-        Row {
+        HostCall {
             text: CYCLE,
             err_fails: &[1],
             status: Status::Refused,
@@ -169,62 +169,62 @@ fn runs_on_devices(rt: HostRuntime) -> Result<(), Fail> {
 
 #[test]
 fn each_command(rt: HostRuntime) -> Result<(), Fail> {
-    let stuck = Row {
+    let stuck = HostCall {
         text: STUCK,
         status: Status::Stuck,
         ..SIM
     };
-    let scan = Row {
+    let scan = HostCall {
         text: SCAN,
         out: SCAN,
         ..SIM
     };
     for row in &[
-        Row {
+        HostCall {
             out: b"ranks 1 ops 2 stuck 2 unread 0 finish 0\nop 0 0 recv start 0 end - match -\nop 0 1 calc start - end -\nstuck 0 0 alone\nstuck 0 1 for op 0 0\n",
             ..stuck
         },
-        Row {
+        HostCall {
             line: &["knots", "a"],
             out: b"ranks 1 ops 2 stuck 2 unread 0 finish 0\nalone 0 0 behind 2\n",
             ..stuck
         },
-        Row {
+        HostCall {
             line: &["waits", "a"],
             out: b"rank 0 ended 1 wait 0\nrank 1 ended 1 wait 4054\nwait 1 0 4054\n",
             ..SIM
         },
-        Row {
+        HostCall {
             line: &["nodes", "a", "m"],
             out: b"ranks 2 ops 2 stuck 0 unread 0 finish 1109\nop 0 0 send start 0 end 300 match 1 0\nop 1 0 recv start 0 end 1109 match 0 0\n",
             ..SIM
         },
-        Row {
+        HostCall {
             line: &["show", "a"],
             ..scan
         },
-        Row {
+        HostCall {
             line: &["gen", "scan", "2", "8"],
             ..scan
         },
-        Row {
+        HostCall {
             line: &["gen", "bcast", "1", "8"],
             out: b"num_ranks 1\n",
             ..SIM
         },
-        Row {
+        HostCall {
             line: &["certify", "scan", "a"],
             out: b"certified scan ranks 2\n",
             ..scan
         },
-        Row {
+        HostCall {
             line: &["certify", "allreduce", "a"],
             status: Status::NotCertified,
             out: b"not certified: wrong 0 slot 0\n",
             ..scan
         },
         // its one message has 92,870 bytes, and begins at 1196
-        Row {
+        HostCall {
             line: &["probe", "1", "1"],
             out: b"ranks 64 ops 3 stuck 0 unread 0 finish 570410\nends 580802\n",
             ..SIM
@@ -239,7 +239,7 @@ fn each_command(rt: HostRuntime) -> Result<(), Fail> {
 #[test]
 fn output_cut_at_each_call(rt: HostRuntime) -> Result<(), Fail> {
     for number in 1..14usize {
-        let row = Row {
+        let row = HostCall {
             out_most: 10,
             out_fails: &[number as u64],
             status: Status::WriteFault,
@@ -249,7 +249,7 @@ fn output_cut_at_each_call(rt: HostRuntime) -> Result<(), Fail> {
         };
         leaves(&rt, rt.alloc(), &row)?;
     }
-    let row = Row {
+    let row = HostCall {
         out_most: 10,
         out_fails: &[14],
         ..SIM
@@ -258,7 +258,7 @@ fn output_cut_at_each_call(rt: HostRuntime) -> Result<(), Fail> {
 }
 
 // A call of `compile`, on devices that do not fail.
-const COMPILE: Row<'static> = Row {
+const COMPILE: HostCall<'static> = HostCall {
     line: &["compile", "a", "b"],
     out: b"",
     made: Some(FILE),
@@ -266,8 +266,8 @@ const COMPILE: Row<'static> = Row {
 };
 
 // The same, with a failure of the call `number` of the host.
-fn fails(rt: &impl Abort, alloc: Global, row: Row<'static>, number: u64) -> Result<(), Fail> {
-    let row = Row {
+fn fails(rt: &impl Abort, alloc: Global, row: HostCall<'static>, number: u64) -> Result<(), Fail> {
+    let row = HostCall {
         host_fails: &[number],
         ..row
     };
@@ -284,11 +284,11 @@ fn compiles_but_for_each_call(
 ) -> Result<(), Fail>
     requires { reads < 100 }
 {
-    let done = Row {
+    let done = HostCall {
         host_most: most,
         ..COMPILE
     };
-    let unread = Row {
+    let unread = HostCall {
         status: Status::ReadFault,
         err: READ_FAULT,
         made: None,
@@ -297,16 +297,16 @@ fn compiles_but_for_each_call(
     for number in 1..=reads {
         fails(rt, alloc, unread, number)?;
     }
-    let cut = Row {
+    let cut = HostCall {
         status: Status::WriteFault,
         err: WRITE_FAULT,
         ..done
     };
-    fails(rt, alloc, Row { made: None, ..cut }, reads + 1)?;
+    fails(rt, alloc, HostCall { made: None, ..cut }, reads + 1)?;
     fails(
         rt,
         alloc,
-        Row {
+        HostCall {
             made: Some(b""),
             ..cut
         },

@@ -23,37 +23,37 @@ const CYCLE: &[u8] = b"num_ranks 2 rank 1 { calc 5 l1: calc 5 l1 requires l1 }";
 
 // An input, and what is printed of its schedule, or why there is none.
 #[derive(Clone, Copy)]
-struct Row<'a> {
+struct InputRow<'a> {
     input: &'a [u8],
     printed: Result<&'a [u8], InputFault>,
 }
 
-const ROWS: [Row<'static>; 7] = [
-    Row {
+const ROWS: [InputRow<'static>; 7] = [
+    InputRow {
         input: MESSAGE_TEXT,
         printed: Ok(MESSAGE_PRINTED),
     },
-    Row {
+    InputRow {
         input: &MESSAGE,
         printed: Ok(MESSAGE_PRINTED),
     },
-    Row {
+    InputRow {
         input: b"",
         printed: Err(InputFault::Text(TextFault::Syntax { at: 0 })),
     },
-    Row {
+    InputRow {
         input: TWO_FAULTS,
         printed: Err(InputFault::Text(TextFault::Lex { at: 26 })),
     },
-    Row {
+    InputRow {
         input: REPEATED,
         printed: Err(InputFault::Text(TextFault::Repeat { at: 42 })),
     },
-    Row {
+    InputRow {
         input: CYCLE,
         printed: Err(InputFault::Text(TextFault::Plan(PlanFault::Cycle { rank: 1, op: 1 }))),
     },
-    Row {
+    InputRow {
         input: b"\x89GOAL",
         printed: Err(InputFault::File(FileFault::Short { at: 5 })),
     },
