@@ -3,17 +3,17 @@ use Rattle.std.specs.Prelude.{◌≡◌, ℕ, ◌+◌, ◌<◌, ◌≤◌, List,
 use Rattle.goal_lexer.specs.declared.mode.Mode.{Mode}
 use Rattle.goal_lexer.specs.declared.mode.Mode.TheVariants.{Between, Failed}
 use Rattle.goal_lexer.specs.declared.tokens.Token.{Token}
-use Rattle.goal_lexer.specs.declared.scanning.Step.{Step}
-use Rattle.goal_lexer.specs.declared.scanning.Stop.{Stop}
-use Rattle.goal_lexer.specs.declared.scanning.Step.TheVariants as step
-use Rattle.goal_lexer.specs.declared.scanning.Stop.TheVariants as stop
+use Rattle.goal_lexer.specs.declared.scanning.ByteEnd.{ByteEnd}
+use Rattle.goal_lexer.specs.declared.scanning.PieceEnd.{PieceEnd}
+use Rattle.goal_lexer.specs.declared.scanning.ByteEnd.TheVariants as step
+use Rattle.goal_lexer.specs.declared.scanning.PieceEnd.TheVariants as stop
 use Rattle.goal_lexer.specs.Bytes.{is_run_byte}
 use Rattle.goal_lexer.specs.Scan.{next, scan, closing}
 use Rattle.goal_lexer.specs.Sound.{IsSound}
 use Rattle.goal_lexer.specs.Stands.{begins_run}
 
 -- what a step says: what was open, the byte's place, the byte, what is open now, and the token that the byte ended
-abbrev pub StepsTo : Step → Mode → ℕ → ℕ → Mode → Token → Type 0
+abbrev pub StepsTo : ByteEnd → Mode → ℕ → ℕ → Mode → Token → Type 0
 StepsTo step.Nothing old place byte new token = (next old place byte ≡ (new, [])) × IsSound new
 StepsTo step.Run old place byte new token =
     (is_run_byte byte ≡ false) × (closing place old ≡ token ∷ []) × (new ≡ Between) × (token.end ≡ place)
@@ -22,7 +22,7 @@ StepsTo step.Sign old place byte new token =
 StepsTo (step.Fault at) old place byte new token = (next old place byte ≡ (Failed at, [])) × (new ≡ Failed at)
 
 -- what a stop says: what was open, the piece's place, the piece, what is open now, and the token that ended there
-abbrev pub StopsAt : Stop → Mode → ℕ → List ℕ → Mode → Token → Type 0
+abbrev pub StopsAt : PieceEnd → Mode → ℕ → List ℕ → Mode → Token → Type 0
 StopsAt stop.Piece old place piece new token = (scan old place piece ≡ (new, [])) × IsSound new
 StopsAt (stop.Run taken) old place piece new token =
     (taken < length piece) × (begins_run (drop taken piece) ≡ false) × (new ≡ Between)

@@ -9,7 +9,7 @@ ghost use Rattle.goal_lexer.specs.declared.tokens.Token.{Token};
 ghost use Rattle.goal_lexer.specs.State.{LexState};
 
 use crate::mode::Mode;
-use crate::scanning::{Stop, take_piece};
+use crate::scanning::{PieceEnd, take_piece};
 use crate::tokens::{LexFault, Lexed, Taken, Token};
 use crate::words::run_kind;
 use std::marker::Model;
@@ -193,7 +193,7 @@ impl Lexer {
             });
         }
         match take_piece(&mut self.mode, self.place, rest, token) {
-            Stop::Piece => {
+            PieceEnd::Piece => {
                 self.place += rest.len() as u64;
                 self.ends_run = false;
                 Ok(Taken {
@@ -201,17 +201,17 @@ impl Lexer {
                     found: false,
                 })
             }
-            Stop::Run(taken) => {
+            PieceEnd::Run(taken) => {
                 self.place += taken as u64;
                 self.ends_run = true;
                 Ok(Taken { taken, found: true })
             }
-            Stop::Sign(taken) => {
+            PieceEnd::Sign(taken) => {
                 self.place += taken as u64;
                 self.ends_run = false;
                 Ok(Taken { taken, found: true })
             }
-            Stop::Fault(at) => {
+            PieceEnd::Fault(at) => {
                 self.ends_run = false;
                 Err(LexFault { at })
             }

@@ -15,7 +15,7 @@ use crate::whole::whole_run;
 use crate::words::run_kind;
 
 /// What one byte ended.
-pub(crate) enum Step {
+pub(crate) enum ByteEnd {
     /// It ended no token.
     Nothing,
     /// It ended the run before it, and is not taken.
@@ -27,7 +27,7 @@ pub(crate) enum Step {
 }
 
 /// What a piece ended.
-pub(crate) enum Stop {
+pub(crate) enum PieceEnd {
     /// It ended no token, and is taken whole.
     Piece,
     /// It ended a run, after this number of bytes.
@@ -39,19 +39,19 @@ pub(crate) enum Stop {
 }
 
 /// Writes the token of a sign at this place.
-fn sign(kind: TokenKind, place: u64, token: &mut Token) -> Step
+fn sign(kind: TokenKind, place: u64, token: &mut Token) -> ByteEnd
     requires { place + 1 < 2 ^ 64 }
-    ensures step { result ≡ Step.Sign }
+    ensures step { result ≡ ByteEnd.Sign }
     ensures token { token.new ≡ record { kind = kind; start = place; end = place + 1 } }
 {
     token.kind = kind;
     token.start = place;
     token.end = place + 1;
-    Step::Sign
+    ByteEnd::Sign
 }
 
 /// Takes a byte while nothing is open.
-fn begin_at(mode: &mut Mode, place: u64, byte: u8, token: &mut Token) -> Step
+fn begin_at(mode: &mut Mode, place: u64, byte: u8, token: &mut Token) -> ByteEnd
     requires room { place + 1 < 2 ^ 64 }
     requires between { mode.old ≡ Mode.Between }
     ensures { StepsTo result Mode.Between place byte mode.new token.new }
@@ -62,16 +62,16 @@ fn begin_at(mode: &mut Mode, place: u64, byte: u8, token: &mut Token) -> Step
             bytes: Label::of_byte(byte),
             form: Form::Word,
         };
-        Step::Nothing
+        ByteEnd::Nothing
     } else if is_digit(byte) {
         *mode = Mode::Run {
             start: place,
             bytes: Label::of_byte(byte),
             form: Form::Digits,
         };
-        Step::Nothing
+        ByteEnd::Nothing
     } else if is_blank(byte) {
-        Step::Nothing
+        ByteEnd::Nothing
     } else if byte == b'{' {
         sign(TokenKind::Open, place, token)
     } else if byte == b'}' {
@@ -80,10 +80,10 @@ fn begin_at(mode: &mut Mode, place: u64, byte: u8, token: &mut Token) -> Step
         sign(TokenKind::Colon, place, token)
     } else if byte == b'/' {
         *mode = Mode::Slash { start: place };
-        Step::Nothing
+        ByteEnd::Nothing
     } else {
         *mode = Mode::Failed { at: place };
-        Step::Fault(place)
+        ByteEnd::Fault(place)
     }
 }
 
@@ -103,7 +103,7 @@ fn form_with(form: Form, byte: u8) -> Option<Form>
 /// Takes a byte at this place while a run is open. It ends the run or extends it; otherwise the fault is at the
 /// beginning of the run.
 #[cold]
-fn take_in_run(mode: &mut Mode, place: u64, byte: u8, token: &mut Token) -> Step
+fn take_in_run(mode: &mut Mode, place: u64, byte: u8, token: &mut Token) -> ByteEnd
     requires { IsRun mode.old }
     ensures { StepsTo result mode.old place byte mode.new token.new }
 {
@@ -116,17 +116,17 @@ fn take_in_run(mode: &mut Mode, place: u64, byte: u8, token: &mut Token) -> Step
         token.start = start;
         token.end = place;
         *mode = Mode::Between;
-        return Step::Run;
+        return ByteEnd::Run;
     }
     match form_with(*form, byte) {
         Some(longer) if bytes.len() < MOST_RUN_BYTES => {
             bytes.push(byte);
             *form = longer;
-            Step::Nothing
+            ByteEnd::Nothing
         }
         _ => {
             *mode = Mode::Failed { at: start };
-            Step::Fault(start)
+            ByteEnd::Fault(start)
         }
     }
 }
@@ -134,27 +134,27 @@ fn take_in_run(mode: &mut Mode, place: u64, byte: u8, token: &mut Token) -> Step
 /// Takes the byte after a `/` at `start`. It begins a comment with it; otherwise the fault is at the `/`. The byte's
 /// own place does not matter.
 #[cold]
-fn take_behind_slash(mode: &mut Mode, start: u64, byte: u8) -> Step
+fn take_behind_slash(mode: &mut Mode, start: u64, byte: u8) -> ByteEnd
     ensures { (place : ℕ) (token : Token) → StepsTo result (Mode.Slash start) place byte mode.new token }
 {
     if byte == b'/' {
         *mode = Mode::LineComment { start };
-        Step::Nothing
+        ByteEnd::Nothing
     } else if byte == b'*' {
         *mode = Mode::BlockComment {
             start,
             closes: false,
         };
-        Step::Nothing
+        ByteEnd::Nothing
     } else {
         *mode = Mode::Failed { at: start };
-        Step::Fault(start)
+        ByteEnd::Fault(start)
     }
 }
 
 /// Takes a byte at this place while a run or a comment may be open. Most runs and all blanks are taken without it.
 #[cold]
-fn take_open_byte(mode: &mut Mode, place: u64, byte: u8, token: &mut Token) -> Step
+fn take_open_byte(mode: &mut Mode, place: u64, byte: u8, token: &mut Token) -> ByteEnd
     requires { place + 1 < 2 ^ 64 }
     ensures { StepsTo result mode.old place byte mode.new token.new }
 {
@@ -169,7 +169,7 @@ fn take_open_byte(mode: &mut Mode, place: u64, byte: u8, token: &mut Token) -> S
             if byte == b'\n' {
                 *mode = Mode::Between;
             }
-            Step::Nothing
+            ByteEnd::Nothing
         }
         Mode::BlockComment { closes, .. } => {
             if *closes && byte == b'/' {
@@ -177,15 +177,15 @@ fn take_open_byte(mode: &mut Mode, place: u64, byte: u8, token: &mut Token) -> S
             } else {
                 *closes = byte == b'*';
             }
-            Step::Nothing
+            ByteEnd::Nothing
         }
-        Mode::Failed { at } => Step::Fault(*at),
+        Mode::Failed { at } => ByteEnd::Fault(*at),
     }
 }
 
 /// Takes a byte at this place, and writes the token that it ends to `token`.
 #[inline(always)]
-fn take_byte(mode: &mut Mode, place: u64, byte: u8, token: &mut Token) -> Step
+fn take_byte(mode: &mut Mode, place: u64, byte: u8, token: &mut Token) -> ByteEnd
     requires { place + 1 < 2 ^ 64 }
     ensures { StepsTo result mode.old place byte mode.new token.new }
 {
@@ -214,29 +214,29 @@ fn sign_kind(byte: u8, kind: &mut TokenKind) -> bool
 /// It writes the token to `token`, if that ends inside the piece. A piece of blanks only is taken whole. For any other
 /// piece it returns `None`, and also for some runs of many digits.
 #[inline(always)]
-fn whole_token(place: u64, piece: &[u8], token: &mut Token) -> Option<Stop>
+fn whole_token(place: u64, piece: &[u8], token: &mut Token) -> Option<PieceEnd>
     requires { place + length piece.now < 2 ^ 64 }
     ensures { IfSome result (λ stop. StopsAt stop Mode.Between place piece.now Mode.Between token.new) }
 {
     let blanks = count_blanks(piece);
     if blanks == piece.len() {
-        return Some(Stop::Piece);
+        return Some(PieceEnd::Piece);
     }
     let at = place + blanks as u64;
     if let Some(count) = whole_run(at, &piece[blanks..], token) {
-        return Some(Stop::Run(blanks + count));
+        return Some(PieceEnd::Run(blanks + count));
     }
     if !sign_kind(piece[blanks], &mut token.kind) {
         return None;
     }
     token.start = at;
     token.end = at + 1;
-    Some(Stop::Sign(blanks + 1))
+    Some(PieceEnd::Sign(blanks + 1))
 }
 
 /// Takes the bytes of a piece that begins at this place, up to the end of a token, and writes the token to `token`.
 #[inline(always)]
-pub(crate) fn take_piece(mode: &mut Mode, place: u64, piece: &[u8], token: &mut Token) -> Stop
+pub(crate) fn take_piece(mode: &mut Mode, place: u64, piece: &[u8], token: &mut Token) -> PieceEnd
     requires room { place + length piece.now < 2 ^ 64 }
     requires sound { IsSound mode.old }
     ensures { StopsAt result mode.old place piece.now mode.new token.new }
@@ -251,7 +251,7 @@ pub(crate) fn take_piece(mode: &mut Mode, place: u64, piece: &[u8], token: &mut 
 
 /// Does the same as [`take_piece`], whatever is open and wherever the token ends. Most tokens are taken without it.
 #[cold]
-fn take_open_piece(mode: &mut Mode, place: u64, piece: &[u8], token: &mut Token) -> Stop
+fn take_open_piece(mode: &mut Mode, place: u64, piece: &[u8], token: &mut Token) -> PieceEnd
     requires room { place + length piece.now < 2 ^ 64 }
     requires sound { IsSound mode.old }
     ensures { StopsAt result mode.old place piece.now mode.new token.new }
@@ -260,19 +260,19 @@ fn take_open_piece(mode: &mut Mode, place: u64, piece: &[u8], token: &mut Token)
     while taken < piece.len() {
         taken += take_stretch(mode, &piece[taken..]);
         if taken == piece.len() {
-            return Stop::Piece;
+            return PieceEnd::Piece;
         }
         if let Mode::Between = mode {
             if let Some(count) = whole_run(place + taken as u64, &piece[taken..], token) {
-                return Stop::Run(taken + count);
+                return PieceEnd::Run(taken + count);
             }
         }
         match take_byte(mode, place + taken as u64, piece[taken], token) {
-            Step::Nothing => taken += 1,
-            Step::Run => return Stop::Run(taken),
-            Step::Sign => return Stop::Sign(taken + 1),
-            Step::Fault(at) => return Stop::Fault(at),
+            ByteEnd::Nothing => taken += 1,
+            ByteEnd::Run => return PieceEnd::Run(taken),
+            ByteEnd::Sign => return PieceEnd::Sign(taken + 1),
+            ByteEnd::Fault(at) => return PieceEnd::Fault(at),
         }
     }
-    Stop::Piece
+    PieceEnd::Piece
 }
