@@ -46,8 +46,8 @@ fn named_slots(what: Collective, ranks: u32) -> u32
 /// Certifies that all `count` segments of a collective are right in one run that begins with all of them. Segment j uses the
 /// slots from `j * width` on as the collective uses those from 0 on.
 ///
-/// If a schedule passes, then in every interleaving and for every choice of eager sends each segment's slots hold at the end
-/// what the collective wants there, and no contribution of another segment. `certify_segments` asks for less: it starts with
+/// A schedule that passes is right in every interleaving and for every choice of eager sends. At the end each segment's slots
+/// hold what the collective wants there, and no contribution of another segment. `certify_segments` is weaker: it starts with
 /// one segment at a time, so a calc that adds a slot of one segment to a slot of another adds nothing.
 ///
 /// This takes two walks per segment.

@@ -31,8 +31,8 @@ fn no_parcels(alloc: Global, count: u32) -> Result<Vec<Option<Parcel>>, AllocErr
     Ok(parcels)
 }
 
-// Walks from the start of a segment to the end, and returns the final values of the slots, or the first point at which more
-// contributions are held than the limit. The walker has taken no step yet.
+// Walks from the start of a segment to the end, and returns the final values of the slots. Stops with a fault at the first
+// point at which more contributions are held than the limit. The walker has taken no step yet.
 fn final_values(
     alloc: Global,
     walker: &mut Walker,
@@ -74,8 +74,8 @@ fn final_values(
     Ok(held.store)
 }
 
-// Finds the first point of the walk at which more contributions are held than the limit, or else the least slot that does
-// not hold at the end the value that the collective wants in the segment. The walker has taken no step yet.
+// Reports the first point of the walk at which more contributions are held than the limit. If there is none, reports the
+// least slot whose final value is not what the collective wants in the segment. The walker has taken no step yet.
 fn check_values(
     alloc: Global,
     walker: &mut Walker,
@@ -102,9 +102,13 @@ fn check_values(
     }
 }
 
-/// Walks once through a schedule. Reports the least operation without an end, or else the first point at which more
-/// contributions are held than the limit, or else the least slot that does not hold at the end the value that the
-/// collective wants in the segment. `NoMemory` where memory runs out.
+/// Walks once through a schedule, and reports the first of these faults that it has:
+///
+/// 1. the least operation without an end;
+/// 2. the first point at which more contributions are held than the limit;
+/// 3. the least slot whose final value is not what the collective wants in the segment.
+///
+/// `NoMemory` if memory runs out.
 pub fn check_walk(
     alloc: Global,
     sched: &Sched,

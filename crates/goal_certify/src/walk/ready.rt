@@ -1,4 +1,4 @@
-// Whether an operation is ready, looked at from its cursor on.
+// Whether an operation is ready, by the needs from its cursor on.
 ghost use Rattle.std.specs.Prelude.{◌≡◌, ◌<◌, ◌+◌, if◌then◌else◌};
 ghost use Rattle.goal_graph.specs.Allowed.{is_ready};
 ghost use Rattle.goal_graph.specs.Fault.{IsOp};
@@ -11,11 +11,11 @@ use sim_order::Steps;
 use std::marker::Brand;
 use std::sync::ledger::{Blank, Ledger};
 
-/// Whether all that an operation needs is there. Its cursor goes on to the first need that is not met, or past all: the
-/// next call looks from there on.
+/// Returns whether all needs of an operation are met. Moves its cursor to the first need that is not met, or to the end.
+/// The next call starts there.
 ///
-/// `looked`: the counter counts exactly as many looks as the cursor goes on by, and one more at a need that is not met.
-/// A look that ticks no counter is not bounded.
+/// `looked`: the counter rises by the number of places that the cursor moves, and by one more at a need that is not met.
+/// Only looks that tick this counter are bounded.
 pub fn is_ready<P: Progress, L: Ledger>(
     progress: &P,
     id: OpId,
@@ -28,7 +28,7 @@ pub fn is_ready<P: Progress, L: Ledger>(
     ensures cursor { IsCursorOf (P.plans progress.now) (P.eager progress.now) (P.actions progress.now) id cursor.new }
     ensures looked { looks.new + cursor.old.at ≡ looks.old + cursor.new.at + (if result then 0 else 1) }
 {
-    // a schedule has so few dependencies that a place among them fits 32 bits
+    // a schedule has at most MAX_DEPS dependencies, so a place among them fits 32 bits
     let _plans = progress.sched().plans();
     let needs = progress.needs(id);
     if needs.is_empty() {
@@ -52,7 +52,7 @@ pub fn is_ready<P: Progress, L: Ledger>(
     true
 }
 
-/// The same where no one counts.
+/// Returns the same, without a counter.
 pub fn is_ready_uncounted<P: Progress>(progress: &P, id: OpId, cursor: &mut Cursor) -> bool
     requires op { IsOp (P.plans progress.now) id }
     requires cursor { IsCursorOf (P.plans progress.now) (P.eager progress.now) (P.actions progress.now) id cursor.old }
@@ -62,7 +62,7 @@ pub fn is_ready_uncounted<P: Progress>(progress: &P, id: OpId, cursor: &mut Curs
     is_ready_once::<P, Brand>(progress, id, cursor, Blank::new(1))
 }
 
-// The same, with a counter of its own.
+// Returns the same, with a new counter.
 fn is_ready_once<P: Progress, L: Ledger>(
     progress: &P,
     id: OpId,
