@@ -1,4 +1,4 @@
--- The rules tried on small schedules: the run is computed, and its starts, ends and matches are as worked by hand.
+-- Small schedules whose computed runs have the starts, ends and matches that were worked out by hand.
 use Rattle.std.specs.Prelude.{ℕ, zero, suc, ◌≡◌, List, [], ◌∷◌, Option, Some, None, if◌then◌else◌, map, refl}
 use Rattle.std.specs.List.{flat_map}
 use Rattle.goal_graph.specs.declared.action.OpId.{OpId}
@@ -22,7 +22,7 @@ use Rattle.goal_graph.specs.Keys.{less}
 use Rattle.sim_params.specs.Stuck.{first_unmet, first_absent, reason}
 use Rattle.sim_params.specs.Budget.{share, budget}
 
--- the parameters that are used where none are given
+-- the default parameters
 abbrev usual : Numbers
 usual = record { latency = 2500; overhead = 1500; gap = 1000; gap_per_byte = 6; gap_picos = 0; overhead_per_byte = 0; overhead_picos = 0; sync = 65535 }
 
@@ -52,19 +52,19 @@ module _ (plans : List Plan) (costs : CostModel) where
   candidates h =
       flat_map (λ (x : OpId). flat_map (candidate h x) (Arrive ∷ Serve ∷ Data ∷ Post ∷ Begin ∷ [])) (operations plans)
 
-  -- the run of at most so many steps
+  -- the run of at most n steps from a history
   unfoldable run_of : ℕ → List Timed → List Timed
   run_of zero h = h
   run_of (suc n) h = after (λ a. run_of n (a ∷ h)) h (least (candidates h))
 
   -- start, end and partner of an operation
-  abbrev told : List Timed → OpId → (Option ℕ × Option ℕ × Option OpId)
-  told h x =
+  abbrev outcome_of : List Timed → OpId → (Option ℕ × Option ℕ × Option OpId)
+  outcome_of h x =
       (if has_started plans x (plain h) then Some (start plans costs h x) else None, if has_ended plans (is_eager plans costs) x (plain h) then Some (end plans costs h x) else None, partner (pairs plans (plain h)) x)
 
-  -- what is told of each operation after the run
+  -- start, end and partner of each operation after the run
   abbrev outcome : List (Option ℕ × Option ℕ × Option OpId)
-  outcome = map (told (run_of 20 [])) (operations plans)
+  outcome = map (outcome_of (run_of 20 [])) (operations plans)
 
 abbrev at : ℕ → ℕ → OpId
 at rank op = record { rank = rank; op = op }
@@ -80,7 +80,7 @@ two_calcs : outcome (plan (Calc 100 ∷ Calc 100 ∷ []) ∷ []) usual_costs ≡
 unfolding less least run_of op_at kind_at deps_at needs places_of_rank places_from happened oldest plain partner fits pairs is_ready allowed is_eager since greatest cpu tx rx ready time rounded_up least_up_to
 two_calcs = refl
 
--- one message of so many bytes
+-- one message of `bytes` bytes
 abbrev one_message : ℕ → List Plan
 one_message bytes = plan (Send bytes 1 0 ∷ []) ∷ plan (Recv bytes (Some 0) (Some 0) ∷ []) ∷ []
 
@@ -99,7 +99,7 @@ largest_eager : outcome (one_message 65535) usual_costs ≡ ends_at 1500 398704
 unfolding less least run_of op_at kind_at deps_at needs places_of_rank places_from happened oldest plain partner fits pairs is_ready allowed is_eager since greatest cpu tx rx ready time rounded_up least_up_to
 largest_eager = refl
 
--- half a nanosecond a byte: of ten bytes nine cost 4.5, rounded up once
+-- Half a nanosecond per byte: the nine bytes after the first cost 4.5 ns, rounded up to 5.
 abbrev half_gap : CostModel
 half_gap = log_gops (record usual { gap_per_byte = 0; gap_picos = 500 })
 
@@ -114,7 +114,7 @@ half_overhead_ends : outcome (one_message 10) half_overhead ≡ ends_at 1505 551
 unfolding less least run_of op_at kind_at deps_at needs places_of_rank places_from happened oldest plain partner fits pairs is_ready allowed is_eager since greatest cpu tx rx ready time rounded_up least_up_to
 half_overhead_ends = refl
 
--- a picosecond a byte: 1000 bytes cost a nanosecond, and one byte more costs two
+-- One picosecond per byte: the 1000 bytes after the first cost 1 ns, and 1001 cost 2 ns.
 abbrev finest_gap : CostModel
 finest_gap = log_gops (record usual { gap_per_byte = 0; gap_picos = 1 })
 
@@ -126,7 +126,7 @@ finest_gap_ends_later : outcome (one_message 1002) finest_gap ≡ ends_at 1500 5
 unfolding less least run_of op_at kind_at deps_at needs places_of_rank places_from happened oldest plain partner fits pairs is_ready allowed is_eager since greatest cpu tx rx ready time rounded_up least_up_to
 finest_gap_ends_later = refl
 
--- one byte more goes by a handshake
+-- one byte over the threshold S needs a handshake
 least_large : outcome (one_message 65536) usual_costs ≡ ends_at 8000 405210
 unfolding less least run_of op_at kind_at deps_at needs places_of_rank places_from happened oldest plain partner fits pairs is_ready allowed is_eager since greatest cpu tx rx ready time rounded_up least_up_to
 least_large = refl
@@ -138,7 +138,7 @@ handshake : acts (run_of (one_message 65536) usual_costs 20 []) ≡ (403710, Ser
 unfolding less least run_of op_at kind_at deps_at needs places_of_rank places_from happened oldest plain partner fits pairs is_ready allowed is_eager since greatest cpu tx rx ready time rounded_up least_up_to
 handshake = refl
 
--- the interface binds: a second send waits for the first one's gap
+-- the NIC is the bottleneck: a second send waits for the gap of the first
 abbrev small_overhead : CostModel
 small_overhead = log_gops (record usual { overhead = 100 })
 
@@ -146,12 +146,12 @@ two_sends : outcome (plan (Send 1 1 0 ∷ Send 1 1 0 ∷ []) ∷ plan (Recv 1 (S
 unfolding less least run_of op_at kind_at deps_at needs places_of_rank places_from happened oldest plain partner fits pairs is_ready allowed is_eager since greatest cpu tx rx ready time rounded_up least_up_to
 two_sends = refl
 
--- both arrive at 4000, and the lesser rank's is matched first
+-- two messages arrive at 4000, and that of the lesser rank is matched first
 equal_arrivals : outcome (plan (Recv 1 None (Some 0) ∷ Recv 1 None (Some 0) ∷ []) ∷ plan (Send 1 0 0 ∷ []) ∷ plan (Send 1 0 0 ∷ []) ∷ []) usual_costs ≡ (Some 0, Some 5500, Some (at 1 0)) ∷ (Some 0, Some 7000, Some (at 2 0)) ∷ (Some 0, Some 1500, Some (at 0 0)) ∷ (Some 0, Some 1500, Some (at 0 1)) ∷ []
 unfolding less least run_of op_at kind_at deps_at needs places_of_rank places_from happened oldest plain partner fits pairs is_ready allowed is_eager since greatest cpu tx rx ready time rounded_up least_up_to
 equal_arrivals = refl
 
--- a wildcard that was posted first takes the message
+-- of two receives that fit, a wildcard that was posted first takes the message
 abbrev wildcard_first : List Plan
 wildcard_first = plan (Send 10 1 7 ∷ []) ∷ plan (Recv 10 None None ∷ Recv 10 (Some 0) (Some 7) ∷ []) ∷ []
 
@@ -163,7 +163,8 @@ second_is_alone : reason wildcard_first (is_eager wildcard_first usual_costs) (p
 unfolding less least run_of op_at kind_at deps_at needs places_of_rank places_from happened oldest plain partner fits pairs is_ready allowed is_eager since greatest cpu tx rx ready time first_unmet first_absent reason rounded_up least_up_to
 second_is_alone = refl
 
--- two large sends face to face: each is stuck for the other rank's receive, which needs its own rank's send
+-- Two ranks first send to each other by rendezvous, then receive. Both sends are stuck: each waits for the receive of the
+-- other rank, which needs the send of its rank.
 abbrev exchange : ℕ → ℕ → Plan
 exchange bytes other =
     ordered (Send bytes other 0 ∷ Recv bytes (Some other) (Some 0) ∷ []) (record { later = 1; earlier = 0; when = AfterEnd } ∷ [])
@@ -182,12 +183,12 @@ face_to_face_reasons : reasons (face_to_face 100000) ≡ why.Partner (at 1 1) �
 unfolding less least run_of op_at kind_at deps_at needs places_of_rank places_from happened oldest plain partner fits pairs is_ready allowed is_eager since greatest cpu tx rx ready time first_unmet first_absent reason rounded_up least_up_to
 face_to_face_reasons = refl
 
--- the same with small messages goes through
+-- eager sends in the same schedule complete
 face_to_face_eager : outcome (face_to_face 10) usual_costs ≡ (Some 0, Some 1500, Some (at 1 1)) ∷ (Some 1500, Some 5554, Some (at 1 0)) ∷ (Some 0, Some 1500, Some (at 0 1)) ∷ (Some 1500, Some 5554, Some (at 0 0)) ∷ []
 unfolding less least run_of op_at kind_at deps_at needs places_of_rank places_from happened oldest plain partner fits pairs is_ready allowed is_eager since greatest cpu tx rx ready time rounded_up least_up_to
 face_to_face_eager = refl
 
--- the two words for a dependency differ: l2 starts with l1, l3 after it
+-- `irequires` and `requires` differ: l2 may start with l1, l3 only after it
 abbrev two_words : List Plan
 two_words =
     record {
@@ -200,7 +201,7 @@ two_words_run : outcome two_words usual_costs ≡ (Some 0, Some 100, None) ∷ (
 unfolding less least run_of op_at kind_at deps_at needs places_of_rank places_from happened oldest plain partner fits pairs is_ready allowed is_eager since greatest cpu tx rx ready time rounded_up least_up_to
 two_words_run = refl
 
--- the budget of one message of the largest size at the largest costs per byte
+-- the time budget of one message of the largest size at the largest costs per byte
 abbrev largest_costs : CostModel
 largest_costs = log_gops (record usual { gap_per_byte = 1048575; overhead_per_byte = 1048575 })
 
