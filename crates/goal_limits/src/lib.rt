@@ -1,5 +1,5 @@
-//! The limits of a schedule, its parts, its input and its parameters; the collectives, and for how many ranks each has
-//! a schedule; and the fault of memory that ran out.
+//! The limits of a schedule, its parts, its input and its parameters. The collectives, and for how many ranks each has
+//! a schedule. The out-of-memory error (`NoMemory`).
 #![tactic(auto)]
 
 mod collective;
