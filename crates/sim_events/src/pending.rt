@@ -82,9 +82,9 @@ fn step<C: Costs, H: History, L: Ledger, R: Ledger, M: Ledger, N: Ledger>(
     Some(action)
 }
 
-// Performs actions until none is possible. Among 2^k operations it makes at most 18k + 29 comparisons per action and 8k + 15
-// per change of place of a station, including those for the keys that are in the queue already. The matcher examines at most
-// eight entries per action, and each need that an action may satisfy is counted once.
+// Performs actions until none is possible. Among 2^k operations it makes at most 18k + 29 comparisons per action, and
+// 8k + 15 each time a station switches its resource. This includes the comparisons for keys that are already in the queue.
+// The matcher examines at most eight entries per action. Each need that an action may satisfy is counted once.
 fn run<C: Costs, H: History, L: Ledger, R: Ledger, M: Ledger, N: Ledger>(
     state: &mut RunState<C, H>,
     queue: &mut Queue,
