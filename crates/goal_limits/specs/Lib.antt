@@ -1,4 +1,5 @@
 -- What a reader must believe.
+pub mod Bytes
 pub mod Limits
 pub mod MostRanks
 -- What only the code keeps.

@@ -26,6 +26,10 @@ round_limit = 300000
 abbrev pub input_limit : ℕ
 input_limit = 134217728
 
+-- the most bytes of a label, a word, a number or a size of a text
+abbrev pub run_limit : ℕ
+run_limit = 64
+
 -- the largest size of a message and of a receive, in bytes: 2^40-1
 abbrev pub size_limit : ℕ
 size_limit = 1099511627775

@@ -19,6 +19,9 @@ pub const MAX_ROUNDS: u32 = 300_000;
 /// The most bytes of an input: 2^27.
 pub const MAX_INPUT: usize = 134_217_728;
 
+/// The most bytes of a label, a word, a number or a size of a text.
+pub const MAX_RUN_BYTES: usize = 64;
+
 /// The largest size of a message and of a receive, in bytes: 2^40-1.
 pub const MAX_BYTES: u64 = 1_099_511_627_775;
 

@@ -1,5 +1,5 @@
 -- The text of a machine: its words, and what each word must be.
-use Rattle.std.specs.Prelude.{ℕ, zero, suc, ◌+◌, ◌==◌, ◌&&◌, ◌||◌, nat_lt, nat_le, Bool, List, [], ◌∷◌, ◌++◌, length, filter, Option, Some, None, is_some, Result, Ok, Err, codes, bytes_eq, if◌then◌else◌}
+use Rattle.std.specs.Prelude.{ℕ, zero, suc, ◌+◌, ◌==◌, ◌&&◌, nat_lt, nat_le, Bool, List, [], ◌∷◌, ◌++◌, length, filter, Option, Some, None, is_some, Result, Ok, Err, codes, bytes_eq, if◌then◌else◌}
 use Rattle.std.specs.List.{slice_split}
 use Rattle.std.specs.Str.Parse.{digits_value}
 use Rattle.goal_base.specs.Numerals.{is_numeral}
@@ -11,10 +11,7 @@ use Rattle.sim_classes.specs.declared.fault.MachineFault.{MachineFault}
 use Rattle.sim_classes.specs.declared.fault.MachineFault.TheVariants.{Syntax, Number, Repeat}
 use Rattle.sim_classes.specs.Limits.{class_limit, pair_limit, node_limit}
 use Rattle.sim_classes.specs.Machine.{MachineModel, machine_with}
-
--- a space, a tab, a carriage return or a line feed
-abbrev pub is_blank : ℕ → Bool
-is_blank c = c == 32 || c == 9 || c == 13 || c == 10
+pub use Rattle.goal_limits.specs.Bytes.{is_blank}
 
 -- the words of a text: its longest runs of bytes that are not blanks
 unfoldable pub words : List ℕ → List (List ℕ)

@@ -7,6 +7,7 @@ ghost use Rattle.sim_params.specs.Costs.{Numbers};
 
 use crate::fault::MachineFault;
 use goal_base::numeral_value;
+use goal_limits::is_blank;
 use std::marker::Model;
 
 /// The remaining words, and the number of the first of them.
@@ -26,13 +27,6 @@ impl<'a> Model for Words<'a> {
     ghost view = { λ w. record { place = w.place; words = words w.rest.now } };
 
     ghost invariant = { λ w. w.place + length w.rest.now < 2 ^ 64 };
-}
-
-// Returns whether a byte is a blank.
-fn is_blank(byte: u8) -> bool
-    ensures { result ≡ is_blank byte }
-{
-    byte == b' ' || byte == b'\t' || byte == b'\r' || byte == b'\n'
 }
 
 // Returns the number of blanks at the front.
