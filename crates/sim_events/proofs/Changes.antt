@@ -10,19 +10,18 @@ use Rattle.goal_graph.specs.declared.action.Timed.{Timed}
 use Rattle.goal_graph.specs.declared.plan.Op.{Op}
 use Rattle.goal_graph.specs.Schedule.{Plan, operations, op_at}
 use Rattle.sim_params.specs.Costs.{CostModel}
-use Rattle.sim_resources.proofs.ForCallers.{get_either}
-use Rattle.sim_stations.specs.declared.pair.Pair.{Pair}
+use Rattle.sim_resources.proofs.ForCallers.{get_either, same_station_true, same_station_from}
+use Rattle.sim_resources.specs.declared.pair.Pair.{Pair}
 use Rattle.sim_stations.specs.Stations.{Stationed, waits_for_room, pair_at, pair_of}
 use Rattle.sim_stations.specs.Moves.{HaveReturned, HaveMoved, changes, held_once_more}
 use Rattle.sim_stations.proofs.ForCallers.{few_changes}
-use Rattle.sim_events.specs.declared.station.Station.{Station}
-use Rattle.sim_events.specs.Stations.{AreStationed}
+use Rattle.sim_resources.specs.declared.station.Station.{Station}
+use Rattle.sim_resources.specs.Numbering.{AreStationed}
 use Rattle.sim_events.specs.Cost.{station_of, station_as, cpu_alone, side_alone, same_station, with_station, stations_among, holds_as, times_held, most_moves}
 use Rattle.sim_events.specs.Changes.{AreAtPlaces, AreHeld, HaveChanged, HaveChangedOn}
 use Rattle.sim_events.specs.Queue.{IsOfSchedule, IsSettledBy}
 use Rattle.sim_events.proofs.FreeAfter.{needs}
 use Rattle.sim_events.proofs.Held.{number, resource_at, pair_there}
-use Rattle.sim_events.proofs.Placing.{same_station_true, same_station_from}
 use Rattle.sim_events.proofs.Queue.{listed_kind}
 
 -- where no station has changed its place

@@ -18,7 +18,7 @@ use Rattle.sim_params.specs.Times.{same_place, holds_tx, holds_rx, cpu_hold, tx_
 use Rattle.goal_graph.specs.Allowed.{allowed}
 use Rattle.sim_stations.specs.Stations.{waits_for_room}
 use Rattle.sim_state.specs.Free.{free, free_of, side, side_of}
-use Rattle.sim_events.specs.declared.station.Station.{Station}
+use Rattle.sim_resources.specs.declared.station.Station.{Station}
 use Rattle.sim_events.specs.Cost.{station_by, station_of, cpu_alone, side_alone}
 
 -- two operations of one rank at one place are at the same place as others

@@ -10,10 +10,10 @@ use Rattle.goal_graph.specs.Schedule.{Plan, operations, op_at}
 use Rattle.goal_graph.proofs.ForCallers.{listed_op}
 use Rattle.sim_params.specs.Costs.{CostModel}
 use Rattle.sim_params.specs.Times.{cpu, Possible}
-use Rattle.sim_stations.specs.declared.pair.Pair.{Pair}
+use Rattle.sim_resources.specs.declared.pair.Pair.{Pair}
 use Rattle.sim_stations.specs.Stations.{Stationed, waits_for_room, pair_at, pair_of, held, IsLater}
 use Rattle.sim_state.specs.Free.{side}
-use Rattle.sim_events.specs.Stations.{AreStationed}
+use Rattle.sim_resources.specs.Numbering.{AreStationed}
 use Rattle.sim_events.specs.Cost.{station_of, cpu_alone, side_alone}
 use Rattle.sim_events.specs.Queue.{AreFree, IsOfSchedule}
 use Rattle.sim_events.proofs.FreeAfter.{needs, free_at, one_free, side_is, cpu_grows, side_grows, free_stays, cpu_at_once, side_at_once}

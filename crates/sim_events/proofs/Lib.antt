@@ -8,8 +8,6 @@ pub mod Queue
 pub mod Settled
 pub mod Steps
 pub mod Runs
-pub mod Placing
-pub mod Numbering
 pub mod Costs
 pub mod Changes
 pub mod Shared

@@ -25,12 +25,12 @@ use Rattle.sim_params.proofs.ForCallers.{run_interleaving, least_is_next}
 use Rattle.sim_order.specs.Events.{event_before}
 use Rattle.sim_queue.specs.Map.{key_at, IsEmptyMap, IsLeast}
 use Rattle.sim_stations.specs.Stations.{Stationed, waits_for_room, pair_at, pair_of, held, when_free, both_free, at_time, DoExist, AreOfSlots}
-use Rattle.sim_stations.specs.declared.pair.Pair.{Pair}
+use Rattle.sim_resources.specs.declared.pair.Pair.{Pair}
 use Rattle.sim_stations.specs.declared.key_place.KeyPlace.TheVariants.{Nowhere}
 use Rattle.sim_state.specs.Enabled.{IsIdle, IsEnabledActionOf}
 use Rattle.sim_state.specs.Free.{free, side, side_of}
 use Rattle.sim_state.proofs.ForCallers.{other_op, happened_this, listed_exists}
-use Rattle.sim_events.specs.Stations.{AreStationed}
+use Rattle.sim_resources.specs.Numbering.{AreStationed}
 use Rattle.sim_events.specs.Queue.{AreFree, IsOfSchedule, IsQueueBut, IsQueue, HasPossibleKeys, IsRefreshed, IsDueAfter}
 use Rattle.sim_events.proofs.Awaited.{IsConcerned, newly_allowed}
 use Rattle.sim_events.proofs.Done.{serve_or_not, served_is_done, begun_calc_is_done, arrived_is_done, received_is_done}

@@ -17,14 +17,12 @@ use Rattle.goal_graph.proofs.ForCallers.{listed_op}
 use Rattle.sim_params.specs.Costs.{CostModel}
 use Rattle.sim_params.specs.Run.{IsRun}
 use Rattle.sim_params.proofs.ForCallers.{run_length}
-use Rattle.sim_resources.proofs.ForCallers.{get_either}
+use Rattle.sim_resources.proofs.ForCallers.{get_either, any_there, same_station_true, same_station_from}
 use Rattle.sim_stations.specs.Stations.{waits_for_room}
-use Rattle.sim_events.specs.declared.station.Station.{Station}
-use Rattle.sim_events.specs.Stations.{AreOnce}
+use Rattle.sim_resources.specs.declared.station.Station.{Station}
+use Rattle.sim_resources.specs.Numbering.{AreOnce}
 use Rattle.sim_events.specs.Cost.{station_by, station_of, station_as, cpu_alone, side_by, side_alone, same_station, with_station, stations_among, holds_as, times_held, most_moves, cost_of_start, cost_of_run}
 use Rattle.sim_events.specs.Laws.{HasOneCpu, HasOneNic, IsOneWide, MovesAreFew, RunsAreCheap}
-use Rattle.sim_events.proofs.Numbering.{any_there}
-use Rattle.sim_events.proofs.Placing.{same_station_true, same_station_from}
 use Rattle.sim_events.proofs.Changes.{of_one}
 
 -- no station stands twice

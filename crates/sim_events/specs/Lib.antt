@@ -3,7 +3,6 @@ pub mod Cost
 -- What only the code keeps.
 pub mod Blanks
 pub mod Comparisons
-pub mod Stations
 pub mod Queue
 pub mod Changes
 pub mod Pending
@@ -19,6 +18,7 @@ pub use Rattle.sim_params.specs.Budget
 pub use Rattle.sim_params.specs.Costs
 pub use Rattle.sim_params.specs.Run
 pub use Rattle.sim_params.specs.Times
+pub use Rattle.sim_resources.specs.Numbering
 pub use Rattle.sim_stations.specs.Stations as Stationing
 pub use Rattle.sim_queue.specs.Map
 pub use Rattle.sim_state.specs.Awaited

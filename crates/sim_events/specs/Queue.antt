@@ -17,7 +17,7 @@ use Rattle.sim_state.specs.Enabled.{IsIdle, IsEnabledActionOf}
 use Rattle.sim_state.specs.Awaited.{gives}
 use Rattle.sim_state.specs.Free.{side}
 use Rattle.sim_state.specs.Tasks.{IsLast}
-use Rattle.sim_events.specs.Stations.{AreStationed}
+use Rattle.sim_resources.specs.Numbering.{AreStationed}
 
 -- A queue after the action in a slot, which leaves its resources free at c and s. Its key is removed. If the action
 -- waited for room, the keys of all that wait for these resources are raised, and each was held once more.

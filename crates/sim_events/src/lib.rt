@@ -5,7 +5,6 @@ mod engine;
 mod follow;
 mod laws;
 mod pending;
-mod station;
 
 pub use engine::Engine;
 pub use laws::laws_of_costs;

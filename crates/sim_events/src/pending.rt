@@ -13,8 +13,7 @@ ghost use Rattle.sim_events.specs.Changes.{HaveChanged, HaveChangedOn};
 ghost use Rattle.sim_events.specs.Pending.{IsPendingOf, IsStepped};
 
 use crate::follow::{Queue, fill, follow, next, settle, waiting_after};
-use crate::station::number_stations;
-use goal_graph::{Sched, Timed};
+use goal_graph::Timed;
 use goal_limits::NoMemory;
 use sim_order::Steps;
 use sim_params::Costs;
@@ -23,12 +22,12 @@ use std::alloc::Global;
 use std::sync::ledger::{Blank, Ledger};
 
 // Creates the queue of a schedule, without keys.
-fn queue_of(alloc: Global, sched: &Sched) -> Result<Queue, NoMemory>
-    ensures of_it { IfOk result (λ q. (costs : CostModel) → IsOfSchedule sched.now costs [] q) }
+fn queue_of<C: Costs, H: History>(alloc: Global, state: &RunState<C, H>) -> Result<Queue, NoMemory>
+    ensures of_it { IfOk result (λ q. (costs : CostModel) → IsOfSchedule state.now.plans costs [] q) }
     ensures empty { IfOk result (λ q. IsEmptyMap q.keys) }
-    ensures changed { IfOk result (λ q. (all : ℕ) × HaveChanged sched.now [] q all) }
+    ensures changed { IfOk result (λ q. (all : ℕ) × HaveChanged state.now.plans [] q all) }
 {
-    let stations = number_stations(alloc, sched)?;
+    let stations = state.stations();
     Queue::new(
         alloc,
         &stations.numbers,
@@ -48,7 +47,7 @@ pub fn at_the_start<C: Costs, H: History, L: Ledger>(
     ensures pending { IfOk result (IsPendingOf C.model state.now) }
     ensures counted { (k : ℕ) → length (operations state.now.plans) ≤ 2 ^ k → steps.new ≤ steps.old + cost_of_start k state.now.plans }
 {
-    let mut queue = queue_of(alloc, state.sched())?;
+    let mut queue = queue_of(alloc, state)?;
     queue.known();
     fill(state, &mut queue, steps);
     Ok(queue)

@@ -1,76 +1,113 @@
--- One more hold: what a contract sees of the resources then.
-use Rattle.std.proofs.Common.{ℕ, ◌≡◌, List, Some, length, slice_get, refl, sym, subst}
+-- What a contract sees of the resources: when an operation's are free, and what one more hold changes.
+use Rattle.std.proofs.Common.{ℕ, ◌≡◌, ◌<◌, List, Contains, Some, length, slice_get, max, get_or, refl, ap, sym, ◌∙◌, subst, arith}
 use Rattle.goal_graph.specs.declared.action.OpId.{OpId}
 use Rattle.goal_graph.specs.declared.plan.Op.{Op}
-use Rattle.goal_graph.specs.Schedule.{Plan}
+use Rattle.goal_graph.specs.Schedule.{Plan, op_at, operations, IsSend, IsReceive}
 use Rattle.goal_graph.specs.Fault.{IsOp}
-use Rattle.sim_resources.specs.declared.slots.Slots.{Slots}
-use Rattle.sim_resources.specs.FreeTimes.{Holds, SameFreeTimes, hold_cpu, hold_tx, hold_rx}
-use Rattle.sim_resources.specs.Slots.{AreNumbered, IsPlaced, cpu_slot, nic_slot, cpu_of, nic_of, slots_of, held}
-use Rattle.sim_resources.proofs.FreeTimes.{raised, free_raised, same_length}
+use Rattle.goal_graph.proofs.ForCallers.{cases_some, kind_of_op, listed_places, receive_is_op, send_is_op}
+use Rattle.sim_resources.specs.declared.station.StationNumbers.{StationNumbers}
+use Rattle.sim_resources.specs.FreeTimes.{Holds, SameFreeTimes, cpu_free, tx_free, rx_free, hold_cpu, hold_tx, hold_rx}
+use Rattle.sim_resources.specs.Numbering.{AreNumbered}
+use Rattle.sim_resources.specs.Held.{cpu_number, side_number, kind_sends, kind_receives, sends, receives, senders, receivers, held}
+use Rattle.sim_resources.proofs.FreeTimes.{raised, held_same, free_raised, is_raised, read_free}
+use Rattle.sim_resources.proofs.Placed.{filtered_in, cpus_placed, txs_placed, rxs_placed, cpu_not_tx, cpu_not_rx, tx_not_rx}
 
-module _ (plans : List Plan) (slots : List Slots) (cpu tx rx : List ℕ)
-    (n : AreNumbered plans slots (length cpu) (length tx) (length rx))
-    (r : Holds)
-    (seen : record { plans = plans; cpu = held plans (cpu_slot plans slots) cpu; tx = held plans (nic_slot plans slots) tx; rx = held plans (nic_slot plans slots) rx } ≡ r)
-    (x : OpId) (is_op : IsOp plans x)
-    (s : Slots) (read : s ≡ slots_of plans slots x) (until : ℕ) (new : List ℕ) where
-  -- the time of the slot that was read is raised
-  says_of : (times : List ℕ) (of : Slots → ℕ) → ((t : ℕ) → slice_get times (of s) ≡ Some t → new ≡ raised times (of s) t until)
-      → (t : ℕ) → slice_get times (of (slots_of plans slots x)) ≡ Some t → new ≡ raised times (of (slots_of plans slots x)) t until
-  says_of times of says =
-      subst (λ (z : Slots). (t : ℕ) → slice_get times (of z) ≡ Some t → new ≡ raised times (of z) t until) read says
+-- an operation is among all, a send among the senders, a receive among the receivers
+pub among_ops : (plans : List Plan) (x : OpId) → IsOp plans x → Contains (operations plans) x
+among_ops plans x is_op = (listed_places plans x).1 is_op
 
-  module _ (says : (t : ℕ) → slice_get cpu s.cpu ≡ Some t → new ≡ raised cpu s.cpu t until) where
-    pub cpu_held : SameFreeTimes (record { plans = plans; cpu = held plans (cpu_slot plans slots) new; tx = held plans (nic_slot plans slots) tx; rx = held plans (nic_slot plans slots) rx }) (hold_cpu r x until)
-    cpu_held =
-        subst (λ (r : Holds). SameFreeTimes (record { plans = plans; cpu = held plans (cpu_slot plans slots) new; tx = held plans (nic_slot plans slots) tx; rx = held plans (nic_slot plans slots) rx }) (hold_cpu r x until)) seen (record {
-          plans = refl;
-          cpu = free_raised (λ (o : Op). o.cpu) plans (cpu_slot plans slots) (length cpu) n.cpus cpu new refl x is_op until (says_of cpu cpu_of says);
-          tx = λ y. refl;
-          rx = λ y. refl;
-        })
+pub among_senders : (plans : List Plan) (x : OpId) → IsSend plans x → Contains (senders plans) x
+among_senders plans x send =
+    let is_op = send_is_op plans x send in
+    let o = cases_some (op_at plans x) is_op in
+    filtered_in (λ y. sends (op_at plans y)) (operations plans) x (among_ops plans x is_op) (ap sends o.1 ∙ ap kind_sends (kind_of_op plans x o.0 _ o.1 send.kind))
 
-    pub cpu_numbered : AreNumbered plans slots (length new) (length tx) (length rx)
-    cpu_numbered = record {
-      whole = n.whole;
-      cpus = subst (IsPlaced (λ (o : Op). o.cpu) plans (cpu_slot plans slots)) (sym (same_length (λ (o : Op). o.cpu) plans (cpu_slot plans slots) (length cpu) n.cpus cpu new refl x is_op until (says_of cpu cpu_of says))) n.cpus;
-      txs = n.txs;
-      rxs = n.rxs;
-    }
+pub among_receivers : (plans : List Plan) (x : OpId) → IsReceive plans x → Contains (receivers plans) x
+among_receivers plans x receive =
+    let is_op = receive_is_op plans x receive in
+    let o = cases_some (op_at plans x) is_op in
+    filtered_in (λ y. receives (op_at plans y)) (operations plans) x (among_ops plans x is_op) (ap receives o.1 ∙ ap kind_receives (kind_of_op plans x o.0 _ o.1 receive.kind))
 
-  module _ (says : (t : ℕ) → slice_get tx s.nic ≡ Some t → new ≡ raised tx s.nic t until) where
-    pub tx_held : SameFreeTimes (record { plans = plans; cpu = held plans (cpu_slot plans slots) cpu; tx = held plans (nic_slot plans slots) new; rx = held plans (nic_slot plans slots) rx }) (hold_tx r x until)
-    tx_held =
-        subst (λ (r : Holds). SameFreeTimes (record { plans = plans; cpu = held plans (cpu_slot plans slots) cpu; tx = held plans (nic_slot plans slots) new; rx = held plans (nic_slot plans slots) rx }) (hold_tx r x until)) seen (record {
-          plans = refl;
-          cpu = λ y. refl;
-          tx = free_raised (λ (o : Op). o.nic) plans (nic_slot plans slots) (length tx) n.txs tx new refl x is_op until (says_of tx nic_of says);
-          rx = λ y. refl;
-        })
+module _ (plans : List Plan) (s : StationNumbers) (n : AreNumbered plans s) where
+  -- what a contract sees
+  abbrev pub seen : List ℕ → Holds
+  seen free = record { plans = plans; cpu = held (operations plans) (cpu_number plans s) free; tx = held (senders plans) (side_number plans s) free; rx = held (receivers plans) (side_number plans s) free }
 
-    pub tx_numbered : AreNumbered plans slots (length cpu) (length new) (length rx)
-    tx_numbered = record {
-      whole = n.whole;
-      cpus = n.cpus;
-      txs = subst (IsPlaced (λ (o : Op). o.nic) plans (nic_slot plans slots)) (sym (same_length (λ (o : Op). o.nic) plans (nic_slot plans slots) (length tx) n.txs tx new refl x is_op until (says_of tx nic_of says))) n.txs;
-      rxs = n.rxs;
-    }
+  module _ (free : List ℕ) (whole : length free ≡ s.resources) (r : Holds) (is : seen free ≡ r) (x : OpId) where
+    pub cpu_within : IsOp r.plans x → cpu_number plans s x < length free
+    cpu_within there =
+        let is_op : IsOp plans x = subst (λ (q : Holds). IsOp q.plans x) (sym is) there in
+        omega (arith, (cpus_placed plans s n).within x (among_ops plans x is_op), whole)
 
-  module _ (says : (t : ℕ) → slice_get rx s.nic ≡ Some t → new ≡ raised rx s.nic t until) where
-    pub rx_held : SameFreeTimes (record { plans = plans; cpu = held plans (cpu_slot plans slots) cpu; tx = held plans (nic_slot plans slots) tx; rx = held plans (nic_slot plans slots) new }) (hold_rx r x until)
-    rx_held =
-        subst (λ (r : Holds). SameFreeTimes (record { plans = plans; cpu = held plans (cpu_slot plans slots) cpu; tx = held plans (nic_slot plans slots) tx; rx = held plans (nic_slot plans slots) new }) (hold_rx r x until)) seen (record {
-          plans = refl;
-          cpu = λ y. refl;
-          tx = λ y. refl;
-          rx = free_raised (λ (o : Op). o.nic) plans (nic_slot plans slots) (length rx) n.rxs rx new refl x is_op until (says_of rx nic_of says);
-        })
+    pub tx_within : IsSend r.plans x → side_number plans s x < length free
+    tx_within there =
+        let send : IsSend plans x = subst (λ (q : Holds). IsSend q.plans x) (sym is) there in
+        omega (arith, (txs_placed plans s n).within x (among_senders plans x send), whole)
 
-    pub rx_numbered : AreNumbered plans slots (length cpu) (length tx) (length new)
-    rx_numbered = record {
-      whole = n.whole;
-      cpus = n.cpus;
-      txs = n.txs;
-      rxs = subst (IsPlaced (λ (o : Op). o.nic) plans (nic_slot plans slots)) (sym (same_length (λ (o : Op). o.nic) plans (nic_slot plans slots) (length rx) n.rxs rx new refl x is_op until (says_of rx nic_of says))) n.rxs;
-    }
+    pub rx_within : IsReceive r.plans x → side_number plans s x < length free
+    rx_within there =
+        let receive : IsReceive plans x = subst (λ (q : Holds). IsReceive q.plans x) (sym is) there in
+        omega (arith, (rxs_placed plans s n).within x (among_receivers plans x receive), whole)
+
+    module _ (t : ℕ) where
+      pub cpu_read : IsOp r.plans x → ((u : ℕ) → slice_get free (cpu_number plans s x) ≡ Some u → t ≡ u) → t ≡ cpu_free r x
+      cpu_read there says =
+          let is_op : IsOp plans x = subst (λ (q : Holds). IsOp q.plans x) (sym is) there in
+          subst (λ (q : Holds). t ≡ cpu_free q x) is
+          (read_free (λ (o : Op). o.cpu) plans (operations plans) (cpu_number plans s) s.resources (cpus_placed plans s n) free x (among_ops plans x is_op) whole t says)
+
+      pub tx_read : IsSend r.plans x → ((u : ℕ) → slice_get free (side_number plans s x) ≡ Some u → t ≡ u) → t ≡ tx_free r x
+      tx_read there says =
+          let send : IsSend plans x = subst (λ (q : Holds). IsSend q.plans x) (sym is) there in
+          subst (λ (q : Holds). t ≡ tx_free q x) is
+          (read_free (λ (o : Op). o.nic) plans (senders plans) (side_number plans s) s.resources (txs_placed plans s n) free x (among_senders plans x send) whole t says)
+
+      pub rx_read : IsReceive r.plans x → ((u : ℕ) → slice_get free (side_number plans s x) ≡ Some u → t ≡ u) → t ≡ rx_free r x
+      rx_read there says =
+          let receive : IsReceive plans x = subst (λ (q : Holds). IsReceive q.plans x) (sym is) there in
+          subst (λ (q : Holds). t ≡ rx_free q x) is
+          (read_free (λ (o : Op). o.nic) plans (receivers plans) (side_number plans s) s.resources (rxs_placed plans s n) free x (among_receivers plans x receive) whole t says)
+
+    -- the time of one number is raised
+    module _ (until : ℕ) (new : List ℕ) where
+      abbrev pub Says : ℕ → Type 0
+      Says number = (t : ℕ) → slice_get free number ≡ Some t → new ≡ raised free number t until
+
+      pub cpu_held : IsOp r.plans x → Says (cpu_number plans s x) → SameFreeTimes (seen new) (hold_cpu r x until)
+      cpu_held there says =
+          let is_op : IsOp plans x = subst (λ (q : Holds). IsOp q.plans x) (sym is) there in
+          let c = among_ops plans x is_op in
+          let p = cpus_placed plans s n in
+          let raised_is = is_raised (λ (o : Op). o.cpu) plans (operations plans) (cpu_number plans s) s.resources p free whole x c until new says in
+          subst (λ (q : Holds). SameFreeTimes (seen new) (hold_cpu q x until)) is (subst (λ (ts : List ℕ). SameFreeTimes (seen ts) (hold_cpu (seen free) x until)) (sym raised_is) (record {
+            plans = refl;
+            cpu = free_raised (λ (o : Op). o.cpu) plans (operations plans) (cpu_number plans s) s.resources p free whole x c until;
+            tx = λ y. rw (held_same (senders plans) (side_number plans s) free (cpu_number plans s x) (max (get_or free (cpu_number plans s x) 0) until) (λ z d e. cpu_not_tx plans s n x z c d (sym e))) refl;
+            rx = λ y. rw (held_same (receivers plans) (side_number plans s) free (cpu_number plans s x) (max (get_or free (cpu_number plans s x) 0) until) (λ z d e. cpu_not_rx plans s n x z c d (sym e))) refl;
+          }))
+
+      pub tx_held : IsSend r.plans x → Says (side_number plans s x) → SameFreeTimes (seen new) (hold_tx r x until)
+      tx_held there says =
+          let send : IsSend plans x = subst (λ (q : Holds). IsSend q.plans x) (sym is) there in
+          let c = among_senders plans x send in
+          let p = txs_placed plans s n in
+          let raised_is = is_raised (λ (o : Op). o.nic) plans (senders plans) (side_number plans s) s.resources p free whole x c until new says in
+          subst (λ (q : Holds). SameFreeTimes (seen new) (hold_tx q x until)) is (subst (λ (ts : List ℕ). SameFreeTimes (seen ts) (hold_tx (seen free) x until)) (sym raised_is) (record {
+            plans = refl;
+            cpu = λ y. rw (held_same (operations plans) (cpu_number plans s) free (side_number plans s x) (max (get_or free (side_number plans s x) 0) until) (λ z d e. cpu_not_tx plans s n z x d c e)) refl;
+            tx = free_raised (λ (o : Op). o.nic) plans (senders plans) (side_number plans s) s.resources p free whole x c until;
+            rx = λ y. rw (held_same (receivers plans) (side_number plans s) free (side_number plans s x) (max (get_or free (side_number plans s x) 0) until) (λ z d e. tx_not_rx plans s n x z c d (sym e))) refl;
+          }))
+
+      pub rx_held : IsReceive r.plans x → Says (side_number plans s x) → SameFreeTimes (seen new) (hold_rx r x until)
+      rx_held there says =
+          let receive : IsReceive plans x = subst (λ (q : Holds). IsReceive q.plans x) (sym is) there in
+          let c = among_receivers plans x receive in
+          let p = rxs_placed plans s n in
+          let raised_is = is_raised (λ (o : Op). o.nic) plans (receivers plans) (side_number plans s) s.resources p free whole x c until new says in
+          subst (λ (q : Holds). SameFreeTimes (seen new) (hold_rx q x until)) is (subst (λ (ts : List ℕ). SameFreeTimes (seen ts) (hold_rx (seen free) x until)) (sym raised_is) (record {
+            plans = refl;
+            cpu = λ y. rw (held_same (operations plans) (cpu_number plans s) free (side_number plans s x) (max (get_or free (side_number plans s x) 0) until) (λ z d e. cpu_not_rx plans s n z x d c e)) refl;
+            tx = λ y. rw (held_same (senders plans) (side_number plans s) free (side_number plans s x) (max (get_or free (side_number plans s x) 0) until) (λ z d e. tx_not_rx plans s n z x d c e)) refl;
+            rx = free_raised (λ (o : Op). o.nic) plans (receivers plans) (side_number plans s) s.resources p free whole x c until;
+          }))

@@ -1,7 +1,7 @@
 pub mod Lists
 pub mod Shares
-pub mod Numbered
-pub mod Given
+pub mod Placing
+pub mod Numbering
 pub mod Placed
 pub mod FreeTimes
 pub mod Worth

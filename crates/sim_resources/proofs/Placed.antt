@@ -1,20 +1,21 @@
--- The slots of operations: each has one, and two have the same exactly if they share.
-use Rattle.std.proofs.Common.{ℕ, zero, suc, ◌≡◌, ◌<◌, inl, inr, ◌==◌, Bool, true, false, List, [], ◌∷◌, length, map, Option, Some, None, slice_get, get_or, refl, sym, ap, ◌∙◌, subst, arith, eqb-true, eq-eqb}
-use Rattle.std.specs.Option.{option_and_then}
-use Rattle.std.specs.List.{list_all}
-use Rattle.std.proofs.lemmas.Bool.{both_ways, and_parts, and_from, cond-false}
-use Rattle.std.proofs.lemmas.Bool.Decides.{eqb_tells}
-use Rattle.std.proofs.lemmas.List.{get_or-map, length-map}
-use Rattle.std.proofs.lemmas.Option.{same_Some, slice_get_within, slice_get-get_or, get_or_from_slice_get}
+-- The cpus and the sides of NICs have numbers: two operations have the same exactly if they share.
+use Rattle.std.proofs.Common.{ℕ, zero, suc, ◌≡◌, ◌≢◌, ◌<◌, inl, inr, Bool, true, false, List, [], ◌∷◌, Contains, length, Some, None, slice_get, slice_index, get_or, filter, refl, sym, ap, ◌∙◌, arith, eq-eqb}
+use Rattle.std.proofs.lemmas.Bool.{both_ways, and_from}
+use Rattle.std.proofs.lemmas.Option.{same_Some, slice_get_within, slice_get-get_or, slice_get_read, get_or_from_slice_get}
 use Rattle.goal_graph.specs.declared.action.OpId.{OpId}
+use Rattle.goal_graph.specs.declared.plan.Kind.{Kind}
+use Rattle.goal_graph.specs.declared.plan.Kind.TheVariants.{Calc, Send, Recv}
 use Rattle.goal_graph.specs.declared.plan.Op.{Op}
 use Rattle.goal_graph.specs.Schedule.{Plan, op_at, operations}
 use Rattle.goal_graph.specs.Fault.{IsOp}
-use Rattle.goal_graph.proofs.ForCallers.{cases_op, cases_some, is_some_from, listed_places, one_place, same_op_from}
-use Rattle.sim_resources.specs.declared.slots.Slots.{Slots}
-use Rattle.sim_resources.specs.FreeTimes.{shares}
-use Rattle.sim_resources.specs.Slots.{uses_first, use_first, place_among, slots_of, IsWhole, IsNumbered, IsPlaced}
-use Rattle.sim_resources.proofs.Shares.{share_of, shares-is, shares_on, shares_back}
+use Rattle.goal_graph.proofs.ForCallers.{cases_op, cases_some, contains_first, contains_more, is_some_from, listed_places, one_place, same_op_from}
+use Rattle.sim_resources.specs.declared.pair.Pair.{Pair}
+use Rattle.sim_resources.specs.declared.station.Station.{Station}
+use Rattle.sim_resources.specs.declared.station.StationNumbers.{StationNumbers}
+use Rattle.sim_resources.specs.Stations.{station_by, station_of, cpu_alone, side_alone}
+use Rattle.sim_resources.specs.Numbering.{AreNumbered}
+use Rattle.sim_resources.specs.Held.{place_among, pair_of, cpu_number, side_number, kind_sends, kind_receives, sends, receives, senders, receivers, IsPlaced}
+use Rattle.sim_resources.proofs.Shares.{share_of, shares-is}
 
 -- an operation is at its index
 at_place : (xs : List OpId) (i : ℕ) (x : OpId) → slice_get xs i ≡ Some x → slice_get xs (place_among xs x) ≡ Some x
@@ -36,112 +37,182 @@ listed plans x is_op =
     let c = (listed_places plans x).1 is_op in
     at_place (operations plans) c.0 x (slice_get-get_or (operations plans) c.0 x c.1 ∙ ap Some c.2)
 
--- a test that all elements pass, at one of them
-pub of_all : {X : Type 0} (p : X → Bool) (xs : List X) (i : ℕ) (x : X) → list_all p xs ≡ true → slice_get xs i ≡ Some x → p x ≡ true
-of_all p [] i x all e = absurd (cc e)
-of_all p (y ∷ ys) zero x all e =
-    ap p (sym (same_Some y x e)) ∙ (and_parts (p y) (list_all p ys) all).0
-of_all p (y ∷ ys) (suc i) x all e = of_all p ys i x (and_parts (p y) (list_all p ys) all).1 e
+-- what is in a filtered list
+pub in_filtered : (test : OpId → Bool) (xs : List OpId) (x : OpId) → Contains (filter test xs) x → Contains xs x × (test x ≡ true)
+in_filtered test [] x c = absurd (omega (arith, c.1))
+in_filtered test (y ∷ ys) x c = go (test y) refl (in_filtered test ys x)
+  where
+    more : Contains ys x × (test x ≡ true) → Contains (y ∷ ys) x × (test x ≡ true)
+    more r = (contains_more y ys x r.0, r.1)
 
-module _ (plans : List Plan) (first : list_all use_first plans ≡ true) where
-  -- each operation uses cpu 0 and NIC 0, of a rank that exists
-  first_used : (x : OpId) (o : Op) → op_at plans x ≡ Some o → (x.rank < length plans) × (o.cpu ≡ 0) × (o.nic ≡ 0)
-  unfolding op_at
-  first_used x o e = go (slice_get plans x.rank) refl e
-    where
-      go : (q : Option Plan) → slice_get plans x.rank ≡ q → option_and_then (λ (p : Plan). slice_get p.ops x.op) q ≡ Some o → (x.rank < length plans) × (o.cpu ≡ 0) × (o.nic ≡ 0)
-      go None q e = absurd (cc e)
-      go (Some p) q e =
-          let used = of_all uses_first p.ops x.op o (of_all use_first plans x.rank p first q) e in
-          let both = and_parts (o.cpu == 0) (o.nic == 0) used in
-          (slice_get_within plans x.rank p q, eqb-true o.cpu 0 both.0, eqb-true o.nic 0 both.1)
+    go : (b : Bool) → test y ≡ b → (Contains (filter test ys) x → Contains ys x × (test x ≡ true)) → Contains (y ∷ ys) x × (test x ≡ true)
+    go false e rest = more (rest (rw e at c))
+    go true e rest = first (rw e at c)
+      where
+        first : Contains (y ∷ filter test ys) x → Contains (y ∷ ys) x × (test x ≡ true)
+        first (zero, b, f) = (contains_first y ys x f, ap test (sym f) ∙ e)
+        first (suc k, b, f) = more (rest (k, omega (arith, b), f))
 
-  -- so the ranks are the slots
-  ranks_placed : (place : Op → ℕ) → ((x : OpId) (o : Op) → op_at plans x ≡ Some o → place o ≡ 0) → IsPlaced place plans (λ (x : OpId). x.rank) (length plans)
-  ranks_placed place none = record {
-    within = λ x is_op. let o = cases_some (op_at plans x) is_op in (first_used x o.0 o.1).0;
-    alike = λ x y e. (share_of place plans x y e).rank;
-    apart = λ x y is_x is_y same.
-        let o = cases_some (op_at plans x) is_x in
-        let u = cases_some (op_at plans y) is_y in
-        shares-is place plans x y o.0 u.0 o.1 u.1
-        ∙ and_from _ _ (eq-eqb x.rank y.rank same) (eq-eqb (place o.0) (place u.0) (none x o.0 o.1 ∙ sym (none y u.0 u.1)));
+pub filtered_in : (test : OpId → Bool) (xs : List OpId) (x : OpId) → Contains xs x → test x ≡ true → Contains (filter test xs) x
+filtered_in test [] x c e = absurd (omega (arith, c.1))
+filtered_in test (y ∷ ys) x (zero, b, f) e = rw (ap test f ∙ e) (contains_first y (filter test ys) x f)
+filtered_in test (y ∷ ys) x (suc k, b, f) e = go (test y) refl (filtered_in test ys x (k, omega (arith, b), f) e)
+  where
+    go : (b : Bool) → test y ≡ b → Contains (filter test ys) x → Contains (filter test (y ∷ ys)) x
+    go false p rest = rw p rest
+    go true p rest = rw p (contains_more y (filter test ys) x rest)
+
+-- the cpu, the sending side and the receiving side that an operation may use
+abbrev pub cpu_at : OpId → Op → Station
+cpu_at x o = record { rank = x.rank; cpu = Some o.cpu; sends = None; receives = None }
+
+abbrev pub tx_at : OpId → Op → Station
+tx_at x o = record { rank = x.rank; cpu = None; sends = Some o.nic; receives = None }
+
+abbrev pub rx_at : OpId → Op → Station
+rx_at x o = record { rank = x.rank; cpu = None; sends = None; receives = Some o.nic }
+
+cpu_is : (x : OpId) (o : Op) → cpu_alone (station_of x o) ≡ cpu_at x o
+cpu_is x o = go o.kind
+  where
+    go : (k : Kind) → cpu_alone (station_by x o k) ≡ cpu_at x o
+    go (Calc n) = refl
+    go (Send n t u) = refl
+    go (Recv n t u) = refl
+
+tx_is : (x : OpId) (o : Op) → kind_sends o.kind ≡ true → side_alone (station_of x o) ≡ tx_at x o
+tx_is x o = go o.kind
+  where
+    go : (k : Kind) → kind_sends k ≡ true → side_alone (station_by x o k) ≡ tx_at x o
+    go (Calc n) e = absurd (both_ways false refl e)
+    go (Send n t u) e = refl
+    go (Recv n t u) e = absurd (both_ways false refl e)
+
+rx_is : (x : OpId) (o : Op) → kind_receives o.kind ≡ true → side_alone (station_of x o) ≡ rx_at x o
+rx_is x o = go o.kind
+  where
+    go : (k : Kind) → kind_receives k ≡ true → side_alone (station_by x o k) ≡ rx_at x o
+    go (Calc n) e = absurd (both_ways false refl e)
+    go (Send n t u) e = absurd (both_ways false refl e)
+    go (Recv n t u) e = refl
+
+module _ (plans : List Plan) (s : StationNumbers) (n : AreNumbered plans s) where
+  -- an operation that uses the resource of this number
+  pub record Uses (of : OpId → Op → Station) (number : OpId → ℕ) (x : OpId) : Type 0 where
+    pub op : Op
+    pub op_is : op_at plans x ≡ Some op
+    pub there : slice_get n.stationed.resources (number x) ≡ Some (of x op)
+    pub within : number x < s.resources
+
+  -- the number of an operation's station
+  abbrev pub station : OpId → ℕ
+  station x = slice_index s.numbers.items (place_among (operations plans) x)
+
+  station_is : (x : OpId) (o : Op) → op_at plans x ≡ Some o → slice_get n.stationed.stations (station x) ≡ Some (station_of x o)
+  station_is x o is =
+      n.stationed.are (place_among (operations plans) x) x o (listed plans x (is_some_from (op_at plans x) o is)) is
+
+  pair_is : (x : OpId) (o : Op) → op_at plans x ≡ Some o → slice_get s.pairs.items (station x) ≡ Some (pair_of plans s x)
+  pair_is x o is =
+      slice_get-get_or s.pairs.items (station x) (record { cpu = 0; side = 0 })
+      (omega (arith, slice_get_within n.stationed.stations (station x) (station_of x o) (station_is x o is), n.stationed.numbering.each))
+
+  uses_cpu : (x : OpId) (o : Op) → op_at plans x ≡ Some o → Uses cpu_at (cpu_number plans s) x
+  uses_cpu x o is = record {
+    op = o;
+    op_is = is;
+    there = n.stationed.numbering.cpus (station x) (station_of x o) (pair_of plans s x) (station_is x o is) (pair_is x o is) ∙ ap Some (cpu_is x o);
+    within = (n.exist (station x) (pair_of plans s x) (pair_is x o is)).0;
   }
 
-  pub cpus_by_ranks : IsPlaced (λ (o : Op). o.cpu) plans (λ (x : OpId). x.rank) (length plans)
-  cpus_by_ranks = ranks_placed (λ (o : Op). o.cpu) (λ x o e. (first_used x o e).1)
+  uses_side : (of : OpId → Op → Station) (x : OpId) (o : Op) → op_at plans x ≡ Some o → side_alone (station_of x o) ≡ of x o → Uses of (side_number plans s) x
+  uses_side of x o is side = record {
+    op = o;
+    op_is = is;
+    there = n.stationed.numbering.sides (station x) (station_of x o) (pair_of plans s x) (station_is x o is) (pair_is x o is) ∙ ap Some side;
+    within = (n.exist (station x) (pair_of plans s x) (pair_is x o is)).1;
+  }
 
-  pub nics_by_ranks : IsPlaced (λ (o : Op). o.nic) plans (λ (x : OpId). x.rank) (length plans)
-  nics_by_ranks = ranks_placed (λ (o : Op). o.nic) (λ x o e. (first_used x o e).2)
+  pub cpu_users : (x : OpId) → Contains (operations plans) x → Uses cpu_at (cpu_number plans s) x
+  cpu_users x c = let o = cases_some (op_at plans x) ((listed_places plans x).0 c) in uses_cpu x o.0 o.1
 
-module _ (plans : List Plan) (slots : List Slots) where
-  -- the slots at an index
-  pub read_slots : (i : ℕ) (x : OpId) → slice_get (operations plans) i ≡ Some x → i < length slots → get_or slots i (record { cpu = 0; nic = 0 }) ≡ slots_of plans slots x
-  read_slots i x e within =
-      let none : Slots = record { cpu = 0; nic = 0 } in
-      ap (λ (j : ℕ). get_or slots j none) (sym (place_is plans i x e))
-      ∙ sym (cond-false (length slots == 0) (record { cpu = x.rank; nic = x.rank }) (get_or slots (place_among (operations plans) x) none) some)
-    where
-      some : (length slots == 0) ≡ false
-      some = elim (eqb_tells (length slots) 0) [
-        | inl told ↦ absurd (omega (arith, told.1, within))
-        | inr told ↦ told.0
-      ]
+  pub tx_users : (x : OpId) → Contains (senders plans) x → Uses tx_at (side_number plans s) x
+  tx_users x c =
+      let f = in_filtered (λ y. sends (op_at plans y)) (operations plans) x c in
+      let o = cases_some (op_at plans x) ((listed_places plans x).0 f.0) in
+      uses_side tx_at x o.0 o.1 (tx_is x o.0 (ap sends (sym o.1) ∙ f.1))
 
-  -- if any are listed, they are those of each operation
-  pub whole_within : IsWhole plans slots → (length slots == 0) ≡ false → (i : ℕ) → i < length (operations plans) → i < length slots
-  whole_within (inl none) some i below = absurd (both_ways _ some (eq-eqb (length slots) 0 none))
-  whole_within (inr all) some i below = omega (arith, all, below)
+  pub rx_users : (x : OpId) → Contains (receivers plans) x → Uses rx_at (side_number plans s) x
+  rx_users x c =
+      let f = in_filtered (λ y. receives (op_at plans y)) (operations plans) x c in
+      let o = cases_some (op_at plans x) ((listed_places plans x).0 f.0) in
+      uses_side rx_at x o.0 o.1 (rx_is x o.0 (ap receives (sym o.1) ∙ f.1))
 
-  module _ (place : Op → ℕ) (of : Slots → ℕ) (users : List OpId) (n : IsNumbered place plans (map of slots) users) where
-    -- the slot of an operation, and its first user
-    record Has (x : OpId) : Type 0 where
-      slot : ℕ
-      user : OpId
-      slot_is : of (slots_of plans slots x) ≡ slot
-      user_is : slice_get users slot ≡ Some user
-      shared : shares place plans x user ≡ true
+  -- resources of one number are one
+  pub one_resource : (of of' : OpId → Op → Station) (number number' : OpId → ℕ) (x y : OpId) (u : Uses of number x) (v : Uses of' number' y) → number x ≡ number' y → of x u.op ≡ of' y v.op
+  one_resource of of' number number' x y u v same =
+      same_Some (of x u.op) (of' y v.op) (sym u.there ∙ ap (slice_get n.stationed.resources) same ∙ v.there)
 
-    has : (x : OpId) → IsOp plans x → Has x
-    has x is_op =
-        let i = place_among (operations plans) x in
-        let at = listed plans x is_op in
-        let h = n.each i x at in
-        let within : i < length slots = omega (arith, slice_get_within (map of slots) i h.slot h.slot_is, length-map slots of) in
-        let none : Slots = record { cpu = 0; nic = 0 } in
-        record {
-          slot = h.slot;
-          user = h.user;
-          slot_is =
-              ap of (sym (read_slots i x at within)) ∙ sym (get_or-map of slots i none 0 within)
-              ∙ get_or_from_slice_get (map of slots) i h.slot 0 h.slot_is;
-          user_is = h.user_is;
-          shared = h.shared;
-        }
-
-    one : (x y : OpId) → shares place plans x y ≡ true → Has x
-    one x y e = let s = share_of place plans x y e in has x (is_some_from (op_at plans x) s.one s.one_is)
-
-    same_slot : (x y : OpId) → shares place plans x y ≡ true → of (slots_of plans slots x) ≡ of (slots_of plans slots y)
-    same_slot x y e =
-        let back = shares_back place plans x y e in
-        let h = one x y e in
-        let k = one y x back in
-        let through = shares_on place plans y x k.user back k.shared in
-        h.slot_is ∙ n.apart h.slot k.slot h.user k.user h.user_is k.user_is (shares_on place plans x h.user k.user h.shared through) ∙ sym k.slot_is
-
-    one_slot : (x y : OpId) → IsOp plans x → IsOp plans y → of (slots_of plans slots x) ≡ of (slots_of plans slots y) → shares place plans x y ≡ true
-    one_slot x y is_x is_y e =
-        let h = has x is_x in
-        let k = has y is_y in
-        let slot : h.slot ≡ k.slot = sym h.slot_is ∙ e ∙ k.slot_is in
-        let user : h.user ≡ k.user = same_Some h.user k.user (sym h.user_is ∙ ap (slice_get users) slot ∙ k.user_is) in
-        let shared : shares place plans y h.user ≡ true = subst (λ (u : OpId). shares place plans y u ≡ true) (sym user) k.shared in
-        shares_on place plans h.user x y (shares_back place plans x h.user h.shared) (shares_back place plans y h.user shared)
-
-    pub placed : IsPlaced place plans (λ (x : OpId). of (slots_of plans slots x)) (length users)
-    placed = record {
-      within = λ x is_op. let h = has x is_op in subst (λ (s : ℕ). s < length users) (sym h.slot_is) (slice_get_within users h.slot h.user h.user_is);
-      alike = same_slot;
-      apart = one_slot;
+  -- users of one sort have the same number exactly if they share
+  module _ (place : Op → ℕ) (users : List OpId) (of : OpId → Op → Station) (number : OpId → ℕ)
+      (uses : (x : OpId) → Contains users x → Uses of number x)
+      (one : (x y : OpId) (o u : Op) → x.rank ≡ y.rank → place o ≡ place u → of x o ≡ of y u)
+      (parts : (x y : OpId) (o u : Op) → of x o ≡ of y u → (x.rank ≡ y.rank) × (place o ≡ place u)) where
+    placed_by : IsPlaced place plans users number s.resources
+    placed_by = record {
+      within = λ x c. (uses x c).within;
+      alike = λ x y c d e.
+          let a = uses x c in
+          let b = uses y d in
+          let shared = share_of place plans x y e in
+          let first = same_Some a.op shared.one (sym a.op_is ∙ shared.one_is) in
+          let other = same_Some b.op shared.other (sym b.op_is ∙ shared.other_is) in
+          let same : of x a.op ≡ of y b.op = one x y a.op b.op shared.rank (ap place first ∙ shared.number ∙ sym (ap place other)) in
+          n.stationed.numbering.resources_once (number x) (number y) (of y b.op) (a.there ∙ ap Some same) b.there;
+      apart = λ x y c d e.
+          let a = uses x c in
+          let b = uses y d in
+          let both = parts x y a.op b.op (one_resource of of number number x y a b e) in
+          shares-is place plans x y a.op b.op a.op_is b.op_is
+          ∙ and_from _ _ (eq-eqb x.rank y.rank both.0) (eq-eqb (place a.op) (place b.op) both.1);
     }
+
+  pub cpus_placed : IsPlaced (λ (o : Op). o.cpu) plans (operations plans) (cpu_number plans s) s.resources
+  cpus_placed =
+      placed_by (λ (o : Op). o.cpu) (operations plans) cpu_at (cpu_number plans s) cpu_users
+      (λ x y o u rank place. λ i. record { rank = rank i; cpu = Some (place i); sends = None; receives = None })
+      (λ x y o u e. (ap (λ (t : Station). t.rank) e, same_Some o.cpu u.cpu (ap (λ (t : Station). t.cpu) e)))
+
+  pub txs_placed : IsPlaced (λ (o : Op). o.nic) plans (senders plans) (side_number plans s) s.resources
+  txs_placed =
+      placed_by (λ (o : Op). o.nic) (senders plans) tx_at (side_number plans s) tx_users
+      (λ x y o u rank place. λ i. record { rank = rank i; cpu = None; sends = Some (place i); receives = None })
+      (λ x y o u e. (ap (λ (t : Station). t.rank) e, same_Some o.nic u.nic (ap (λ (t : Station). t.sends) e)))
+
+  pub rxs_placed : IsPlaced (λ (o : Op). o.nic) plans (receivers plans) (side_number plans s) s.resources
+  rxs_placed =
+      placed_by (λ (o : Op). o.nic) (receivers plans) rx_at (side_number plans s) rx_users
+      (λ x y o u rank place. λ i. record { rank = rank i; cpu = None; sends = None; receives = Some (place i) })
+      (λ x y o u e. (ap (λ (t : Station). t.rank) e, same_Some o.nic u.nic (ap (λ (t : Station). t.receives) e)))
+
+  -- no cpu has the number of a side, and no sending side that of a receiving one
+  pub cpu_not_tx : (x y : OpId) → Contains (operations plans) x → Contains (senders plans) y → cpu_number plans s x ≢ side_number plans s y
+  cpu_not_tx x y c d e =
+      absurd (cc (ap (λ (t : Station). t.cpu) (one_resource cpu_at tx_at (cpu_number plans s) (side_number plans s) x y (cpu_users x c) (tx_users y d) e)))
+
+  pub cpu_not_rx : (x y : OpId) → Contains (operations plans) x → Contains (receivers plans) y → cpu_number plans s x ≢ side_number plans s y
+  cpu_not_rx x y c d e =
+      absurd (cc (ap (λ (t : Station). t.cpu) (one_resource cpu_at rx_at (cpu_number plans s) (side_number plans s) x y (cpu_users x c) (rx_users y d) e)))
+
+  pub tx_not_rx : (x y : OpId) → Contains (senders plans) x → Contains (receivers plans) y → side_number plans s x ≢ side_number plans s y
+  tx_not_rx x y c d e =
+      absurd (cc (ap (λ (t : Station). t.sends) (one_resource tx_at rx_at (side_number plans s) (side_number plans s) x y (tx_users x c) (rx_users y d) e)))
+
+  -- the pair that is read at the number that is read
+  pub read_pair : (x : OpId) (i number : ℕ) (pair : Pair) → slice_get (operations plans) i ≡ Some x → i < length (operations plans) → number ≡ get_or s.numbers.items i number → pair ≡ get_or s.pairs.items number pair → pair ≡ pair_of plans s x
+  read_pair x i number pair at below number_is pair_read =
+      let first : slice_get s.numbers.items i ≡ Some number = slice_get_read s.numbers.items (length s.numbers.items) i number refl (omega (arith, below, n.each)) number_is in
+      let same : station x ≡ number = ap (slice_index s.numbers.items) (place_is plans i x at) ∙ get_or_from_slice_get s.numbers.items i number 0 first in
+      let o = cases_some (op_at plans x) ((listed_places plans x).0 (i, below, get_or_from_slice_get (operations plans) i x x at)) in
+      let there : slice_get s.pairs.items number ≡ Some (pair_of plans s x) = ap (slice_get s.pairs.items) (sym same) ∙ pair_is x o.0 o.1 in
+      pair_read ∙ get_or_from_slice_get s.pairs.items number (pair_of plans s x) pair there

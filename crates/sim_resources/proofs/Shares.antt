@@ -37,9 +37,6 @@ module _ (place : Op → ℕ) (plans : List Plan) where
   pub shares-is : (x y : OpId) (o u : Op) → op_at plans x ≡ Some o → op_at plans y ≡ Some u → shares place plans x y ≡ ((x.rank == y.rank) && (place o == place u))
   shares-is x y o u p q = rw (p, q) refl
 
-  pub shares_itself : (x : OpId) (o : Op) → op_at plans x ≡ Some o → shares place plans x x ≡ true
-  shares_itself x o p = shares-is x x o o p p ∙ and_from _ _ (eq-eqb x.rank x.rank refl) (eq-eqb (place o) (place o) refl)
-
   pub shares_back : (x y : OpId) → shares place plans x y ≡ true → shares place plans y x ≡ true
   shares_back x y e =
       let s = share_of x y e in

@@ -1,7 +1,8 @@
 -- What only the code keeps.
 pub mod FreeTimes
-pub mod Slots
-pub mod Numbers
+pub mod Stations
+pub mod Numbering
+pub mod Held
 -- Laws.
 pub mod Laws
 -- What the clauses cite of lower crates.

@@ -1,10 +1,11 @@
 //! The cpus and NICs of a schedule, with their free times.
-ghost use Rattle.std.specs.Prelude.{◌≡◌, IfOk};
+ghost use Rattle.std.specs.Prelude.{◌≡◌, ◌<◌, ℕ, IfOk, Some, length, max, slice_get, slice_set};
 ghost use Rattle.goal_graph.specs.Fault.{IsOp};
 ghost use Rattle.goal_graph.specs.Schedule.{IsSend, IsReceive};
 ghost use Rattle.sim_resources.specs.FreeTimes.{SameFreeTimes, cpu_free, tx_free, rx_free, hold_cpu, hold_tx, hold_rx, unheld};
+ghost use Rattle.sim_resources.specs.Numbering.{AreNumbered};
 
-use crate::slots::{Numbering, Slots, free, number, raise, slots_at};
+use crate::station::StationNumbers;
 use goal_graph::{OpId, Sched};
 use goal_limits::NoMemory;
 use std::alloc::Global;
@@ -14,27 +15,46 @@ use std::marker::Model;
 #[derive(Drop)]
 pub struct Resources<'a> {
     sched: &'a Sched,
-    slots: Vec<Slots>,
-    cpu: Vec<u64>,
-    tx: Vec<u64>,
-    rx: Vec<u64>,
+    // the numbers of the cpus and of the sides of NICs
+    stations: StationNumbers,
+    // when each of them is free
+    free: Vec<u64>,
 }
 
 impl<'a> Model for Resources<'a> {
-    ghost use Rattle.std.specs.Prelude.{length};
+    ghost use Rattle.std.specs.Prelude.{◌≡◌, length};
+    ghost use Rattle.goal_graph.specs.Schedule.{operations};
     ghost use Rattle.sim_resources.specs.FreeTimes.{Holds};
-    ghost use Rattle.sim_resources.specs.Slots.{AreNumbered, cpu_slot, nic_slot, held};
+    ghost use Rattle.sim_resources.specs.Numbering.{AreNumbered};
+    ghost use Rattle.sim_resources.specs.Held.{cpu_number, side_number, senders, receivers, held};
 
     ghost Value = { Holds };
 
     ghost view = { λ r. record {
       plans = r.sched.now;
-      cpu = held r.sched.now (cpu_slot r.sched.now r.slots.items) r.cpu.items;
-      tx = held r.sched.now (nic_slot r.sched.now r.slots.items) r.tx.items;
-      rx = held r.sched.now (nic_slot r.sched.now r.slots.items) r.rx.items;
+      cpu = held (operations r.sched.now) (cpu_number r.sched.now r.stations) r.free.items;
+      tx = held (senders r.sched.now) (side_number r.sched.now r.stations) r.free.items;
+      rx = held (receivers r.sched.now) (side_number r.sched.now r.stations) r.free.items;
     } };
 
-    ghost invariant = { λ r. AreNumbered r.sched.now r.slots.items (length r.cpu.items) (length r.tx.items) (length r.rx.items) };
+    ghost invariant = { λ r. AreNumbered r.sched.now r.stations × (length r.free.items ≡ r.stations.resources) };
+}
+
+// Returns when a resource is free.
+fn free(times: &[u64], number: u32) -> u64
+    requires { number < length times.now }
+    ensures { (t : ℕ) → slice_get times.now number ≡ Some t → result ≡ t }
+{
+    times[number as usize]
+}
+
+// Holds a resource at least until a time.
+fn raise(times: &mut [u64], number: u32, until: u64)
+    requires { number < length times.old }
+    ensures { (t : ℕ) → slice_get times.old number ≡ Some t → times.new ≡ slice_set times.old number (max t until) }
+{
+    let time = &mut times[number as usize];
+    *time = (*time).max(until);
 }
 
 impl<'a> Resources<'a> {
@@ -42,14 +62,20 @@ impl<'a> Resources<'a> {
     pub fn new(alloc: Global, sched: &'a Sched) -> Result<Resources<'a>, NoMemory>
         ensures { IfOk result (λ r. SameFreeTimes r (unheld sched.now)) }
     {
-        let Numbering { slots, cpus, nics } = number(alloc, sched)?;
+        let stations = StationNumbers::new(alloc, sched)?;
+        let free = vec![in alloc; 0; stations.resources as usize]?;
         Ok(Resources {
             sched,
-            slots,
-            cpu: vec![in alloc; 0; cpus]?,
-            tx: vec![in alloc; 0; nics]?,
-            rx: vec![in alloc; 0; nics]?,
+            stations,
+            free,
         })
+    }
+
+    /// Returns the numbers of what the operations wait for.
+    pub fn stations(&self) -> &StationNumbers
+        ensures { AreNumbered self.now.plans result.now }
+    {
+        &self.stations
     }
 
     /// Returns when the cpu that an operation uses is free.
@@ -57,8 +83,8 @@ impl<'a> Resources<'a> {
         requires { IsOp self.now.plans id }
         ensures { result ≡ cpu_free self.now id }
     {
-        let slots = slots_at(self.sched, &self.slots, id);
-        free(&self.cpu, slots.cpu)
+        let pair = self.stations.pair_of(self.sched, id);
+        free(&self.free, pair.cpu)
     }
 
     /// Returns when the sending side of the NIC that a send uses is free.
@@ -66,8 +92,8 @@ impl<'a> Resources<'a> {
         requires { IsSend self.now.plans id }
         ensures { result ≡ tx_free self.now id }
     {
-        let slots = slots_at(self.sched, &self.slots, id);
-        free(&self.tx, slots.nic)
+        let pair = self.stations.pair_of(self.sched, id);
+        free(&self.free, pair.side)
     }
 
     /// Returns when the receiving side of the NIC that a receive uses is free.
@@ -75,8 +101,8 @@ impl<'a> Resources<'a> {
         requires { IsReceive self.now.plans id }
         ensures { result ≡ rx_free self.now id }
     {
-        let slots = slots_at(self.sched, &self.slots, id);
-        free(&self.rx, slots.nic)
+        let pair = self.stations.pair_of(self.sched, id);
+        free(&self.free, pair.side)
     }
 
     /// Holds the cpu that an operation uses, at least until a time.
@@ -84,8 +110,8 @@ impl<'a> Resources<'a> {
         requires { IsOp self.old.plans id }
         ensures { SameFreeTimes self.new (hold_cpu self.old id until) }
     {
-        let slots = slots_at(self.sched, &self.slots, id);
-        raise(&mut self.cpu, slots.cpu, until);
+        let pair = self.stations.pair_of(self.sched, id);
+        raise(&mut self.free, pair.cpu, until);
     }
 
     /// Holds the sending side of the NIC that a send uses, at least until a time.
@@ -93,8 +119,8 @@ impl<'a> Resources<'a> {
         requires { IsSend self.old.plans id }
         ensures { SameFreeTimes self.new (hold_tx self.old id until) }
     {
-        let slots = slots_at(self.sched, &self.slots, id);
-        raise(&mut self.tx, slots.nic, until);
+        let pair = self.stations.pair_of(self.sched, id);
+        raise(&mut self.free, pair.side, until);
     }
 
     /// Holds the receiving side of the NIC that a receive uses, at least until a time.
@@ -102,7 +128,7 @@ impl<'a> Resources<'a> {
         requires { IsReceive self.old.plans id }
         ensures { SameFreeTimes self.new (hold_rx self.old id until) }
     {
-        let slots = slots_at(self.sched, &self.slots, id);
-        raise(&mut self.rx, slots.nic, until);
+        let pair = self.stations.pair_of(self.sched, id);
+        raise(&mut self.free, pair.side, until);
     }
 }

@@ -12,6 +12,7 @@ ghost use Rattle.sim_params.specs.Budget.{budget};
 ghost use Rattle.sim_params.specs.Times.{mate, cpu};
 ghost use Rattle.sim_params.specs.Run.{IsNext, IsRun, IsFinished, IsCompleteRun};
 ghost use Rattle.sim_params.specs.Laws.{IsWithin};
+ghost use Rattle.sim_resources.specs.Numbering.{AreNumbered};
 ghost use Rattle.sim_state.specs.Engine.{IsEngineFault, start_known, end_known};
 ghost use Rattle.sim_state.specs.Represents.{entry_known};
 ghost use Rattle.sim_state.specs.Tasks.{task_of, work_of};
@@ -27,7 +28,7 @@ use goal_graph::{Need, OpId, Sched, Timed};
 use goal_limits::MAX_BUDGET;
 use sim_match::Matcher;
 use sim_params::{Costs, budget};
-use sim_resources::Resources;
+use sim_resources::{Resources, StationNumbers};
 use std::alloc::Global;
 use std::marker::Model;
 
@@ -158,6 +159,13 @@ impl<'a, C: Costs, H: History> RunState<'a, C, H> {
             Task::Eager | Task::Rendezvous => self.resources.tx(id),
             Task::Receive => self.resources.rx(id),
         }
+    }
+
+    /// Returns the numbers of what the operations wait for.
+    pub fn stations(&self) -> &StationNumbers
+        ensures { AreNumbered self.now.plans result.now }
+    {
+        self.resources.stations()
     }
 
     /// Returns the operations that need another one, in the order of the rank's dependencies. If none does, the

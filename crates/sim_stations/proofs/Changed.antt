@@ -10,7 +10,7 @@ use Rattle.sim_order.specs.Events.{event_before}
 use Rattle.sim_queue.specs.Map.{key_at, IsSoleLeast}
 use Rattle.sim_queue.proofs.ForCallers.{key_within}
 use Rattle.sim_queue.specs.Groups.{Grouped, IsEmptyGroup, IsLeastOf, IsSoleLeastOf}
-use Rattle.sim_stations.specs.declared.pair.Pair.{Pair}
+use Rattle.sim_resources.specs.declared.pair.Pair.{Pair}
 use Rattle.sim_stations.specs.declared.key_place.KeyPlace.{KeyPlace}
 use Rattle.sim_stations.specs.declared.key_place.KeyPlace.TheVariants.{Nowhere, Ahead, Waiting}
 use Rattle.sim_stations.specs.Stations.{Stationed, waits_for_room, at_time, both_free, when_free, pair_at, held, IsLater, count_ahead, cost_of_waiting}

@@ -6,7 +6,7 @@ use Rattle.std.proofs.lemmas.Option.{same_Some, slice_get-get_or, slice_get_with
 use Rattle.goal_graph.specs.declared.action.Timed.{Timed}
 use Rattle.sim_queue.specs.Map.{key_at}
 use Rattle.sim_queue.specs.Groups.{Grouped}
-use Rattle.sim_stations.specs.declared.pair.Pair.{Pair}
+use Rattle.sim_resources.specs.declared.pair.Pair.{Pair}
 use Rattle.sim_stations.specs.Stations.{pair_at, held}
 use Rattle.sim_stations.specs.Rows.{place_in, side_of, seen, turned_at, IsHead, IsTold, AreBothTold, IsInRows, AreHeads}
 use Rattle.sim_stations.proofs.Sides.{side_at, place_station, place_side, place_within, not_same, not_not}

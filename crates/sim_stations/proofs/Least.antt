@@ -12,7 +12,7 @@ use Rattle.sim_order.specs.EventLaws.{event_laws}
 use Rattle.sim_queue.specs.Map.{key_at, IsEmptyMap, IsLeast, IsSoleLeast}
 use Rattle.sim_queue.proofs.ForCallers.{through, key_within}
 use Rattle.sim_queue.specs.Groups.{Grouped, IsLeastOf, IsSoleLeastOf}
-use Rattle.sim_stations.specs.declared.pair.Pair.{Pair}
+use Rattle.sim_resources.specs.declared.pair.Pair.{Pair}
 use Rattle.sim_stations.specs.declared.key_place.KeyPlace.{KeyPlace}
 use Rattle.sim_stations.specs.Stations.{waits_for_room, at_time, both_free, earliest, when_free, pair_at, AreOfSlots}
 use Rattle.sim_stations.specs.Rows.{Rowed, side_of, turned_at, shown, IsHead}

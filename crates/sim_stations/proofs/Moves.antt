@@ -4,7 +4,7 @@ use Rattle.std.proofs.lemmas.Bool.{cases_eq}
 use Rattle.std.proofs.lemmas.List.{get_or-set_same, get_or-set_other, length-set}
 use Rattle.std.proofs.lemmas.List.Sums.{sum_by-cons}
 use Rattle.std.proofs.lemmas.Option.{same_Some, slice_get_within}
-use Rattle.sim_stations.specs.declared.pair.Pair.{Pair}
+use Rattle.sim_resources.specs.declared.pair.Pair.{Pair}
 use Rattle.sim_stations.specs.Stations.{held, IsLater}
 use Rattle.sim_stations.specs.Moves.{one_if, HasReturned, HaveReturned, HaveMoved, changes, held_once_more, most_changes, ChangesAreFew}
 use Rattle.sim_stations.specs.Rows.{side_of, turned_at}

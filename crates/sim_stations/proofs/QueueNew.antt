@@ -9,7 +9,7 @@ use Rattle.goal_graph.specs.declared.action.Timed.{Timed}
 use Rattle.sim_queue.specs.Map.{either, key_at, no_keys}
 use Rattle.sim_queue.proofs.ForCallers.{none_of, same_maps}
 use Rattle.sim_queue.specs.Groups.{Grouped}
-use Rattle.sim_stations.specs.declared.pair.Pair.{Pair}
+use Rattle.sim_resources.specs.declared.pair.Pair.{Pair}
 use Rattle.sim_stations.specs.declared.key_place.KeyPlace.{KeyPlace}
 use Rattle.sim_stations.specs.declared.key_place.KeyPlace.TheVariants.{Nowhere}
 use Rattle.sim_stations.specs.Stations.{DoExist, when_free, pair_at}

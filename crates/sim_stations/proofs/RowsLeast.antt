@@ -8,7 +8,7 @@ use Rattle.sim_order.specs.EventLaws.{event_laws}
 use Rattle.sim_queue.specs.Map.{key_at, IsEmptyMap, IsLeast}
 use Rattle.sim_queue.proofs.ForCallers.{through, key_within}
 use Rattle.sim_queue.specs.Groups.{Grouped, IsLeastOf}
-use Rattle.sim_stations.specs.declared.pair.Pair.{Pair}
+use Rattle.sim_resources.specs.declared.pair.Pair.{Pair}
 use Rattle.sim_stations.specs.Stations.{at_time, pair_at}
 use Rattle.sim_stations.specs.Rows.{Rowed, place_in, side_of, seen, turned_at, shown, IsFirst, IsHead, IsInRows, AreHeads}
 use Rattle.sim_stations.proofs.Sides.{IsPlace, place_of}

@@ -6,7 +6,7 @@ use Rattle.goal_graph.specs.declared.action.Timed.{Timed}
 use Rattle.sim_queue.specs.Map.{no_keys}
 use Rattle.sim_queue.proofs.ForCallers.{none_of, same_maps}
 use Rattle.sim_queue.specs.Groups.{Grouped}
-use Rattle.sim_stations.specs.declared.pair.Pair.{Pair}
+use Rattle.sim_resources.specs.declared.pair.Pair.{Pair}
 use Rattle.sim_stations.specs.Stations.{DoExist}
 use Rattle.sim_stations.specs.Rows.{Rowed, sides, place_in, side_of, seen, turned_at, IsHead, IsInRows, AreHeads}
 use Rattle.sim_stations.proofs.Sides.{IsPlace, place_of, sides_length}

@@ -6,7 +6,7 @@ use Rattle.sim_order.specs.Order.{lexical}
 use Rattle.sim_order.specs.Events.{event_before}
 use Rattle.sim_order.specs.EventLaws.{event_laws}
 use Rattle.sim_queue.proofs.ForCallers.{through}
-use Rattle.sim_stations.specs.declared.pair.Pair.{Pair}
+use Rattle.sim_resources.specs.declared.pair.Pair.{Pair}
 use Rattle.sim_stations.specs.Stations.{waits_for_room, at_time, both_free, earliest, when_free}
 use Rattle.sim_stations.proofs.Heads.{at_own}
 

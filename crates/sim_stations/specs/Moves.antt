@@ -2,7 +2,7 @@
 -- the other has been held since.
 use Rattle.std.specs.Prelude.{◌≡◌, ◌<◌, ◌≤◌, ◌+◌, ◌*◌, ℕ, Bool, true, false, List, ◌∷◌, Some, length, min, slice_get, slice_index, slice_index_or, slice_set}
 use Rattle.std.specs.List.{sum_by}
-use Rattle.sim_stations.specs.declared.pair.Pair.{Pair}
+use Rattle.sim_resources.specs.declared.pair.Pair.{Pair}
 use Rattle.sim_stations.specs.Stations.{DoExist}
 
 abbrev pub one_if : Bool → ℕ

@@ -1,6 +1,6 @@
 -- A queue whose slots wait with their stations. The slots of a station need the same two resources, and their events
 -- are not before the times at which these are free.
-use Rattle.std.specs.Prelude.{◌≡◌, ◌<◌, ◌≤◌, ◌+◌, ◌*◌, ℕ, Bool, true, false, List, Option, Some, max, slice_get, slice_index, slice_index_or, slice_set, if◌then◌else◌}
+use Rattle.std.specs.Prelude.{◌≡◌, ◌≤◌, ◌+◌, ◌*◌, ℕ, Bool, List, Option, Some, max, slice_get, slice_index, slice_index_or, slice_set, if◌then◌else◌}
 use Rattle.std.specs.List.{sum_by}
 use Rattle.goal_graph.specs.Action.{holds_cpu}
 use Rattle.goal_graph.specs.declared.action.OpId.{OpId}
@@ -8,7 +8,8 @@ use Rattle.goal_graph.specs.declared.action.Timed.{Timed}
 use Rattle.goal_graph.specs.declared.action.Class.{Class}
 pub use Rattle.sim_queue.specs.Item.{at_time}
 use Rattle.sim_queue.specs.Map.{key_at}
-use Rattle.sim_stations.specs.declared.pair.Pair.{Pair}
+use Rattle.sim_resources.specs.declared.pair.Pair.{Pair}
+pub use Rattle.sim_resources.specs.Numbering.{DoExist}
 use Rattle.sim_stations.specs.declared.key_place.KeyPlace.{KeyPlace}
 use Rattle.sim_stations.specs.declared.key_place.KeyPlace.TheVariants.{Nowhere, Ahead, Waiting}
 
@@ -37,10 +38,6 @@ earliest free p k = if waits_for_room k.class then max k.time (both_free free p)
 
 abbrev pub when_free : List ℕ → Pair → Timed → Timed
 when_free free p k = at_time (earliest free p k) k
-
--- the resources of the pairs are below `resources`
-abbrev pub DoExist : List Pair → ℕ → Type 0
-DoExist pairs resources = (station : ℕ) (p : Pair) → slice_get pairs station ≡ Some p → (p.cpu < resources) × (p.side < resources)
 
 -- the resources of a station, and those of a slot
 abbrev pub pair_at : List Pair → ℕ → Pair

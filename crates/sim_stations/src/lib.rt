@@ -6,7 +6,6 @@ mod groups;
 mod item_heaps;
 mod key_place;
 mod laws;
-mod pair;
 mod parts;
 mod rows;
 mod slot_groups;
@@ -16,5 +15,5 @@ mod waiting_key;
 
 pub use key_place::KeyPlace;
 pub use laws::laws_of_changes;
-pub use pair::Pair;
+pub use sim_resources::Pair;
 pub use station_queue::{StationQueue, waits_for_room};

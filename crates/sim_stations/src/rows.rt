@@ -6,11 +6,11 @@ ghost use Rattle.sim_queue.specs.Map.{key_at, IsEmptyMap};
 ghost use Rattle.sim_stations.specs.Stations.{both_free, pair_at, held, DoExist};
 ghost use Rattle.sim_stations.specs.Rows.{sides, place_in, side_of, turned_at, IsFirst, IsTold, AreBothTold};
 
-use crate::Pair;
 use crate::slot_groups::SlotGroups;
 use goal_limits::NoMemory;
 use sim_order::{CompactKey, Steps};
 use sim_queue::{EventQueue, SlotHeap};
+use sim_resources::Pair;
 use std::alloc::Global;
 use std::marker::Model;
 use std::sync::ledger::Ledger;

@@ -12,13 +12,14 @@ ghost use Rattle.sim_stations.specs.Moves.{HaveReturned, HaveMoved, held_once_mo
 ghost use Rattle.sim_stations.specs.Rows.{IsFirst};
 ghost use Rattle.sim_stations.specs.Kept.{has_key, is_waiting, seen_of, AreShown, IsKept, IsFound, IsFirstOfAll, IsDeparted, IsBeforeAll, HasOneBefore};
 
+use crate::KeyPlace;
 use crate::groups::Groups;
 use crate::rows::Rows;
-use crate::{KeyPlace, Pair};
 use goal_graph::{Class, Sched};
 use goal_limits::NoMemory;
 use sim_order::{CompactKey, EventOrder, Steps};
 use sim_queue::RunHeap;
+use sim_resources::Pair;
 use std::alloc::Global;
 use std::marker::Model;
 use std::sync::ledger::Ledger;

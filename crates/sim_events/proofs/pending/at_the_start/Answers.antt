@@ -1,6 +1,5 @@
-use Rattle.std.proofs.Common.{◌*◌, ◌+◌, [], List, arith, length, ap, subst, sym}
+use Rattle.std.proofs.Common.{◌*◌, ◌+◌, List, arith, ap, subst, sym}
 use Rattle.goal_graph.specs.declared.action.Timed.{Timed}
-use Rattle.goal_graph.specs.Schedule.{Plan, operations}
 use Rattle.sim_events.specs.Queue.{IsOfSchedule}
 use Rattle.sim_events.specs.Changes.{HaveChanged}
 use Rattle.sim_events.proofs.Changes.{changed_placed}
@@ -12,16 +11,14 @@ fill-requires-clause-of_it g c =
     let state = c.args.state.now in
     let model = g.C.Costs.model in
     let queue = c.in_ok-queue.queue in
-    subst (λ (h : List Timed). IsOfSchedule state.plans (model state.costs) h queue) (sym c.requires.empty)
-    (subst (λ (ps : List Plan). IsOfSchedule ps (model state.costs) [] queue) c.sched.ensures (c.in_ok-queue.ensures.of_it (model state.costs)))
+    subst (λ (h : List Timed). IsOfSchedule state.plans (model state.costs) h queue) (sym c.requires.empty) (c.in_ok-queue.ensures.of_it (model state.costs))
 
 pub returns-clause-pending : goal.returns-clause-pending
 returns-clause-pending g c =
     let state = c.args.state.now in
     let queue = c.in_ok-queue.queue in
     let changed = c.in_ok-queue.ensures.changed in
-    let at_plans = subst (λ (ps : List Plan). HaveChanged ps [] queue changed.0) c.sched.ensures changed.1 in
-    let at_history = subst (λ (h : List Timed). HaveChanged state.plans h queue changed.0) (sym c.requires.empty) at_plans in
+    let at_history = subst (λ (h : List Timed). HaveChanged state.plans h queue changed.0) (sym c.requires.empty) changed.1 in
     (c.fill.ensures.queue, (changed.0, changed_placed _ _ queue c.fill.new.queue changed.0 at_history c.fill.ensures.placed))
 
 pub returns-clause-counted : goal.returns-clause-counted
@@ -29,6 +26,6 @@ returns-clause-counted g c =
     λ k few.
     let first = c.in_ok-queue.queue in
     let each = c.in_ok-queue.ensures.of_it (g.C.Costs.model c.args.state.now.costs) in
-    let filled = c.fill.ensures.counted k (omega (arith, few, each.each, ap (λ (ps : List Plan). length (operations ps)) c.sched.ensures)) in
+    let filled = c.fill.ensures.counted k (omega (arith, few, each.each)) in
     let most = spent_most k c.fill.new.queue in
     omega (arith, filled, most, waiting_paid k first c.known.ensures, spent_none k first c.in_ok-queue.ensures.empty, ap (λ n. n * (10 * k + 16)) c.fill.ensures.queue.of_it.each)

@@ -1,6 +1,6 @@
 use Rattle.std.proofs.Common.{◌≡◌, ◌<◌, ℕ, ◌+◌, ◌∷◌, [], ◌++◌, List, length, take, get_or, ap, sym, ◌∙◌, refl, arith, append_assoc}
 use Rattle.std.proofs.lemmas.List.{take_more, take_all}
-use Rattle.sim_stations.specs.declared.pair.Pair.{Pair}
+use Rattle.sim_resources.specs.declared.pair.Pair.{Pair}
 use Rattle.sim_stations.specs.Rows.{sides}
 use Rattle.sim_stations.proofs.Sides.{sides_append}
 use Rattle.sim_stations.proofs.rows.sides.Goals as goal

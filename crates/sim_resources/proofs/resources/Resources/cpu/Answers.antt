@@ -1,28 +1,13 @@
-use Rattle.std.proofs.Common.{ℕ, ◌≡◌, List, Some, length, slice_get, refl, sym, ap, ◌∙◌, subst, arith}
-use Rattle.goal_graph.specs.Fault.{IsOp}
-use Rattle.goal_graph.specs.declared.plan.Op.{Op}
-use Rattle.sim_resources.specs.declared.slots.Slots.{Slots}
-use Rattle.sim_resources.specs.FreeTimes.{Holds, cpu_free}
-use Rattle.sim_resources.specs.Slots.{IsWhole, slots_of, cpu_slot}
-use Rattle.sim_resources.proofs.FreeTimes.{read_free}
+use Rattle.std.proofs.Common.{ℕ, ◌≡◌, Some, slice_get, length, ap, subst, arith}
+use Rattle.sim_resources.specs.declared.pair.Pair.{Pair}
+use Rattle.sim_resources.proofs.HoldLemmas.{cpu_within, cpu_read}
 use Rattle.sim_resources.proofs.resources.Resources.cpu.Goals as goal
-
-pub slots_at-slots-requires : goal.slots_at-slots-requires
-slots_at-slots-requires c = record {
-  exists = subst (λ (r : Holds). IsOp r.plans c.args.id) (sym c.self.view_is) c.requires;
-  whole = subst (IsWhole c.self.inside.sched.now) (sym c.deref.ensures.value) c.self.invariant.whole;
-}
 
 pub free-requires : goal.free-requires
 free-requires c =
-    let is_op : IsOp c.self.inside.sched.now c.args.id = subst (λ (r : Holds). IsOp r.plans c.args.id) (sym c.self.view_is) c.requires in
-    let slots : c.slots_at-slots.result ≡ slots_of c.self.inside.sched.now c.self.inside.slots.items c.args.id = c.slots_at-slots.ensures ∙ ap (λ (ss : List Slots). slots_of c.self.inside.sched.now ss c.args.id) c.deref.ensures.value in
-    omega (arith, ap (λ (s : Slots). s.cpu) slots, c.self.invariant.cpus.within c.args.id is_op, ap length c.deref-2.ensures.value)
+    omega (arith, ap (λ (p : Pair). p.cpu) c.pair_of-pair.ensures, cpu_within _ _ c.self.invariant.0 c.self.inside.free.items c.self.invariant.1 _ c.self.view_is c.args.id c.requires, ap length c.deref.ensures.value)
 
 pub returns : goal.returns
 returns c =
-    let is_op : IsOp c.self.inside.sched.now c.args.id = subst (λ (r : Holds). IsOp r.plans c.args.id) (sym c.self.view_is) c.requires in
-    let slots : c.slots_at-slots.result ≡ slots_of c.self.inside.sched.now c.self.inside.slots.items c.args.id = c.slots_at-slots.ensures ∙ ap (λ (ss : List Slots). slots_of c.self.inside.sched.now ss c.args.id) c.deref.ensures.value in
-    let read = subst (λ (s : Slots). (t : ℕ) → slice_get c.self.inside.cpu.items s.cpu ≡ Some t → c.free.result ≡ t) slots (rw c.deref-2.ensures.value at c.free.ensures) in
-    subst (λ (r : Holds). c.free.result ≡ cpu_free r c.args.id) c.self.view_is
-    (read_free (λ (o : Op). o.cpu) _ (cpu_slot c.self.inside.sched.now c.self.inside.slots.items) _ c.self.invariant.cpus c.self.inside.cpu.items c.args.id is_op refl c.free.result read)
+    cpu_read _ _ c.self.invariant.0 c.self.inside.free.items c.self.invariant.1 _ c.self.view_is c.args.id c.free.result c.requires
+    (subst (λ (p : Pair). (t : ℕ) → slice_get c.self.inside.free.items p.cpu ≡ Some t → c.free.result ≡ t) c.pair_of-pair.ensures (rw c.deref.ensures.value at c.free.ensures))

@@ -1,36 +1,26 @@
-use Rattle.std.proofs.Common.{◌≡◌, List, length, sym, ap, ◌∙◌, subst, arith}
+use Rattle.std.proofs.Common.{ℕ, ◌≡◌, Some, slice_get, length, sym, ap, subst, arith}
 use Rattle.std.specs.Vec.{with_items}
 use Rattle.std.proofs.lemmas.List.{with_items_is}
 use Rattle.goal_graph.specs.Fault.{IsOp}
-use Rattle.sim_resources.specs.declared.slots.Slots.{Slots}
-use Rattle.sim_resources.specs.FreeTimes.{Holds}
-use Rattle.sim_resources.specs.Slots.{IsWhole, slots_of}
 use Rattle.goal_graph.proofs.ForCallers.{receive_is_op}
-use Rattle.sim_resources.proofs.HoldLemmas.{rx_held, rx_numbered}
+use Rattle.sim_resources.specs.declared.pair.Pair.{Pair}
+use Rattle.sim_resources.specs.FreeTimes.{Holds}
+use Rattle.sim_resources.proofs.FreeTimes.{raised}
+use Rattle.sim_resources.proofs.HoldLemmas.{rx_within, rx_held}
 use Rattle.sim_resources.proofs.resources.Resources.hold_rx.Goals as goal
 
-pub slots_at-slots-requires : goal.slots_at-slots-requires
-slots_at-slots-requires c = record {
+pub pair_of-pair-requires : goal.pair_of-pair-requires
+pair_of-pair-requires c = record {
   exists = subst (λ (r : Holds). IsOp r.plans c.args.id) (sym c.self.view_is) (receive_is_op _ c.args.id c.requires);
-  whole = subst (IsWhole c.self.inside.sched.now) (sym c.deref.ensures.value) c.self.invariant.whole;
+  numbered = c.self.invariant.0;
 }
 
 pub raise-requires : goal.raise-requires
 raise-requires c =
-    let is_op : IsOp c.self.inside.sched.now c.args.id = subst (λ (r : Holds). IsOp r.plans c.args.id) (sym c.self.view_is) (receive_is_op _ c.args.id c.requires) in
-    let slots : c.slots_at-slots.result ≡ slots_of c.self.inside.sched.now c.self.inside.slots.items c.args.id = c.slots_at-slots.ensures ∙ ap (λ (ss : List Slots). slots_of c.self.inside.sched.now ss c.args.id) c.deref.ensures.value in
-    omega (arith, ap (λ (s : Slots). s.nic) slots, c.self.invariant.rxs.within c.args.id is_op, ap length c.deref_mut.ensures.value)
-
-pub invariant_of-self : goal.invariant_of-self
-invariant_of-self c =
-    let is_op : IsOp c.self.inside.sched.now c.args.id = subst (λ (r : Holds). IsOp r.plans c.args.id) (sym c.self.view_is) (receive_is_op _ c.args.id c.requires) in
-    let slots : c.slots_at-slots.result ≡ slots_of c.self.inside.sched.now c.self.inside.slots.items c.args.id = c.slots_at-slots.ensures ∙ ap (λ (ss : List Slots). slots_of c.self.inside.sched.now ss c.args.id) c.deref.ensures.value in
-    let items : (with_items c.self.inside.rx c.raise.new.times).items ≡ c.raise.new.times = with_items_is c.self.inside.rx c.raise.new.times (omega arith) in
-    rw items (rx_numbered _ c.self.inside.slots.items _ _ _ c.self.invariant _ c.self.view_is c.args.id is_op _ slots c.args.until _ (rw c.deref_mut.ensures.value at c.raise.ensures))
+    omega (arith, ap (λ (p : Pair). p.side) c.pair_of-pair.ensures, rx_within _ _ c.self.invariant.0 c.self.inside.free.items c.self.invariant.1 _ c.self.view_is c.args.id c.requires, ap length c.deref_mut.ensures.value)
 
 pub returns : goal.returns
 returns c =
-    let is_op : IsOp c.self.inside.sched.now c.args.id = subst (λ (r : Holds). IsOp r.plans c.args.id) (sym c.self.view_is) (receive_is_op _ c.args.id c.requires) in
-    let slots : c.slots_at-slots.result ≡ slots_of c.self.inside.sched.now c.self.inside.slots.items c.args.id = c.slots_at-slots.ensures ∙ ap (λ (ss : List Slots). slots_of c.self.inside.sched.now ss c.args.id) c.deref.ensures.value in
-    let items : (with_items c.self.inside.rx c.raise.new.times).items ≡ c.raise.new.times = with_items_is c.self.inside.rx c.raise.new.times (omega arith) in
-    rw items (rx_held _ c.self.inside.slots.items _ _ _ c.self.invariant _ c.self.view_is c.args.id is_op _ slots c.args.until _ (rw c.deref_mut.ensures.value at c.raise.ensures))
+    let items : (with_items c.self.inside.free c.raise.new.times).items ≡ c.raise.new.times = with_items_is c.self.inside.free c.raise.new.times (omega arith) in
+    rw items (rx_held _ _ c.self.invariant.0 c.self.inside.free.items c.self.invariant.1 _ c.self.view_is c.args.id c.args.until c.raise.new.times c.requires
+    (subst (λ (p : Pair). (t : ℕ) → slice_get c.self.inside.free.items p.side ≡ Some t → c.raise.new.times ≡ raised c.self.inside.free.items p.side t c.args.until) c.pair_of-pair.ensures (rw c.deref_mut.ensures.value at c.raise.ensures)))
