@@ -8,7 +8,7 @@ use Rattle.std.proofs.lemmas.List.{take_rest, get_or-drop, get_or-take, drop_mor
 use Rattle.std.specs.List.{list_all}
 use Rattle.goal_lexer.specs.declared.tokens.Token.{Token}
 use Rattle.goal_lexer.specs.declared.tokens.TokenKind.{TokenKind}
-use Rattle.goal_lexer.specs.declared.tokens.TokenKind.TheVariants.{Number, Size, Label, Colon, Cpu, Nic}
+use Rattle.goal_lexer.specs.declared.tokens.TokenKind.TheVariants.{Number, Size, Label, Colon}
 use Rattle.goal_lexer.specs.declared.mode.Form.TheVariants.{Word}
 use Rattle.goal_lexer.specs.declared.mode.Mode.{Mode}
 use Rattle.goal_lexer.specs.declared.mode.Mode.TheVariants.{Between, Run}
@@ -334,51 +334,3 @@ spaced_found place (c ∷ cs) (s ∷ ss) space is short inside same ends =
     (omega arith, λ k few. subst (λ (j : ℕ). is_blank (get_or (c ∷ cs) j 0) ≡ true) (first k few) (ap is_blank space_first))
     is (omega (arith, short)) (omega (arith, inside)) behind_first
     (subst (λ (n : ℕ). is_run_byte (get_or (c ∷ cs) n 0) ≡ false) (sym long) ends))
-
--- the bytes of ` cpu 0 nic 0`
-abbrev pub no_places : List ℕ
-no_places = 32 ∷ 99 ∷ 112 ∷ 117 ∷ 32 ∷ 48 ∷ 32 ∷ 110 ∷ 105 ∷ 99 ∷ 32 ∷ 48 ∷ []
-
--- their tokens
-no_places_run : (place : ℕ) → IsRun (scan Between place no_places).0
-unfolding scan
-no_places_run place = tt
-
-no_places_scan : (place : ℕ) → (cpu zero nic none : Token) × (cpu.kind ≡ Cpu) × (zero.kind ≡ Number 0) × (nic.kind ≡ Nic) × (none.kind ≡ Number 0)
-    × (ended (place + 12) (scan Between place no_places) ≡ (Between, cpu ∷ zero ∷ nic ∷ none ∷ []))
-unfolding scan
-no_places_scan place =
-    let four = place + 1 + 1 + 1 + 1 in
-    let six = four + 1 + 1 in
-    let ten = six + 1 + 1 + 1 + 1 in (
-      record { kind = Cpu; start = place + 1; end = four },
-      record { kind = Number 0; start = four + 1; end = six },
-      record { kind = Nic; start = six + 1; end = ten },
-      record { kind = Number 0; start = ten + 1; end = place + 12 },
-      refl,
-      refl,
-      refl,
-      refl,
-      refl,
-    )
-
-pub no_places_found : (place : ℕ) (piece : List ℕ) → 12 < length piece → take 12 piece ≡ no_places → is_run_byte (get_or piece 12 0) ≡ false →
-    (cpu zero nic none : Token) × (cpu.kind ≡ Cpu) × (zero.kind ≡ Number 0) × (nic.kind ≡ Nic) × (none.kind ≡ Number 0)
-    × IsAhead place piece 12 true (cpu ∷ zero ∷ nic ∷ none ∷ [])
-no_places_found place piece inside same ends =
-    let known = no_places_scan place in (
-      known.0,
-      known.1,
-      known.2,
-      known.3,
-      known.4,
-      known.5,
-      known.6,
-      known.7,
-      (
-        inside,
-        ap begins_run (drop_more piece 12 0 inside) ∙ ends,
-        subst (λ (l : List ℕ). IsRun (scan Between place l).0) (sym same) (no_places_run place),
-        ap (λ (l : List ℕ). ended (place + 12) (scan Between place l)) same ∙ known.8,
-      ),
-    )

@@ -3,7 +3,6 @@
 //! These functions look at tokens without taking them: a caller that finds what it expects takes all of it by one
 //! [`crate::Lexer::go_on`]. They may miss a token that is there; [`crate::Lexer::next_token_into`] takes any token.
 ghost use Rattle.std.specs.Prelude.{◌≡◌, ℕ, ◌+◌, ◌-◌, ◌<◌, ◌≤◌, true, false, [], ◌∷◌, length, take, drop, bytes_eq};
-ghost use Rattle.goal_lexer.specs.declared.tokens.Token.{Token};
 ghost use Rattle.goal_lexer.specs.Ahead.{AreBlanks, is_word, IsAhead};
 ghost use Rattle.goal_lexer.specs.Words.{word_kind};
 
@@ -16,11 +15,19 @@ use crate::tokens::TokenKind;
 /// A number or a size at the front of a piece.
 #[derive(Clone, Copy, Debug, PartialEq, Eq)]
 pub struct Amount {
+    /// The number of blanks before it.
+    pub blanks: usize,
     /// The number of its bytes, with the blanks before it; 0 if none was found.
     pub count: usize,
     /// Its value.
     pub value: u64,
 }
+
+const NOT_FOUND: Amount = Amount {
+    blanks: 0,
+    count: 0,
+    value: 0,
+};
 
 /// Returns a number of blanks at the front, which may be many.
 #[inline(never)]
@@ -114,19 +121,6 @@ pub fn spaced_word_ahead(rest: &[u8], spaced: &[u8]) -> usize
     end
 }
 
-/// Returns whether the piece begins with ` cpu 0 nic 0`, which ends inside it: true only if it does.
-#[inline(always)]
-pub fn begins_with_no_places(rest: &[u8]) -> bool
-    ensures { result ≡ true → (place : ℕ) → (cpu zero nic none : Token)
-        × (cpu.kind ≡ TokenKind.Cpu) × (zero.kind ≡ TokenKind.Number 0) × (nic.kind ≡ TokenKind.Nic) × (none.kind ≡ TokenKind.Number 0)
-        × IsAhead place rest.now 12 true (cpu ∷ zero ∷ nic ∷ none ∷ []) }
-{
-    if rest.len() <= 12 || !begins_with(rest, b" cpu 0 nic 0") || is_run_byte(rest[12]) {
-        return false;
-    }
-    true
-}
-
 /// Returns whether the piece begins with a colon: true only if it does.
 #[inline(always)]
 pub fn begins_with_colon(rest: &[u8]) -> bool
@@ -136,85 +130,103 @@ pub fn begins_with_colon(rest: &[u8]) -> bool
 }
 
 /// Finds a number at the front that ends inside the piece and has few digits.
-#[inline(never)]
-fn long_number_ahead(rest: &[u8]) -> Amount
+#[inline(always)]
+pub fn long_number_ahead(rest: &[u8]) -> Amount
     ensures within { result.count ≤ length rest.now }
-    ensures ahead { 0 < result.count → (place : ℕ) → (start : ℕ) × IsAhead place rest.now result.count true (record { kind = TokenKind.Number result.value; start = start; end = place + result.count } ∷ []) }
+    ensures blanks { result.blanks ≤ result.count }
+    ensures ahead { 0 < result.count → (place : ℕ) → IsAhead place rest.now result.count true (record { kind = TokenKind.Number result.value; start = place + result.blanks; end = place + result.count } ∷ []) }
 {
     let blanks = blanks_ahead(rest);
     let Leading { count, value } = leading_digits(&rest[blanks..]);
     let end = blanks + count;
     if count == 0 || end >= rest.len() || is_run_byte(rest[end]) {
-        return Amount { count: 0, value: 0 };
+        return NOT_FOUND;
     }
-    Amount { count: end, value }
+    Amount {
+        blanks,
+        count: end,
+        value,
+    }
 }
 
-/// Finds a number at the front that ends inside the piece and has few digits. Most numbers are one to four digits after
-/// a space.
+/// Finds a number of one to four digits after a space, at the front, that ends inside the piece. Most numbers are such.
 #[inline(always)]
 pub fn number_ahead(rest: &[u8]) -> Amount
     ensures within { result.count ≤ length rest.now }
-    ensures ahead { 0 < result.count → (place : ℕ) → (start : ℕ) × IsAhead place rest.now result.count true (record { kind = TokenKind.Number result.value; start = start; end = place + result.count } ∷ []) }
+    ensures blanks { result.blanks ≤ result.count }
+    ensures ahead { 0 < result.count → (place : ℕ) → IsAhead place rest.now result.count true (record { kind = TokenKind.Number result.value; start = place + result.blanks; end = place + result.count } ∷ []) }
 {
     if rest.len() < 6 || rest[0] != b' ' || !is_digit(rest[1]) {
-        return long_number_ahead(rest);
+        return NOT_FOUND;
     }
     let ones = u64::from(rest[1] - b'0');
     if !is_run_byte(rest[2]) {
         return Amount {
+            blanks: 1,
             count: 2,
             value: ones,
         };
     }
     if !is_digit(rest[2]) {
-        return long_number_ahead(rest);
+        return NOT_FOUND;
     }
     let tens = ones * 10 + u64::from(rest[2] - b'0');
     if !is_run_byte(rest[3]) {
         return Amount {
+            blanks: 1,
             count: 3,
             value: tens,
         };
     }
     if !is_digit(rest[3]) {
-        return long_number_ahead(rest);
+        return NOT_FOUND;
     }
     let hundreds = tens * 10 + u64::from(rest[3] - b'0');
     if !is_run_byte(rest[4]) {
         return Amount {
+            blanks: 1,
             count: 4,
             value: hundreds,
         };
     }
     if !is_digit(rest[4]) || is_run_byte(rest[5]) {
-        return long_number_ahead(rest);
+        return NOT_FOUND;
     }
     let value = hundreds * 10 + u64::from(rest[4] - b'0');
-    Amount { count: 5, value }
+    Amount {
+        blanks: 1,
+        count: 5,
+        value,
+    }
 }
 
 /// Finds a size at the front that ends inside the piece and has few digits.
-#[inline(never)]
-fn long_size_ahead(rest: &[u8]) -> Amount
+#[inline(always)]
+pub fn long_size_ahead(rest: &[u8]) -> Amount
     ensures within { result.count ≤ length rest.now }
-    ensures ahead { 0 < result.count → (place : ℕ) → (start : ℕ) × IsAhead place rest.now result.count true (record { kind = TokenKind.Size result.value; start = start; end = place + result.count } ∷ []) }
+    ensures blanks { result.blanks ≤ result.count }
+    ensures ahead { 0 < result.count → (place : ℕ) → IsAhead place rest.now result.count true (record { kind = TokenKind.Size result.value; start = place + result.blanks; end = place + result.count } ∷ []) }
 {
     let blanks = blanks_ahead(rest);
     let Leading { count, value } = leading_digits(&rest[blanks..]);
     let mark = blanks + count;
     let end = mark + 1;
     if count == 0 || end >= rest.len() || rest[mark] != b'b' || is_run_byte(rest[end]) {
-        return Amount { count: 0, value: 0 };
+        return NOT_FOUND;
     }
-    Amount { count: end, value }
+    Amount {
+        blanks,
+        count: end,
+        value,
+    }
 }
 
-/// Finds a size at the front that ends inside the piece and has few digits. Many sizes are one digit after a space.
+/// Finds a size of one digit after a space, at the front, that ends inside the piece. Many sizes are such.
 #[inline(always)]
 pub fn size_ahead(rest: &[u8]) -> Amount
     ensures within { result.count ≤ length rest.now }
-    ensures ahead { 0 < result.count → (place : ℕ) → (start : ℕ) × IsAhead place rest.now result.count true (record { kind = TokenKind.Size result.value; start = start; end = place + result.count } ∷ []) }
+    ensures blanks { result.blanks ≤ result.count }
+    ensures ahead { 0 < result.count → (place : ℕ) → IsAhead place rest.now result.count true (record { kind = TokenKind.Size result.value; start = place + result.blanks; end = place + result.count } ∷ []) }
 {
     if rest.len() >= 4
         && rest[0] == b' '
@@ -223,9 +235,13 @@ pub fn size_ahead(rest: &[u8]) -> Amount
         && !is_run_byte(rest[3])
     {
         let value = u64::from(rest[1] - b'0');
-        return Amount { count: 3, value };
+        return Amount {
+            blanks: 1,
+            count: 3,
+            value,
+        };
     }
-    long_size_ahead(rest)
+    NOT_FOUND
 }
 
 /// Returns the length of these blanks and the label after them, if the label ends inside the piece and with a byte that

@@ -48,12 +48,21 @@ impl Label {
         requires most { length text.now ≤ 64 }
         ensures { result ≡ text.now }
     {
-        let mut bytes = [0; MOST_RUN_BYTES];
-        bytes[..text.len()].copy_from_slice(text);
-        Label {
-            bytes,
-            len: text.len(),
-        }
+        let mut label = Label::of_byte(0);
+        label.write(text);
+        label
+    }
+
+    /// Replaces the label by that of these 1 to 64 bytes.
+    #[inline(always)]
+    pub fn write(&mut self, text: &[u8])
+        requires some { 0 < length text.now }
+        requires most { length text.now ≤ 64 }
+        ensures { self.new ≡ text.now }
+    {
+        self.bytes = [0; MOST_RUN_BYTES];
+        self.bytes[..text.len()].copy_from_slice(text);
+        self.len = text.len();
     }
 
     /// Appends a byte.

@@ -22,8 +22,8 @@ mod whole;
 mod words;
 
 pub use ahead::{
-    Amount, begin_alike, begins_with_colon, begins_with_no_places, blanks_ahead, label_ahead,
-    number_ahead, size_ahead, spaced_word_ahead, word_ahead,
+    Amount, begin_alike, begins_with_colon, blanks_ahead, label_ahead, long_number_ahead,
+    long_size_ahead, number_ahead, size_ahead, spaced_word_ahead, word_ahead,
 };
 pub use labels::{Label, MOST_RUN_BYTES};
 pub use laws::{laws_of_lexers, laws_of_tokens};

@@ -450,6 +450,20 @@ gives_label old new next label at other enters stated ranked counted drafted hea
       plans = λ ds us deps notes holds. λ i. (planned i).items;
     }
 
+-- each token that begins an item ends an action as the sign that ends the block does
+pub ended_alike : (s : State) (k : TokenKind) (op : Op) (ops : List Op) → begins_item k ≡ true → ended_ops s token.Close op ops ≡ ended_ops s k op ops
+unfolding ends_action
+ended_alike state.Calc2 k op ops is = rw is
+ended_alike state.Send4 k op ops is = rw is
+ended_alike state.Recv4 k op ops is = rw is
+ended_alike _ k op ops is = refl
+
+pub begins_action : (k : TokenKind) → IsAction k → begins_item k ≡ true
+begins_action token.Calc is = refl
+begins_action token.Send is = refl
+begins_action token.Recv is = refl
+begins_action _ is = absurd is
+
 -- Tokens that are taken and refused.
 
 pub takes_any : (old : Parser) (t : Token) (next : State) (draft : Draft) → entry old.state t.kind ≡ Some next → t.kind ≡ token.Any → draft ≡ draft_with old.state t.kind old.draft

@@ -3,7 +3,6 @@ pub mod NameLaws
 pub mod BlockLaws
 pub mod ParserLaws
 pub mod KindLaws
-pub mod GroupLaws
 pub mod ReaderLaws
 pub mod PassLaws
 pub mod AheadLaws

@@ -1,5 +1,5 @@
 -- The state of a parser after the tokens that it has taken.
-use Rattle.std.specs.Prelude.{◌≡◌, ℕ, ◌⊎◌, List, ◌∷◌, ◌++◌, None, Some, ⊤, reverse, true}
+use Rattle.std.specs.Prelude.{◌≡◌, List, ◌∷◌, None, Some, ⊤, true}
 use Rattle.goal_lexer.specs.declared.tokens.Token.{Token}
 use Rattle.goal_lexer.specs.declared.tokens.TokenKind.{TokenKind}
 use Rattle.goal_lexer.specs.declared.tokens.TokenKind.TheVariants as token
@@ -8,8 +8,6 @@ use Rattle.goal_parser.specs.declared.parser.Parser.{Parser}
 use Rattle.goal_parser.specs.declared.sentence.State.{State}
 use Rattle.goal_parser.specs.declared.sentence.State.TheVariants as state
 use Rattle.goal_parser.specs.declared.head.ItemHead.{ItemHead}
-use Rattle.goal_parser.specs.declared.head.Verb.{Verb}
-use Rattle.goal_parser.specs.declared.head.Verb.TheVariants as verb
 use Rattle.goal_parser.specs.Sentence.{state_of}
 use Rattle.goal_parser.specs.Ranks.{ranks_of, rank_of, blocks_of}
 use Rattle.goal_parser.specs.Counts.{counts_of}
@@ -17,7 +15,6 @@ use Rattle.goal_parser.specs.Actions.{draft_of}
 use Rattle.goal_parser.specs.Items.{head_of, ops_of, defined_of, used_of, deps_of, notes_of}
 use Rattle.goal_parser.specs.Plans.{plans_of}
 use Rattle.goal_parser.specs.Faults.{token_fault}
-use Rattle.goal_parser.specs.Reads.{first_fault}
 use Rattle.goal_parser.specs.FaultInText.{fault_in_text}
 use Rattle.goal_parser.specs.Slots.{NamesHold}
 use Rattle.goal_parser.specs.declared.draft.OptionWord.{OptionWord}
@@ -53,37 +50,6 @@ Takes old token new = (before : List Token) → HasTaken old before → (token_f
 -- the parser refuses the token: this is the first test that it fails
 abbrev pub Refuses : Parser → Token → TokenFault → Type 0
 Refuses old token fault = (before : List Token) → HasTaken old before → token_fault before token ≡ Some (fault_in_text fault)
-
--- the parser takes these tokens, one after another: none fails a test, and the state is updated by them
-abbrev pub TakesAll : Parser → List Token → Parser → Type 0
-TakesAll old tokens new =
-    (before : List Token) → HasTaken old before → (first_fault before tokens ≡ None) × HasTaken new (reverse tokens ++ before)
-
--- the parser refuses these tokens: this is the fault of the first that fails a test
-abbrev pub RefusesAll : Parser → List Token → TokenFault → Type 0
-RefusesAll old tokens fault = (before : List Token) → HasTaken old before → first_fault before tokens ≡ Some (fault_in_text fault)
-
--- the verb's word
-abbrev pub verb_kind : Verb → TokenKind
-verb_kind verb.Requires = token.Requires
-verb_kind verb.Irequires = token.Irequires
-verb_kind verb.Moves = token.Moves
-verb_kind verb.Adds = token.Adds
-
--- the verb is one of a dependency, or one of a note
-abbrev pub IsOfDeps : Verb → Type 0
-IsOfDeps verb.Requires = ⊤
-IsOfDeps verb.Irequires = ⊤
-IsOfDeps _ = ⊥
-
-abbrev pub IsOfNotes : Verb → Type 0
-IsOfNotes verb.Moves = ⊤
-IsOfNotes verb.Adds = ⊤
-IsOfNotes _ = ⊥
-
--- a token for this number of bytes, given as a number or as a size
-abbrev pub IsAmount : TokenKind → ℕ → Type 0
-IsAmount kind bytes = (kind ≡ token.Number bytes) ⊎ (kind ≡ token.Size bytes)
 
 -- the word of an action
 abbrev pub IsAction : TokenKind → Type 0

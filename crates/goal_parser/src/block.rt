@@ -2,9 +2,10 @@
 ghost use Rattle.std.specs.Prelude.{◌≡◌, List, [], IfOk, OnOk, map};
 ghost use Rattle.goal_parser.specs.declared.head.Mention.{Mention};
 ghost use Rattle.goal_parser.specs.Actions.{op_of};
-ghost use Rattle.goal_parser.specs.Items.{Definition, NamedDep, NamedNote, begins_item, ends_action, ended_ops, dep_by, note_by};
+ghost use Rattle.goal_parser.specs.Items.{Definition, NamedDep, NamedNote, ended_ops, dep_by, note_by};
 ghost use Rattle.goal_parser.specs.Slots.{NamesHold};
 
+use crate::append::append;
 use crate::draft::Draft;
 use crate::names::Names;
 use crate::sentence::State;
@@ -26,42 +27,15 @@ pub struct Block {
     pub names: Names,
 }
 
-/// Returns whether the token begins an item, or ends the block.
-fn begins_item(kind: &TokenKind) -> bool
-    ensures { result ≡ begins_item kind.now }
-{
-    match kind {
-        TokenKind::Close
-        | TokenKind::Label(_)
-        | TokenKind::Calc
-        | TokenKind::Send
-        | TokenKind::Recv => true,
-        _ => false,
-    }
-}
-
-/// Returns whether the token ends an action.
+/// Appends the operation of the action that is open in this state, if one is. `Err` means out of memory.
+#[inline(always)]
 #[tactic(auto, unfolding(crate::specs::Items::ends_action))]
-fn ends_action(state: State, kind: &TokenKind) -> bool
-    ensures { result ≡ ends_action state kind.now }
+pub fn end_action(ops: &mut Vec<Op>, state: State, draft: &Draft) -> Result<(), AllocError>
+    ensures { OnOk result (ops.new.items ≡ ended_ops state TokenKind.Close (op_of draft.now) ops.old.items) }
 {
     match state {
-        State::Calc2 | State::Send4 | State::Recv4 => begins_item(kind),
-        _ => false,
-    }
-}
-
-/// Appends the operation of the action that ends at this token, if one does. `Err` means out of memory.
-pub fn end_action(
-    ops: &mut Vec<Op>,
-    state: State,
-    kind: &TokenKind,
-    draft: &Draft,
-) -> Result<(), AllocError>
-    ensures { OnOk result (ops.new.items ≡ ended_ops state kind.now (op_of draft.now) ops.old.items) }
-{
-    if ends_action(state, kind) {
-        ops.push(draft.op())?;
+        State::Calc2 | State::Send4 | State::Recv4 => append(ops, draft.op())?,
+        _ => {}
     }
     Ok(())
 }
@@ -102,7 +76,7 @@ impl Block {
         ensures plan { IfOk result (λ plan. (ds : List Definition) (us : List Mention) (deps : List NamedDep) (notes : List NamedNote) → NamesHold self.old.names ds us deps notes →
             plan ≡ record { ops = ended_ops state TokenKind.Close (op_of draft.now) self.old.ops.items; deps = map (dep_by ds) deps; notes = map (note_by ds) notes }) }
     {
-        end_action(&mut self.ops, state, &TokenKind::Close, draft)?;
+        end_action(&mut self.ops, state, draft)?;
         self.names.resolve();
         self.names.labels.clear();
         let ops = take_all(alloc, &mut self.ops)?;

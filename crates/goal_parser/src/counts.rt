@@ -29,6 +29,7 @@ impl Counts {
     }
 
     /// Returns whether the word begins an operation, a dependency or a note beyond the limit of a schedule.
+    #[inline(always)]
     #[tactic(auto, unfolding(crate::specs::Counts::is_too_many))]
     pub fn is_too_many(&self, kind: &TokenKind) -> bool
         ensures { result ≡ is_too_many kind.now self.now }
@@ -42,6 +43,7 @@ impl Counts {
     }
 
     /// Counts what the token begins.
+    #[inline(always)]
     #[tactic(auto, unfolding(crate::specs::Counts::is_too_many, crate::specs::Counts::counts_with))]
     pub fn take(&mut self, kind: &TokenKind)
         requires fits { is_too_many kind.now self.old ≡ false }

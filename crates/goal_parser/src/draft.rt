@@ -109,6 +109,7 @@ impl Draft {
     }
 
     /// Takes the word `any`.
+    #[inline(always)]
     fn take_any(&mut self, state: State)
         ensures { self.new ≡ any_with state self.old }
     {
@@ -151,6 +152,7 @@ impl Draft {
     }
 
     /// Returns whether the word is that of an option that the action already has.
+    #[inline(always)]
     pub fn has_option(&self, kind: &TokenKind) -> bool
         ensures { result ≡ has_option kind.now self.now }
     {

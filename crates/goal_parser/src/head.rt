@@ -1,5 +1,5 @@
 //! The label and the verb at the beginning of an item.
-ghost use Rattle.std.specs.Prelude.{◌≡◌, Some};
+ghost use Rattle.std.specs.Prelude.{◌≡◌, ◌<◌, ◌≤◌, Some, length};
 ghost use Rattle.goal_parser.specs.Items.{low_head, verb_head};
 ghost use Rattle.goal_parser.specs.Taken.{IsWithin};
 
@@ -52,13 +52,28 @@ impl ItemHead {
     }
 
     /// Begins an item with a label, whose first byte is at this place.
-    pub fn begin(&mut self, label: &Label, at: u64)
+    #[inline(always)]
+    pub fn begin(&mut self, label: &[u8], at: u64)
+        requires some { 0 < length label.now }
+        requires short { length label.now ≤ 64 }
         ensures { self.new ≡ record self.old { subject = Some (record { label = label.now; at = at }) } }
     {
-        self.subject = Some(Mention { label: *label, at });
+        match &mut self.subject {
+            Some(subject) => {
+                subject.label.write(label);
+                subject.at = at;
+            }
+            None => {
+                self.subject = Some(Mention {
+                    label: Label::of(label),
+                    at,
+                });
+            }
+        }
     }
 
     /// Takes a number.
+    #[inline(always)]
     #[tactic(auto, unfolding(crate::specs::Numbers::is_within))]
     pub fn take_number(&mut self, state: State, value: u64)
         requires { IsWithin state (TokenKind.Number value) }
@@ -71,6 +86,7 @@ impl ItemHead {
     }
 
     /// Takes a verb. Another word changes nothing.
+    #[inline(always)]
     pub fn take_verb(&mut self, kind: &TokenKind)
         ensures { self.new ≡ verb_head kind.now self.old }
     {

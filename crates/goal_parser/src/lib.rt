@@ -16,11 +16,11 @@
 #![tactic(auto)]
 
 mod ahead;
+mod append;
 mod block;
 mod counts;
 mod draft;
 mod faults;
-mod groups;
 mod head;
 mod labels;
 mod laws;

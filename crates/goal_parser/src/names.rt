@@ -1,5 +1,5 @@
 //! The labels of a block, and the dependencies and notes that name them.
-ghost use Rattle.std.specs.Prelude.{◌≡◌, ◌≢◌, List, [], IfErr, OnOk, map, Some, None};
+ghost use Rattle.std.specs.Prelude.{◌≡◌, ◌≢◌, ◌<◌, ◌≤◌, List, [], length, IfErr, OnOk, map, Some, None};
 ghost use Rattle.goal_parser.specs.declared.head.Mention.{Mention};
 ghost use Rattle.goal_parser.specs.Items.{Definition, NamedDep, NamedNote, define, dep_ended, note_ended, dep_uses, note_uses, when_of, note_as};
 ghost use Rattle.goal_parser.specs.Slots.{Keeps, NamesHold, dep_at, note_at};
@@ -7,12 +7,13 @@ ghost use Rattle.goal_parser.specs.Taken.{IsWithin};
 ghost use Rattle.goal_parser.specs.Faults.{defined_fault};
 ghost use Rattle.goal_parser.specs.FaultInText.{fault_in_text};
 
+use crate::append::append;
 use crate::head::{ItemHead, Mention, Verb};
 use crate::labels::Labels;
 use crate::sentence::State;
 use crate::token_faults::TokenFault;
 use goal_graph::{Dep, Note, When};
-use goal_lexer::{Label, TokenKind};
+use goal_lexer::TokenKind;
 use std::alloc::{AllocError, Global};
 
 /// The labels of a block, and its dependencies and notes with the slots of labels instead of operations.
@@ -81,6 +82,7 @@ impl Names {
     /// # Errors
     ///
     /// `Repeat` if the block has already defined the label, or `NoMemory`.
+    #[inline(always)]
     pub fn define(&mut self, subject: &Option<Mention>, op: u32) -> Result<(), TokenFault>
         ensures ok { OnOk result ((ds : List Definition) (us : List Mention) (deps : List NamedDep) (notes : List NamedNote) → NamesHold self.old ds us deps notes →
             (defined_fault ds subject.now ≡ None) × NamesHold self.new (define subject.now op ds) us deps notes) }
@@ -93,19 +95,23 @@ impl Names {
     }
 
     /// Takes the second label of a dependency, whose first byte is at this place.
-    pub fn end_dep(&mut self, head: &ItemHead, label: &Label, at: u64) -> Result<(), AllocError>
+    #[inline(always)]
+    pub fn end_dep(&mut self, head: &ItemHead, label: &[u8], at: u64) -> Result<(), AllocError>
+        requires some { 0 < length label.now }
+        requires short { length label.now ≤ 64 }
         ensures { OnOk result ((ds : List Definition) (us : List Mention) (deps : List NamedDep) (notes : List NamedNote) → NamesHold self.old ds us deps notes →
             NamesHold self.new ds (dep_uses State.Label head.now.subject (record { label = label.now; at = at }) us) (dep_ended State.Label head.now.subject head.now.verb label.now deps) notes) }
     {
         match &head.subject {
             Some(subject) => {
                 let later = self.labels.mention(subject.label.as_bytes(), subject.at)?;
-                let earlier = self.labels.mention(label.as_bytes(), at)?;
-                self.deps.push(Dep {
+                let earlier = self.labels.mention(label, at)?;
+                let dep = Dep {
                     later,
                     earlier,
                     when: when_of(head.verb),
-                })?;
+                };
+                append(&mut self.deps, dep)?;
                 Ok(())
             }
             None => Ok(()),
@@ -113,6 +119,7 @@ impl Names {
     }
 
     /// Takes the second number of a note.
+    #[inline(always)]
     #[tactic(auto, unfolding(crate::specs::Numbers::is_within))]
     pub fn end_note(&mut self, state: State, head: &ItemHead, second: u64) -> Result<(), AllocError>
         requires { IsWithin state (TokenKind.Number second) }
@@ -123,7 +130,7 @@ impl Names {
             (State::Note3, Some(subject)) => {
                 let second = second as u32;
                 let op = self.labels.mention(subject.label.as_bytes(), subject.at)?;
-                self.notes.push(note_as(head.verb, op, head.low, second))?;
+                append(&mut self.notes, note_as(head.verb, op, head.low, second))?;
                 Ok(())
             }
             _ => Ok(()),

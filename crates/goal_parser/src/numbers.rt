@@ -7,6 +7,7 @@ use crate::sentence::State;
 use goal_limits::{MAX_BYTES, MAX_NANOS, MAX_RANKS};
 
 /// Returns the limit of an option's number.
+#[inline(always)]
 fn option_most(option: OptionWord) -> u64
     ensures { result ≡ option_most option }
 {
@@ -17,6 +18,7 @@ fn option_most(option: OptionWord) -> u64
 }
 
 /// Returns the limit of a number in this state, after this option word.
+#[inline(always)]
 fn most(state: State, option: OptionWord) -> u64
     ensures { result ≡ most state option }
 {
@@ -30,6 +32,7 @@ fn most(state: State, option: OptionWord) -> u64
 }
 
 /// Returns the least number in this state.
+#[inline(always)]
 fn least(state: State) -> u64
     ensures { result ≡ least state }
 {

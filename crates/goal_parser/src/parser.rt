@@ -1,10 +1,8 @@
 //! The parser: from tokens to plans.
 //!
-//! `take` takes any token. But most items never reach it: if a piece has a whole definition, dependency, note, action
-//! up to its options, or option, `take_ahead` (ahead.rt) finds it by its bytes, and a function of groups.rt takes all
-//! its tokens at once. It leaves the parser as `take` would, token by token (`TakesAll`, specs/Taken.antt). So this
-//! file defines what an item means, and a change here needs the same change in groups.rt.
-ghost use Rattle.std.specs.Prelude.{◌≡◌, ◌≢◌, true, List, [], ◌∷◌, None, Some, OnOk, IfErr};
+//! `take` takes any token. Most tokens come from `take_ahead` (ahead.rt), which finds them where they are in a piece;
+//! each of its calls is inlined for the kind that it found.
+ghost use Rattle.std.specs.Prelude.{◌≡◌, ◌≢◌, ℕ, ◌<◌, ◌≤◌, true, List, [], ◌∷◌, length, None, Some, OnOk, IfOk, IfErr};
 ghost use Rattle.goal_parser.specs.Numbers.{number_within};
 ghost use Rattle.goal_lexer.specs.declared.tokens.Token.{Token};
 ghost use Rattle.goal_parser.specs.Sentence.{entry};
@@ -19,10 +17,10 @@ use crate::head::ItemHead;
 use crate::numbers::number_within;
 use crate::plans;
 use crate::ranks::Ranks;
-use crate::sentence::{State, entry};
+use crate::sentence::{State, entry, label_entry};
 use crate::token_faults::TokenFault;
 use goal_graph::RankPlan;
-use goal_lexer::{Label, Token, TokenKind};
+use goal_lexer::{Token, TokenKind};
 use std::alloc::{AllocError, Global};
 
 /// Takes the tokens of a text, one by one, up to the first that fails a test.
@@ -63,14 +61,26 @@ impl Parser {
         }
     }
 
+    /// Returns the state after a token.
+    #[inline(always)]
+    fn next_state(&self, token: &Token) -> Result<State, TokenFault>
+        ensures ok { IfOk result (λ next. entry self.now.state token.now.kind ≡ Some next) }
+        ensures fault { IfErr result (λ f. Refuses self.now token.now f) }
+    {
+        match entry(self.state, &token.kind) {
+            Some(next) => Ok(next),
+            None => Err(TokenFault::Syntax { at: token.start }),
+        }
+    }
+
     /// Takes the number of ranks.
     #[cold]
-    fn take_rank_count(&mut self, next: State, token: &Token, value: u64) -> Result<(), AllocError>
-        requires next { entry self.old.state token.now.kind ≡ Some next }
-        requires number { token.now.kind ≡ TokenKind.Number value }
+    fn take_rank_count(&mut self, next: State, token: Token, value: u64) -> Result<(), AllocError>
+        requires next { entry self.old.state token.kind ≡ Some next }
+        requires number { token.kind ≡ TokenKind.Number value }
         requires within { number_within self.old.state self.old.draft.option value ≡ true }
         requires here { self.old.state ≡ State.Ranks }
-        ensures { OnOk result (Takes self.old token.now self.new) }
+        ensures { OnOk result (Takes self.old token self.new) }
     {
         self.state = next;
         self.plans = plans::empty_plans(self.alloc, value)?;
@@ -80,15 +90,15 @@ impl Parser {
 
     /// Takes the rank of a block.
     #[cold]
-    fn take_rank(&mut self, next: State, token: &Token, value: u64) -> Result<(), TokenFault>
-        requires next { entry self.old.state token.now.kind ≡ Some next }
-        requires number { token.now.kind ≡ TokenKind.Number value }
+    fn take_rank(&mut self, next: State, token: Token, value: u64) -> Result<(), TokenFault>
+        requires next { entry self.old.state token.kind ≡ Some next }
+        requires number { token.kind ≡ TokenKind.Number value }
         requires within { number_within self.old.state self.old.draft.option value ≡ true }
         requires here { self.old.state ≡ State.Block }
-        ensures ok { OnOk result (Takes self.old token.now self.new) }
-        ensures fault { IfErr result (λ f. f ≢ TokenFault.NoMemory → Refuses self.old token.now f) }
+        ensures ok { OnOk result (Takes self.old token self.new) }
+        ensures fault { IfErr result (λ f. f ≢ TokenFault.NoMemory → Refuses self.old token f) }
     {
-        if let Some(fault) = self.ranks.fault(self.state, token) {
+        if let Some(fault) = self.ranks.fault(self.state, &token) {
             return Err(fault);
         }
         self.state = next;
@@ -98,22 +108,22 @@ impl Parser {
 
     /// Takes a number.
     #[inline(always)]
-    fn take_number(&mut self, next: State, token: &Token, value: u64) -> Result<(), TokenFault>
-        requires next { entry self.old.state token.now.kind ≡ Some next }
+    pub fn take_number(&mut self, token: &Token, value: u64) -> Result<(), TokenFault>
         requires number { token.now.kind ≡ TokenKind.Number value }
         ensures ok { OnOk result (Takes self.old token.now self.new) }
         ensures fault { IfErr result (λ f. f ≢ TokenFault.NoMemory → Refuses self.old token.now f) }
     {
+        let next = self.next_state(token)?;
         let state = self.state;
         if !number_within(state, self.draft.option, value) {
             return Err(TokenFault::Number { at: token.start });
         }
         match state {
             State::Ranks => {
-                self.take_rank_count(next, token, value)?;
+                self.take_rank_count(next, *token, value)?;
                 Ok(())
             }
-            State::Block => self.take_rank(next, token, value),
+            State::Block => self.take_rank(next, *token, value),
             State::Note1 => {
                 self.state = next;
                 self.head.take_number(state, value);
@@ -134,12 +144,12 @@ impl Parser {
 
     /// Takes a size.
     #[inline(always)]
-    fn take_size(&mut self, next: State, token: &Token, value: u64) -> Result<(), TokenFault>
-        requires next { entry self.old.state token.now.kind ≡ Some next }
+    pub fn take_size(&mut self, token: &Token, value: u64) -> Result<(), TokenFault>
         requires size { token.now.kind ≡ TokenKind.Size value }
         ensures ok { OnOk result (Takes self.old token.now self.new) }
         ensures fault { IfErr result (λ f. f ≢ TokenFault.NoMemory → Refuses self.old token.now f) }
     {
+        let next = self.next_state(token)?;
         if !number_within(self.state, self.draft.option, value) {
             return Err(TokenFault::Number { at: token.start });
         }
@@ -150,12 +160,12 @@ impl Parser {
 
     /// Takes the word of an option.
     #[inline(always)]
-    fn take_option(&mut self, next: State, token: &Token) -> Result<(), TokenFault>
-        requires next { entry self.old.state token.now.kind ≡ Some next }
+    pub fn take_option(&mut self, token: &Token) -> Result<(), TokenFault>
         requires option { IsOption token.now.kind }
         ensures ok { OnOk result (Takes self.old token.now self.new) }
         ensures fault { IfErr result (λ f. f ≢ TokenFault.NoMemory → Refuses self.old token.now f) }
     {
+        let next = self.next_state(token)?;
         if self.draft.has_option(&token.kind) {
             return Err(TokenFault::Repeat { at: token.start });
         }
@@ -164,24 +174,27 @@ impl Parser {
         Ok(())
     }
 
-    /// Takes a label.
+    /// Takes a label, whose first byte is at this place.
     #[inline(always)]
-    fn take_label(&mut self, next: State, token: &Token, label: &Label) -> Result<(), TokenFault>
-        requires next { entry self.old.state token.now.kind ≡ Some next }
-        requires label { token.now.kind ≡ TokenKind.Label label.now }
-        ensures ok { OnOk result (Takes self.old token.now self.new) }
-        ensures fault { IfErr result (λ f. f ≢ TokenFault.NoMemory → Refuses self.old token.now f) }
+    pub fn take_label(&mut self, label: &[u8], at: u64) -> Result<(), TokenFault>
+        requires some { 0 < length label.now }
+        requires short { length label.now ≤ 64 }
+        ensures ok { (end : ℕ) → OnOk result (Takes self.old (record { kind = TokenKind.Label label.now; start = at; end = end }) self.new) }
+        ensures fault { (end : ℕ) → IfErr result (λ f. f ≢ TokenFault.NoMemory → Refuses self.old (record { kind = TokenKind.Label label.now; start = at; end = end }) f) }
     {
         let state = self.state;
+        let Some(next) = label_entry(state) else {
+            return Err(TokenFault::Syntax { at });
+        };
         self.state = next;
         match state {
             State::Label => {
-                self.block.names.end_dep(&self.head, label, token.start)?;
+                self.block.names.end_dep(&self.head, label, at)?;
                 Ok(())
             }
             _ => {
-                end_action(&mut self.block.ops, state, &token.kind, &self.draft)?;
-                self.head.begin(label, token.start);
+                end_action(&mut self.block.ops, state, &self.draft)?;
+                self.head.begin(label, at);
                 Ok(())
             }
         }
@@ -189,12 +202,12 @@ impl Parser {
 
     /// Takes a colon, which defines the label before it.
     #[inline(always)]
-    fn take_colon(&mut self, next: State, token: &Token) -> Result<(), TokenFault>
-        requires next { entry self.old.state token.now.kind ≡ Some next }
+    pub fn take_colon(&mut self, token: &Token) -> Result<(), TokenFault>
         requires colon { token.now.kind ≡ TokenKind.Colon }
         ensures ok { OnOk result (Takes self.old token.now self.new) }
         ensures fault { IfErr result (λ f. f ≢ TokenFault.NoMemory → Refuses self.old token.now f) }
     {
+        let next = self.next_state(token)?;
         // More operations than 32 bits can number count as out of memory.
         let Ok(op) = u32::try_from(self.block.ops.len()) else {
             return Err(TokenFault::NoMemory);
@@ -205,16 +218,16 @@ impl Parser {
 
     /// Takes the word that an action begins with.
     #[inline(always)]
-    fn take_action(&mut self, next: State, token: &Token) -> Result<(), TokenFault>
-        requires next { entry self.old.state token.now.kind ≡ Some next }
+    pub fn take_action(&mut self, token: &Token) -> Result<(), TokenFault>
         requires action { IsAction token.now.kind }
         ensures ok { OnOk result (Takes self.old token.now self.new) }
         ensures fault { IfErr result (λ f. f ≢ TokenFault.NoMemory → Refuses self.old token.now f) }
     {
+        let next = self.next_state(token)?;
         if self.counts.is_too_many(&token.kind) {
             return Err(TokenFault::TooMany { at: token.start });
         }
-        end_action(&mut self.block.ops, self.state, &token.kind, &self.draft)?;
+        end_action(&mut self.block.ops, self.state, &self.draft)?;
         self.counts.take(&token.kind);
         self.draft.take(self.state, &token.kind);
         self.state = next;
@@ -223,12 +236,12 @@ impl Parser {
 
     /// Takes the word after the label of a dependency or a note.
     #[inline(always)]
-    fn take_verb(&mut self, next: State, token: &Token) -> Result<(), TokenFault>
-        requires next { entry self.old.state token.now.kind ≡ Some next }
+    pub fn take_verb(&mut self, token: &Token) -> Result<(), TokenFault>
         requires verb { IsVerb token.now.kind }
         ensures ok { OnOk result (Takes self.old token.now self.new) }
         ensures fault { IfErr result (λ f. f ≢ TokenFault.NoMemory → Refuses self.old token.now f) }
     {
+        let next = self.next_state(token)?;
         if self.counts.is_too_many(&token.kind) {
             return Err(TokenFault::TooMany { at: token.start });
         }
@@ -239,12 +252,12 @@ impl Parser {
     }
 
     /// Takes the sign that ends a block.
-    fn take_close(&mut self, next: State, token: &Token) -> Result<(), TokenFault>
-        requires next { entry self.old.state token.now.kind ≡ Some next }
+    fn take_close(&mut self, token: &Token) -> Result<(), TokenFault>
         requires close { token.now.kind ≡ TokenKind.Close }
         ensures ok { OnOk result (Takes self.old token.now self.new) }
         ensures fault { IfErr result (λ f. f ≢ TokenFault.NoMemory → Refuses self.old token.now f) }
     {
+        let next = self.next_state(token)?;
         if let Some(at) = self.block.names.labels.first_unknown() {
             return Err(TokenFault::UnknownLabel { at });
         }
@@ -256,23 +269,27 @@ impl Parser {
 
     /// Takes a word or a sign that only changes the grammar's state.
     #[inline(always)]
-    fn take_plain(&mut self, next: State, token: &Token)
-        requires next { entry self.old.state token.now.kind ≡ Some next }
+    pub fn take_plain(&mut self, token: &Token) -> Result<(), TokenFault>
         requires plain { IsPlain token.now.kind }
-        ensures { Takes self.old token.now self.new }
+        ensures ok { OnOk result (Takes self.old token.now self.new) }
+        ensures fault { IfErr result (λ f. f ≢ TokenFault.NoMemory → Refuses self.old token.now f) }
     {
+        let next = self.next_state(token)?;
         self.state = next;
+        Ok(())
     }
 
     /// Takes the word `any`.
     #[inline(always)]
-    fn take_any(&mut self, next: State, token: &Token)
-        requires next { entry self.old.state token.now.kind ≡ Some next }
+    fn take_any(&mut self, token: &Token) -> Result<(), TokenFault>
         requires any { token.now.kind ≡ TokenKind.Any }
-        ensures { Takes self.old token.now self.new }
+        ensures ok { OnOk result (Takes self.old token.now self.new) }
+        ensures fault { IfErr result (λ f. f ≢ TokenFault.NoMemory → Refuses self.old token.now f) }
     {
+        let next = self.next_state(token)?;
         self.draft.take(self.state, &token.kind);
         self.state = next;
+        Ok(())
     }
 
     /// Takes the next token. It makes only the tests that a token of this kind can fail, in their order.
@@ -281,31 +298,22 @@ impl Parser {
         ensures ok { OnOk result ((before : List Token) → HasTaken self.old before → (token_fault before token.now ≡ None) × HasTaken self.new (token.now ∷ before)) }
         ensures fault { IfErr result (λ f. f ≢ TokenFault.NoMemory → (before : List Token) → HasTaken self.old before → token_fault before token.now ≡ Some (fault_in_text f)) }
     {
-        let Some(next) = entry(self.state, &token.kind) else {
-            return Err(TokenFault::Syntax { at: token.start });
-        };
         match &token.kind {
-            TokenKind::Number { value } => self.take_number(next, token, *value),
-            TokenKind::Size { value } => self.take_size(next, token, *value),
-            TokenKind::Label(label) => self.take_label(next, token, label),
-            TokenKind::Colon => self.take_colon(next, token),
-            TokenKind::Close => self.take_close(next, token),
-            TokenKind::Tag | TokenKind::Cpu | TokenKind::Nic => self.take_option(next, token),
-            TokenKind::Calc | TokenKind::Send | TokenKind::Recv => self.take_action(next, token),
+            TokenKind::Number { value } => self.take_number(token, *value),
+            TokenKind::Size { value } => self.take_size(token, *value),
+            TokenKind::Label(label) => self.take_label(label.as_bytes(), token.start),
+            TokenKind::Colon => self.take_colon(token),
+            TokenKind::Close => self.take_close(token),
+            TokenKind::Tag | TokenKind::Cpu | TokenKind::Nic => self.take_option(token),
+            TokenKind::Calc | TokenKind::Send | TokenKind::Recv => self.take_action(token),
             TokenKind::Requires | TokenKind::Irequires | TokenKind::Moves | TokenKind::Adds =>
-                self.take_verb(next, token),
-            TokenKind::Any => {
-                self.take_any(next, token);
-                Ok(())
-            }
+                self.take_verb(token),
+            TokenKind::Any => self.take_any(token),
             TokenKind::NumRanks
             | TokenKind::Rank
             | TokenKind::To
             | TokenKind::From
-            | TokenKind::Open => {
-                self.take_plain(next, token);
-                Ok(())
-            }
+            | TokenKind::Open => self.take_plain(token),
         }
     }
 

@@ -1,11 +1,11 @@
 //! The grammar of a text: which token may follow.
-ghost use Rattle.std.specs.Prelude.{◌≡◌};
+ghost use Rattle.std.specs.Prelude.{◌≡◌, ℕ, List};
 ghost use Rattle.goal_parser.specs.Sentence.{item_entry, entry};
 
 use goal_lexer::TokenKind;
 
 /// The state of the grammar between two tokens.
-#[derive(Clone, Copy)]
+#[derive(Clone, Copy, PartialEq, Eq)]
 pub enum State {
     /// Before the first token.
     Start,
@@ -71,6 +71,19 @@ fn item_entry(kind: &TokenKind) -> Option<State>
         TokenKind::Calc => Some(State::Calc1),
         TokenKind::Send => Some(State::Send1),
         TokenKind::Recv => Some(State::Recv1),
+        _ => None,
+    }
+}
+
+/// Returns the state after a label, or `None` if it may not follow.
+#[inline(always)]
+#[tactic(auto, unfolding(crate::specs::Sentence::entry))]
+pub fn label_entry(state: State) -> Option<State>
+    ensures { (label : List ℕ) → result ≡ entry state (TokenKind.Label label) }
+{
+    match state {
+        State::Label => Some(State::Item),
+        State::Item | State::Calc2 | State::Send4 | State::Recv4 => Some(State::Word),
         _ => None,
     }
 }

@@ -1,13 +1,11 @@
-use Rattle.std.proofs.Common.{◌+◌, sym, arith}
+use Rattle.std.proofs.Common.{sym, arith}
 use Rattle.goal_lexer.proofs.FoundAheadLaws.{size_found}
 use Rattle.goal_lexer.proofs.ahead.long_size_ahead.Goals as goal
 
 pub returns-clause-ahead : goal.returns-clause-ahead
 returns-clause-ahead c some place =
     let blanks = c.blanks_ahead-blanks.result in
-    let found = c.leading_digits-count in (
-      place + blanks,
-      size_found place blanks found.result.count found.result.value c.args.rest.now c.blanks_ahead-blanks.ensures (omega arith)
-          c.if-end-rest.false (omega (arith, found.ensures.few)) found.ensures.digits (omega arith)
-          (sym c.if-is_run_byte.ensures) found.ensures.value,
-    )
+    let found = c.leading_digits-count in
+    size_found place blanks found.result.count found.result.value c.args.rest.now c.blanks_ahead-blanks.ensures (omega arith)
+    c.if-end-rest.false (omega (arith, found.ensures.few)) found.ensures.digits (omega arith)
+    (sym c.if-is_run_byte.ensures) found.ensures.value

@@ -7,21 +7,20 @@ use Rattle.goal_parser.specs.Slots.{Keeps, NamesHold}
 use Rattle.goal_parser.proofs.NameLaws.{NamesHold-dep}
 use Rattle.goal_parser.proofs.names.Names.end_dep.Goals as goal
 
-pub returns-in_ok-push-in-Some : goal.returns-in_ok-push-in-Some
-returns-in_ok-push-in-Some c = λ ds us deps notes holds.
+pub returns-in_ok-append-in-Some : goal.returns-in_ok-append-in-Some
+returns-in_ok-append-in-Some c = λ ds us deps notes holds.
     let old = c.args.self.now in
-    let new : Names = record { labels = c.mention-in-Some.new.self; deps = c.push.new.self; notes = old.notes } in
+    let new : Names = record { labels = c.mention-in-Some.new.self; deps = c.append.new.list; notes = old.notes } in
     let s = c.in-Some.subject in
     let u : Mention = record { label = c.args.label.now; at = c.args.at } in
     let verb = c.args.head.now.verb in
     let first = c.in_ok-later-in-Some.ensures in
     let second = c.in_ok-earlier-in-Some.ensures in
     let s_at = c.as_bytes.ensures.bytes in
-    let u_at = c.as_bytes-in-Some.ensures.bytes in
     subst (λ (sub : Option Mention). NamesHold new ds (dep_uses state.Label sub u us) (dep_ended state.Label sub verb u.label deps) notes) (sym c.in-Some.is)
     (NamesHold-dep old new c.mention.new.self ds us deps notes s u verb c.in_ok-later-in-Some.later c.in_ok-earlier-in-Some.earlier
     first.grows second.grows
-    (subst (λ (z : List ℕ × List ℕ). Keeps new.labels.slots ds ((us ++ record { label = z.0; at = s.at } ∷ []) ++ record { label = z.1; at = u.at } ∷ []))
-    (λ i. (s_at i, u_at i)) (second.kept ds _ (first.kept ds us holds.labels)))
-    (record { within = first.within; named = first.label ∙ s_at }) (record { within = second.within; named = second.label ∙ u_at })
-    (c.in_ok-push-in-Some.ensures.items ∙ ap (λ w. old.deps.items ++ record { later = c.in_ok-later-in-Some.later; earlier = c.in_ok-earlier-in-Some.earlier; when = w } ∷ []) c.when_of.ensures) refl holds)
+    (subst (λ (z : List ℕ). Keeps new.labels.slots ds ((us ++ record { label = z; at = s.at } ∷ []) ++ u ∷ []))
+    s_at (second.kept ds _ (first.kept ds us holds.labels)))
+    (record { within = first.within; named = first.label ∙ s_at }) (record { within = second.within; named = second.label })
+    (c.in_ok-append-in-Some.ensures ∙ ap (λ w. old.deps.items ++ record { later = c.in_ok-later-in-Some.later; earlier = c.in_ok-earlier-in-Some.earlier; when = w } ∷ []) c.when_of.ensures) refl holds)

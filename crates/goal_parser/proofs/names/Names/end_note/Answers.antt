@@ -8,11 +8,11 @@ use Rattle.goal_parser.specs.Slots.{Keeps, NamesHold}
 use Rattle.goal_parser.proofs.NameLaws.{NamesHold-note}
 use Rattle.goal_parser.proofs.names.Names.end_note.Goals as goal
 
-pub returns-in_ok-push-in-Note3-Some : goal.returns-in_ok-push-in-Note3-Some
-returns-in_ok-push-in-Note3-Some c = λ ds us deps notes holds.
+pub returns-in_ok-append-in-Note3-Some : goal.returns-in_ok-append-in-Note3-Some
+returns-in_ok-append-in-Note3-Some c = λ ds us deps notes holds.
     let old = c.args.self.now in
     let head = c.args.head.now in
-    let new : Names = record { labels = c.mention.new.self; deps = old.deps; notes = c.push.new.self } in
+    let new : Names = record { labels = c.mention.new.self; deps = old.deps; notes = c.append.new.list } in
     let s = c.in-Note3-Some.subject in
     let is = c.as_bytes.ensures.bytes in
     let done = c.in_ok-op-in-Note3-Some.ensures in
@@ -21,4 +21,4 @@ returns-in_ok-push-in-Note3-Some c = λ ds us deps notes holds.
     (NamesHold-note old new ds us deps notes s head.verb c.in_ok-op-in-Note3-Some.op head.low c.args.second
     done.grows (subst (λ (label : List ℕ). Keeps new.labels.slots ds (us ++ record { label = label; at = s.at } ∷ [])) is (done.kept ds us holds.labels))
     (record { within = done.within; named = done.label ∙ is })
-    refl (c.in_ok-push-in-Note3-Some.ensures.items ∙ ap (λ n. old.notes.items ++ n ∷ []) c.note_as.ensures) holds))
+    refl (c.in_ok-append-in-Note3-Some.ensures ∙ ap (λ n. old.notes.items ++ n ∷ []) c.note_as.ensures) holds))

@@ -4,5 +4,5 @@ use Rattle.goal_parser.proofs.parser.Parser.take_any.Goals as goal
 pub take-requires : goal.take-requires
 take-requires c = record { within = within_any c.args.self.now.state c.args.self.now.draft.option c.args.token.now.kind c.requires.any }
 
-pub returns : goal.returns
-returns c = takes_any c.args.self.now c.args.token.now c.args.next c.take.new.self c.requires.next c.requires.any c.take.ensures.taken
+pub returns-clause-ok : goal.returns-clause-ok
+returns-clause-ok c = takes_any c.args.self.now c.args.token.now c.in_ok-next.next c.take.new.self c.in_ok-next.ensures.ok c.requires.any c.take.ensures.taken

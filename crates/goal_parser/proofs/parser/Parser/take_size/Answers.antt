@@ -3,7 +3,7 @@ use Rattle.goal_parser.proofs.KindLaws.{takes_size, refuses_size, within_size}
 use Rattle.goal_parser.proofs.parser.Parser.take_size.Goals as goal
 
 pub returns-then-not-number_within-clause-fault : goal.returns-then-not-number_within-clause-fault
-returns-then-not-number_within-clause-fault c = λ memory. refuses_size c.args.self.now c.args.token.now c.args.next c.args.value c.requires.next c.requires.size
+returns-then-not-number_within-clause-fault c = λ memory. refuses_size c.args.self.now c.args.token.now c.in_ok-next.next c.args.value c.in_ok-next.ensures.ok c.requires.size
     (sym c.number_within.ensures ∙ c.if-not-number_within.true)
 
 pub take-requires : goal.take-requires
@@ -13,5 +13,5 @@ take-requires c = record {
 }
 
 pub returns-clause-ok : goal.returns-clause-ok
-returns-clause-ok c = takes_size c.args.self.now c.args.token.now c.args.next c.take.new.self c.args.value c.requires.next c.requires.size
+returns-clause-ok c = takes_size c.args.self.now c.args.token.now c.in_ok-next.next c.take.new.self c.args.value c.in_ok-next.ensures.ok c.requires.size
     (sym c.number_within.ensures ∙ c.if-not-number_within.false) c.take.ensures.taken

@@ -1,22 +1,17 @@
-use Rattle.std.proofs.Common.{arith, subst, ℕ, ◌+◌, ◌<◌, false, List, [], ◌∷◌}
-use Rattle.std.proofs.lemmas.List.{take_rest}
-use Rattle.goal_lexer.specs.declared.tokens.TokenKind.TheVariants.{Colon}
-use Rattle.goal_lexer.specs.Ahead.{IsAhead}
+use Rattle.std.proofs.Common.{arith, ◌+◌}
 use Rattle.goal_parser.proofs.reader.Reader.take_label.Goals as goal
 
-pub take_definition-requires-clause-label : goal.take_definition-requires-clause-label
-take_definition-requires-clause-label c =
-    let found = c.label_ahead-label.ensures in
-    let there : 0 < c.label_ahead-label.result = omega arith in
-    record { some = found.some there; short = found.short; ahead = found.ahead there c.args.self.now.place }
+pub go_on-requires-clause-ahead : goal.go_on-requires-clause-ahead
+go_on-requires-clause-ahead c = (_, c.label_ahead-end.ensures.ahead (omega arith) c.args.self.now.place)
 
-pub take_definition-requires-clause-colon : goal.take_definition-requires-clause-colon
-take_definition-requires-clause-colon c place =
-    subst (λ (l : List ℕ). IsAhead place l 1 false (record { kind = Colon; start = place; end = place + 1 } ∷ []))
-    (take_rest c.args.rest.now c.label_ahead-label.result) (c.begins_with_colon.ensures c.if-begins_with_colon.true place)
+pub returns-clause-ahead : goal.returns-clause-ahead
+returns-clause-ahead c =
+    let place = c.args.self.now.place in
+    c.go_on.ensures.ahead c.args.self.now.parser _ (c.label_ahead-end.ensures.ahead (omega arith) place)
+    (c.take_label-taken.ensures.ok (place + c.label_ahead-end.result))
 
-pub take_labelled-requires-clause-label : goal.take_labelled-requires-clause-label
-take_labelled-requires-clause-label c =
-    let found = c.label_ahead-label.ensures in
-    let there : 0 < c.label_ahead-label.result = omega arith in
-    record { some = found.some there; short = found.short; ahead = found.ahead there c.args.self.now.place }
+pub returns-clause-fault : goal.returns-clause-fault
+returns-clause-fault c =
+    let place = c.args.self.now.place in
+    c.go_on.ensures.fault c.args.self.now.parser _ (c.label_ahead-end.ensures.ahead (omega arith) place)
+    (c.take_label-taken.ensures.fault (place + c.label_ahead-end.result))
