@@ -32,11 +32,11 @@ ends_in_star-push (a ∷ []) c = refl
 ends_in_star-push (a ∷ b ∷ cs) c = ends_in_star-push (b ∷ cs) c
 
 -- the bytes before the `*`
-pub before_star : (inside : List ℕ) → ends_in_star inside ≡ true → (before : List ℕ) × (inside ≡ before ++ star ∷ [])
-before_star [] is = cc
-before_star (c ∷ []) is = let same : c ≡ star = grind (arith, nat_tests) in ([], ap (λ (b : ℕ). b ∷ []) same)
-before_star (c ∷ d ∷ cs) is =
-    let known = before_star (d ∷ cs) is in (c ∷ known.0, ap (λ (t : List ℕ). c ∷ t) known.1)
+pub bytes_before_star : (inside : List ℕ) → ends_in_star inside ≡ true → (before : List ℕ) × (inside ≡ before ++ star ∷ [])
+bytes_before_star [] is = cc
+bytes_before_star (c ∷ []) is = let same : c ≡ star = grind (arith, nat_tests) in ([], ap (λ (b : ℕ). b ∷ []) same)
+bytes_before_star (c ∷ d ∷ cs) is =
+    let known = bytes_before_star (d ∷ cs) is in (c ∷ known.0, ap (λ (t : List ℕ). c ∷ t) known.1)
 
 -- a prefix of bytes without `*/`
 pub has_close-front : (xs ys : List ℕ) → has_close (xs ++ ys) ≡ false → has_close xs ≡ false

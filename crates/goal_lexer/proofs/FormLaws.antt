@@ -53,25 +53,25 @@ form_of-none [] ys some none = absurd (some refl)
 form_of-none (c ∷ cs) ys some none = forms-append (first_form c) cs ys ∙ ap (λ (f : Option Form). forms_with f ys) none
 
 -- after a word: run bytes
-words_more : (b : Bool) (c : ℕ) (cs : List ℕ) (form : Form) → is_run_byte c ≡ b →
+form_after_word_and_byte : (b : Bool) (c : ℕ) (cs : List ℕ) (form : Form) → is_run_byte c ≡ b →
     (forms_with (Some Word) cs ≡ Some form → (Word ≡ form) × Each is_run_byte cs) →
     forms_with (if b then Some Word else None) cs ≡ Some form → (Word ≡ form) × Each is_run_byte (c ∷ cs)
-words_more true c cs form in_run more has = ((more has).0, (in_run, (more has).1))
-words_more false c cs form in_run more has = cc
+form_after_word_and_byte true c cs form in_run more has = ((more has).0, (in_run, (more has).1))
+form_after_word_and_byte false c cs form in_run more has = cc
 
-words : (cs : List ℕ) (form : Form) → forms_with (Some Word) cs ≡ Some form → (Word ≡ form) × Each is_run_byte cs
-words [] form has = (cc, tt)
-words (c ∷ cs) form has = words_more (is_run_byte c) c cs form refl (words cs form) has
+form_after_word : (cs : List ℕ) (form : Form) → forms_with (Some Word) cs ≡ Some form → (Word ≡ form) × Each is_run_byte cs
+form_after_word [] form has = (cc, tt)
+form_after_word (c ∷ cs) form has = form_after_word_and_byte (is_run_byte c) c cs form refl (form_after_word cs form) has
 
 -- after a size: nothing
-sized_more : (b : Bool) (c : ℕ) (cs : List ℕ) (form : Form) →
+form_after_size_and_byte : (b : Bool) (c : ℕ) (cs : List ℕ) (form : Form) →
     forms_with (if b then None else None) cs ≡ Some form → (Sized ≡ form) × (c ∷ cs ≡ [])
-sized_more true c cs form has = cc
-sized_more false c cs form has = cc
+form_after_size_and_byte true c cs form has = cc
+form_after_size_and_byte false c cs form has = cc
 
-sized : (cs : List ℕ) (form : Form) → forms_with (Some Sized) cs ≡ Some form → (Sized ≡ form) × (cs ≡ [])
-sized [] form has = (cc, refl)
-sized (c ∷ cs) form has = sized_more (is_run_byte c) c cs form has
+form_after_size : (cs : List ℕ) (form : Form) → forms_with (Some Sized) cs ≡ Some form → (Sized ≡ form) × (cs ≡ [])
+form_after_size [] form has = (cc, refl)
+form_after_size (c ∷ cs) form has = form_after_size_and_byte (is_run_byte c) c cs form has
 
 -- after digits: digits, and at most one mark of a size
 abbrev BehindDigits : Form → List ℕ → Type 0
@@ -79,76 +79,76 @@ BehindDigits Word cs = ⊥
 BehindDigits Digits cs = Each is_digit cs
 BehindDigits Sized cs = (digits : List ℕ) × (cs ≡ digits ++ size_mark ∷ []) × Each is_digit digits
 
-one_digit_more : (form : Form) (c : ℕ) (cs : List ℕ) → is_digit c ≡ true → BehindDigits form cs → BehindDigits form (c ∷ cs)
-one_digit_more Word c cs digit behind = behind
-one_digit_more Digits c cs digit behind = (digit, behind)
-one_digit_more Sized c cs digit behind = (c ∷ behind.0, ap (λ (t : List ℕ). c ∷ t) behind.1, (digit, behind.2))
+digit_before_behind_digits : (form : Form) (c : ℕ) (cs : List ℕ) → is_digit c ≡ true → BehindDigits form cs → BehindDigits form (c ∷ cs)
+digit_before_behind_digits Word c cs digit behind = behind
+digit_before_behind_digits Digits c cs digit behind = (digit, behind)
+digit_before_behind_digits Sized c cs digit behind = (c ∷ behind.0, ap (λ (t : List ℕ). c ∷ t) behind.1, (digit, behind.2))
 
-digits_more : (r d m : Bool) (c : ℕ) (cs : List ℕ) (form : Form) → is_digit c ≡ d → (c == size_mark) ≡ m →
+form_after_digits_and_byte : (r d m : Bool) (c : ℕ) (cs : List ℕ) (form : Form) → is_digit c ≡ d → (c == size_mark) ≡ m →
     (forms_with (Some Digits) cs ≡ Some form → BehindDigits form cs) →
     forms_with (if r then (if d then Some Digits else (if m then Some Sized else None)) else None) cs ≡ Some form →
     BehindDigits form (c ∷ cs)
-digits_more false d m c cs form is_d is_m more has = cc
-digits_more true true m c cs form is_d is_m more has = one_digit_more form c cs is_d (more has)
-digits_more true false false c cs form is_d is_m more has = cc
-digits_more true false true c cs form is_d is_m more has =
-    let known = sized cs form has in
+form_after_digits_and_byte false d m c cs form is_d is_m more has = cc
+form_after_digits_and_byte true true m c cs form is_d is_m more has = digit_before_behind_digits form c cs is_d (more has)
+form_after_digits_and_byte true false false c cs form is_d is_m more has = cc
+form_after_digits_and_byte true false true c cs form is_d is_m more has =
+    let known = form_after_size cs form has in
     let mark : c ≡ size_mark = grind (arith, nat_tests) in
     subst (λ (f : Form). BehindDigits f (c ∷ cs)) known.0
     ([], ap (λ (t : List ℕ). c ∷ t) known.1 ∙ ap (λ (b : ℕ). b ∷ []) mark, tt)
 
-digits : (cs : List ℕ) (form : Form) → forms_with (Some Digits) cs ≡ Some form → BehindDigits form cs
-digits [] form has = let is : Digits ≡ form = cc in subst (λ (f : Form). BehindDigits f []) is tt
-digits (c ∷ cs) form has = digits_more (is_run_byte c) (is_digit c) (c == size_mark) c cs form refl refl (digits cs form) has
+form_after_digits : (cs : List ℕ) (form : Form) → forms_with (Some Digits) cs ≡ Some form → BehindDigits form cs
+form_after_digits [] form has = let is : Digits ≡ form = cc in subst (λ (f : Form). BehindDigits f []) is tt
+form_after_digits (c ∷ cs) form has = form_after_digits_and_byte (is_run_byte c) (is_digit c) (c == size_mark) c cs form refl refl (form_after_digits cs form) has
 
 -- digits after a first digit, and at most one mark after them
-digits_first : (form : Form) (c : ℕ) (cs : List ℕ) → is_digit c ≡ true → BehindDigits form cs → HasForm form (c ∷ cs)
-digits_first Word c cs digit behind = absurd behind
-digits_first Digits c cs digit behind = (digit, behind)
-digits_first Sized c cs digit behind = (c ∷ behind.0, ap (λ (t : List ℕ). c ∷ t) behind.1, (digit, behind.2))
+form_of_first_digit : (form : Form) (c : ℕ) (cs : List ℕ) → is_digit c ≡ true → BehindDigits form cs → HasForm form (c ∷ cs)
+form_of_first_digit Word c cs digit behind = absurd behind
+form_of_first_digit Digits c cs digit behind = (digit, behind)
+form_of_first_digit Sized c cs digit behind = (c ∷ behind.0, ap (λ (t : List ℕ). c ∷ t) behind.1, (digit, behind.2))
 
 -- the form that the scan finds is the form of the run
-from_first : (b d : Bool) (c : ℕ) (cs : List ℕ) (form : Form) → begins_word c ≡ b → is_digit c ≡ d →
+form_from_first_byte : (b d : Bool) (c : ℕ) (cs : List ℕ) (form : Form) → begins_word c ≡ b → is_digit c ≡ d →
     forms_with (if b then Some Word else (if d then Some Digits else None)) cs ≡ Some form → HasForm form (c ∷ cs)
-from_first true d c cs form is_b is_d has =
-    let known = words cs form has in subst (λ (f : Form). HasForm f (c ∷ cs)) known.0 (is_b, known.1)
-from_first false true c cs form is_b is_d has = digits_first form c cs is_d (digits cs form has)
-from_first false false c cs form is_b is_d has = cc
+form_from_first_byte true d c cs form is_b is_d has =
+    let known = form_after_word cs form has in subst (λ (f : Form). HasForm f (c ∷ cs)) known.0 (is_b, known.1)
+form_from_first_byte false true c cs form is_b is_d has = form_of_first_digit form c cs is_d (form_after_digits cs form has)
+form_from_first_byte false false c cs form is_b is_d has = cc
 
-pub has_form : (bytes : List ℕ) (form : Form) → form_of bytes ≡ Some form → HasForm form bytes
-has_form [] form has = cc
-has_form (c ∷ cs) form has = from_first (begins_word c) (is_digit c) c cs form refl refl has
+pub form_of_has_form : (bytes : List ℕ) (form : Form) → form_of bytes ≡ Some form → HasForm form bytes
+form_of_has_form [] form has = cc
+form_of_has_form (c ∷ cs) form has = form_from_first_byte (begins_word c) (is_digit c) c cs form refl refl has
 
 -- and conversely
-words_back : (cs : List ℕ) → Each is_run_byte cs → forms_with (Some Word) cs ≡ Some Word
-words_back [] each = refl
-words_back (c ∷ cs) each =
-    ap (λ (b : Bool). forms_with (if b then Some Word else None) cs) each.0 ∙ words_back cs each.1
+run_bytes_keep_word : (cs : List ℕ) → Each is_run_byte cs → forms_with (Some Word) cs ≡ Some Word
+run_bytes_keep_word [] each = refl
+run_bytes_keep_word (c ∷ cs) each =
+    ap (λ (b : Bool). forms_with (if b then Some Word else None) cs) each.0 ∙ run_bytes_keep_word cs each.1
 
-digits_back : (cs ys : List ℕ) → Each is_digit cs → forms_with (Some Digits) (cs ++ ys) ≡ forms_with (Some Digits) ys
-digits_back [] ys each = refl
-digits_back (c ∷ cs) ys each =
+digits_keep_digits : (cs ys : List ℕ) → Each is_digit cs → forms_with (Some Digits) (cs ++ ys) ≡ forms_with (Some Digits) ys
+digits_keep_digits [] ys each = refl
+digits_keep_digits (c ∷ cs) ys each =
     ap (λ (b : Bool). forms_with (if b then form_with Digits c else None) (cs ++ ys)) (digit_in_run c each.0)
     ∙ ap (λ (b : Bool). forms_with (if b then Some Digits else (if c == size_mark then Some Sized else None)) (cs ++ ys)) each.0
-    ∙ digits_back cs ys each.1
+    ∙ digits_keep_digits cs ys each.1
 
 digit_first : (c : ℕ) → is_digit c ≡ true → first_form c ≡ Some Digits
 digit_first c digit =
     ap (λ (b : Bool). if b then Some Word else (if is_digit c then Some Digits else None)) (digit_no_word c digit)
     ∙ ap (λ (b : Bool). if b then Some Digits else None) digit
 
-digits_of : (bytes ys : List ℕ) → AreDigits bytes → form_of (bytes ++ ys) ≡ forms_with (Some Digits) ys
-digits_of [] ys are = absurd are
-digits_of (c ∷ cs) ys are =
-    ap (λ (f : Option Form). forms_with f (cs ++ ys)) (digit_first c are.0) ∙ digits_back cs ys are.1
+form_of_digits_and_more : (bytes ys : List ℕ) → AreDigits bytes → form_of (bytes ++ ys) ≡ forms_with (Some Digits) ys
+form_of_digits_and_more [] ys are = absurd are
+form_of_digits_and_more (c ∷ cs) ys are =
+    ap (λ (f : Option Form). forms_with f (cs ++ ys)) (digit_first c are.0) ∙ digits_keep_digits cs ys are.1
 
-pub form_from : (form : Form) (bytes : List ℕ) → HasForm form bytes → form_of bytes ≡ Some form
-form_from Word [] has = absurd has
-form_from Word (c ∷ cs) has =
+pub has_form_form_of : (form : Form) (bytes : List ℕ) → HasForm form bytes → form_of bytes ≡ Some form
+has_form_form_of Word [] has = absurd has
+has_form_form_of Word (c ∷ cs) has =
     ap (λ (b : Bool). forms_with (if b then Some Word else (if is_digit c then Some Digits else None)) cs) has.0
-    ∙ words_back cs has.1
-form_from Digits bytes has = ap form_of (sym (append-nil bytes)) ∙ digits_of bytes [] has
-form_from Sized bytes has = ap form_of has.1 ∙ digits_of has.0 (size_mark ∷ []) has.2
+    ∙ run_bytes_keep_word cs has.1
+has_form_form_of Digits bytes has = ap form_of (sym (append-nil bytes)) ∙ form_of_digits_and_more bytes [] has
+has_form_form_of Sized bytes has = ap form_of has.1 ∙ form_of_digits_and_more has.0 (size_mark ∷ []) has.2
 
 -- the first byte of a run is a run byte
 pub first_in_run : (form : Form) (bytes : List ℕ) → HasForm form bytes →

@@ -12,22 +12,22 @@ use Rattle.goal_lexer.specs.Stands.{Stands, handed, so_far, begins_run}
 use Rattle.goal_lexer.proofs.StandsLaws.{scanned-append, goes_on, finishes, no_fault_in_run}
 
 -- bytes that close what is open
-closed_by : (mode : Mode) (place : ℕ) → IsSound mode → (more : List ℕ) × (fault_at_end (scan mode place more).0 ≡ None)
+mode_can_be_closed : (mode : Mode) (place : ℕ) → IsSound mode → (more : List ℕ) × (fault_at_end (scan mode place more).0 ≡ None)
 unfolding scan
-closed_by Between place sound = ([], refl)
-closed_by (Run start bytes form) place sound = ([], refl)
-closed_by (Slash start) place sound = (slash ∷ [], refl)
-closed_by (LineComment start) place sound = ([], refl)
-closed_by (BlockComment start true) place sound = (slash ∷ [], refl)
-closed_by (BlockComment start false) place sound = (star ∷ slash ∷ [], refl)
-closed_by (Failed at) place sound = absurd sound
+mode_can_be_closed Between place sound = ([], refl)
+mode_can_be_closed (Run start bytes form) place sound = ([], refl)
+mode_can_be_closed (Slash start) place sound = (slash ∷ [], refl)
+mode_can_be_closed (LineComment start) place sound = ([], refl)
+mode_can_be_closed (BlockComment start true) place sound = (slash ∷ [], refl)
+mode_can_be_closed (BlockComment start false) place sound = (star ∷ slash ∷ [], refl)
+mode_can_be_closed (Failed at) place sound = absurd sound
 
 -- the same for the parts of the lexer
 goes_on_from : (mode : Mode) (place : ℕ) (ends : Bool) (text : List ℕ) →
     Stands (record { mode = mode; place = place; ends_run = ends }) text →
     (more : List ℕ) × ((lexed (text ++ more)).1 ≡ None)
 goes_on_from mode place false text stands =
-    let known = closed_by mode (length text) stands.sound in (
+    let known = mode_can_be_closed mode (length text) stands.sound in (
       known.0,
       ap (λ (r : Scanned). fault_at_end r.0) (scanned-append text known.0)
           ∙ ap (λ (m : Mode). fault_at_end (scan m (length text) known.0).0) stands.open_there
@@ -40,15 +40,15 @@ pub text_goes_on : (lexer : LexState) (text : List ℕ) → Stands lexer text �
 text_goes_on lexer text stands = goes_on_from lexer.mode lexer.place lexer.ends_run text stands
 
 -- the tokens returned are the first of the continued text, for the parts of the lexer
-first_from : (mode : Mode) (place : ℕ) (ends : Bool) (text more : List ℕ) →
+tokens_are_first_from : (mode : Mode) (place : ℕ) (ends : Bool) (text more : List ℕ) →
     Stands (record { mode = mode; place = place; ends_run = ends }) text → (ends ≡ true → begins_run more ≡ false) →
     (later : List Token) × ((lexed (text ++ more)).0 ≡ (so_far ends text).1 ++ later)
-first_from mode place ends text [] stands apart = (
+tokens_are_first_from mode place ends text [] stands apart = (
   closing place mode,
   ap (λ (t : List ℕ). (lexed t).0) (append-nil text)
       ∙ ap (λ (r : List Token × Option ℕ). r.0) (finishes mode place ends text stands),
 )
-first_from mode place ends text (c ∷ cs) stands apart =
+tokens_are_first_from mode place ends text (c ∷ cs) stands apart =
     let end = length (text ++ c ∷ cs) in
     let rest = scan mode place (c ∷ cs) in (
       rest.1 ++ closing end rest.0,
@@ -59,4 +59,4 @@ first_from mode place ends text (c ∷ cs) stands apart =
 pub first_tokens : (lexer : LexState) (text more : List ℕ) → Stands lexer text →
     (lexer.ends_run ≡ true → begins_run more ≡ false) →
     (later : List Token) × ((lexed (text ++ more)).0 ≡ handed lexer text ++ later)
-first_tokens lexer text more stands apart = first_from lexer.mode lexer.place lexer.ends_run text more stands apart
+first_tokens lexer text more stands apart = tokens_are_first_from lexer.mode lexer.place lexer.ends_run text more stands apart

@@ -8,7 +8,7 @@ use Rattle.goal_lexer.specs.Scan.{form_with}
 use Rattle.goal_lexer.specs.Stands.{begins_run}
 use Rattle.goal_lexer.specs.Pieces.{blank, line_comment, block_comment, run, sign, Each, HasForm, has_close, sign_kind, NothingBegins}
 use Rattle.goal_lexer.proofs.ByteLaws.{run_no_blank, run_no_slash, run_no_sign, slash_no_blank, slash_no_sign}
-use Rattle.goal_lexer.proofs.FormLaws.{form_of, forms_with, first_form, form_from, has_form, first_in_run, form_of-none}
+use Rattle.goal_lexer.proofs.FormLaws.{form_of, forms_with, first_form, has_form_form_of, form_of_has_form, first_in_run, form_of-none}
 use Rattle.goal_lexer.proofs.CommentLaws.{has_close-found}
 
 -- a run at the front begins with a run byte
@@ -71,15 +71,15 @@ nothing_in_comment inside none (run form bytes) after same right =
 nothing_in_comment inside none (sign b) after same right = let head : b ≡ slash = cc in slash_no_sign b head right
 
 -- a longest run takes all run bytes at the front
-longest : (front bytes more after : List ℕ) → Each is_run_byte front → begins_run after ≡ false →
+longest_run_takes_front : (front bytes more after : List ℕ) → Each is_run_byte front → begins_run after ≡ false →
     front ++ more ≡ bytes ++ after → (tail : List ℕ) × (bytes ≡ front ++ tail)
-longest [] bytes more after each apart same = (bytes, refl)
-longest (f ∷ fs) [] more after each apart same =
+longest_run_takes_front [] bytes more after each apart same = (bytes, refl)
+longest_run_takes_front (f ∷ fs) [] more after each apart same =
     absurd (false≢true (sym apart ∙ ap begins_run (sym same) ∙ each.0))
-longest (f ∷ fs) (b ∷ bs) more after each apart same =
+longest_run_takes_front (f ∷ fs) (b ∷ bs) more after each apart same =
     let head : b ≡ f = cc in
     let tails : fs ++ more ≡ bs ++ after = cc in
-    let known = longest fs bs more after each.1 apart tails in
+    let known = longest_run_takes_front fs bs more after each.1 apart tails in
     (known.0, ap (λ (c : ℕ). c ∷ bs) head ∙ ap (λ (t : List ℕ). f ∷ t) known.1)
 
 -- run bytes at the front that no run begins with
@@ -93,8 +93,8 @@ nothing_in_run c cs more each doomed (line_comment inside) after same right =
 nothing_in_run c cs more each doomed (block_comment inside) after same right =
     let head : c ≡ slash = cc in run_no_slash c each.0 head
 nothing_in_run c cs more each doomed (run form bytes) after same right =
-    let known = longest (c ∷ cs) bytes more after each right.2 same in
-    doomed known.0 form (ap form_of (sym known.1) ∙ form_from form bytes right.0)
+    let known = longest_run_takes_front (c ∷ cs) bytes more after each right.2 same in
+    doomed known.0 form (ap form_of (sym known.1) ∙ has_form_form_of form bytes right.0)
     (subst (λ (t : List ℕ). length t ≤ 64) known.1 right.1)
 nothing_in_run c cs more each doomed (sign b) after same right =
     let head : c ≡ b = cc in run_no_sign b (ap is_run_byte (sym head) ∙ each.0) right
@@ -115,7 +115,7 @@ each_run (Some form) (c ∷ cs) last has =
 pub run_bytes : (bytes : List ℕ) (form : Form) → form_of bytes ≡ Some form → Each is_run_byte bytes
 run_bytes [] form has = tt
 run_bytes (c ∷ cs) form has =
-    (run_in_front form (c ∷ cs) [] c cs (sym (append-nil (c ∷ cs))) (has_form (c ∷ cs) form has), each_run (first_form c) cs form has)
+    (run_in_front form (c ∷ cs) [] c cs (sym (append-nil (c ∷ cs))) (form_of_has_form (c ∷ cs) form has), each_run (first_form c) cs form has)
 
 pub Each-push : (test : ℕ → Bool) (cs : List ℕ) (c : ℕ) → Each test cs → test c ≡ true → Each test (cs ++ c ∷ [])
 Each-push test [] c each passes = (passes, tt)

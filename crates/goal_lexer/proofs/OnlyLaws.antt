@@ -7,7 +7,7 @@ use Rattle.goal_lexer.specs.Scan.{lexed}
 use Rattle.goal_lexer.specs.Stands.{begins_run}
 use Rattle.goal_lexer.specs.Pieces.{Piece, blank, line_comment, block_comment, run, sign, bytes_of, Each, HasForm, has_close, EndsLine, sign_kind, IsRight, spelled, AreRight, IsCutInto, tokens_of, NothingBegins, EndsWith}
 use Rattle.goal_lexer.proofs.ByteLaws.{run_no_blank, run_no_slash, run_no_sign, slash_no_blank, slash_no_sign, blank_no_sign}
-use Rattle.goal_lexer.proofs.FormLaws.{form_of, form_from, first_in_run}
+use Rattle.goal_lexer.proofs.FormLaws.{form_of, has_form_form_of, first_in_run}
 use Rattle.goal_lexer.proofs.CommentLaws.{has_close-tail}
 use Rattle.goal_lexer.proofs.NothingLaws.{run_in_front, run_bytes}
 use Rattle.goal_lexer.proofs.ReadingLaws.{in_line, reading_of}
@@ -18,17 +18,17 @@ starts test [] = false
 starts test (c ∷ cs) = test c
 
 -- the longest prefix of bytes that pass a test is unique
-one_front : (test : ℕ → Bool) (xs ys a b : List ℕ) → Each test xs → Each test ys → starts test a ≡ false → starts test b ≡ false →
+longest_prefix_unique : (test : ℕ → Bool) (xs ys a b : List ℕ) → Each test xs → Each test ys → starts test a ≡ false → starts test b ≡ false →
     xs ++ a ≡ ys ++ b → (xs ≡ ys) × (a ≡ b)
-one_front test [] [] a b each_x each_y stop_a stop_b same = (refl, same)
-one_front test [] (y ∷ ys) a b each_x each_y stop_a stop_b same =
+longest_prefix_unique test [] [] a b each_x each_y stop_a stop_b same = (refl, same)
+longest_prefix_unique test [] (y ∷ ys) a b each_x each_y stop_a stop_b same =
     absurd (false≢true (sym stop_a ∙ ap (starts test) same ∙ each_y.0))
-one_front test (x ∷ xs) [] a b each_x each_y stop_a stop_b same =
+longest_prefix_unique test (x ∷ xs) [] a b each_x each_y stop_a stop_b same =
     absurd (false≢true (sym stop_b ∙ ap (starts test) (sym same) ∙ each_x.0))
-one_front test (x ∷ xs) (y ∷ ys) a b each_x each_y stop_a stop_b same =
+longest_prefix_unique test (x ∷ xs) (y ∷ ys) a b each_x each_y stop_a stop_b same =
     let head : x ≡ y = cc in
     let tails : xs ++ a ≡ ys ++ b = cc in
-    let known = one_front test xs ys a b each_x.1 each_y.1 stop_a stop_b tails in
+    let known = longest_prefix_unique test xs ys a b each_x.1 each_y.1 stop_a stop_b tails in
     (ap (λ (c : ℕ). c ∷ xs) head ∙ ap (λ (t : List ℕ). y ∷ t) known.0, known.1)
 
 run_stops : (after : List ℕ) → begins_run after ≡ false → starts is_run_byte after ≡ false
@@ -40,109 +40,109 @@ line_stops [] ends = refl
 line_stops (c ∷ cs) ends = ap in_line ends
 
 -- the first `*/` is unique
-one_close : (xs ys a b : List ℕ) → has_close xs ≡ false → has_close ys ≡ false →
+first_close_unique : (xs ys a b : List ℕ) → has_close xs ≡ false → has_close ys ≡ false →
     xs ++ star ∷ slash ∷ a ≡ ys ++ star ∷ slash ∷ b → (xs ≡ ys) × (a ≡ b)
-one_close [] [] a b none_x none_y same = (refl, cc)
-one_close [] (y ∷ []) a b none_x none_y same = let no : slash ≡ star = cc in absurd (omega arith)
-one_close [] (y ∷ z ∷ ys) a b none_x none_y same =
+first_close_unique [] [] a b none_x none_y same = (refl, cc)
+first_close_unique [] (y ∷ []) a b none_x none_y same = let no : slash ≡ star = cc in absurd (omega arith)
+first_close_unique [] (y ∷ z ∷ ys) a b none_x none_y same =
     let first : y ≡ star = cc in
     let second : z ≡ slash = cc in
     absurd (false≢true (sym none_y ∙ ap (λ (c : ℕ). has_close (c ∷ z ∷ ys)) first ∙ ap (λ (d : ℕ). has_close (star ∷ d ∷ ys)) second))
-one_close (x ∷ []) [] a b none_x none_y same = let no : slash ≡ star = cc in absurd (omega arith)
-one_close (x ∷ z ∷ xs) [] a b none_x none_y same =
+first_close_unique (x ∷ []) [] a b none_x none_y same = let no : slash ≡ star = cc in absurd (omega arith)
+first_close_unique (x ∷ z ∷ xs) [] a b none_x none_y same =
     let first : x ≡ star = cc in
     let second : z ≡ slash = cc in
     absurd (false≢true (sym none_x ∙ ap (λ (c : ℕ). has_close (c ∷ z ∷ xs)) first ∙ ap (λ (d : ℕ). has_close (star ∷ d ∷ xs)) second))
-one_close (x ∷ xs) (y ∷ ys) a b none_x none_y same =
+first_close_unique (x ∷ xs) (y ∷ ys) a b none_x none_y same =
     let head : x ≡ y = cc in
     let tails : xs ++ star ∷ slash ∷ a ≡ ys ++ star ∷ slash ∷ b = cc in
-    let known = one_close xs ys a b (has_close-tail x xs none_x) (has_close-tail y ys none_y) tails in
+    let known = first_close_unique xs ys a b (has_close-tail x xs none_x) (has_close-tail y ys none_y) tails in
     (ap (λ (c : ℕ). c ∷ xs) head ∙ ap (λ (t : List ℕ). y ∷ t) known.0, known.1)
 
-one_block : (xs ys a b : List ℕ) → has_close xs ≡ false → has_close ys ≡ false →
+block_comment_unique : (xs ys a b : List ℕ) → has_close xs ≡ false → has_close ys ≡ false →
     xs ++ star ∷ slash ∷ [] ++ a ≡ ys ++ star ∷ slash ∷ [] ++ b → (xs ≡ ys) × (a ≡ b)
-one_block xs ys a b none_x none_y same =
-    one_close xs ys a b none_x none_y
+block_comment_unique xs ys a b none_x none_y same =
+    first_close_unique xs ys a b none_x none_y
     (sym (append_assoc xs (star ∷ slash ∷ []) a) ∙ same ∙ append_assoc ys (star ∷ slash ∷ []) b)
 
 -- two runs at the front are the same
-one_run : (f g : Form) (xs ys a b : List ℕ) → HasForm f xs → HasForm g ys → begins_run a ≡ false → begins_run b ≡ false →
+run_unique : (f g : Form) (xs ys a b : List ℕ) → HasForm f xs → HasForm g ys → begins_run a ≡ false → begins_run b ≡ false →
     xs ++ a ≡ ys ++ b → (run f xs ≡ run g ys) × (a ≡ b)
-one_run f g xs ys a b has_f has_g apart_a apart_b same =
-    let found_f = form_from f xs has_f in
-    let found_g = form_from g ys has_g in
-    let known = one_front is_run_byte xs ys a b (run_bytes xs f found_f) (run_bytes ys g found_g) (run_stops a apart_a) (run_stops b apart_b) same in
+run_unique f g xs ys a b has_f has_g apart_a apart_b same =
+    let found_f = has_form_form_of f xs has_f in
+    let found_g = has_form_form_of g ys has_g in
+    let known = longest_prefix_unique is_run_byte xs ys a b (run_bytes xs f found_f) (run_bytes ys g found_g) (run_stops a apart_a) (run_stops b apart_b) same in
     let forms : Some f ≡ Some g = sym found_f ∙ ap form_of known.0 ∙ found_g in
     let form : f ≡ g = cc in
     (ap (λ (h : Form). run h xs) form ∙ ap (λ (t : List ℕ). run g t) known.0, known.1)
 
 -- two pieces at the front of a text are the same
-one_piece : (p q : Piece) (a b : List ℕ) → bytes_of p ++ a ≡ bytes_of q ++ b → IsRight p a → IsRight q b → (p ≡ q) × (a ≡ b)
-one_piece (blank c) (blank d) a b same right_p right_q = let head : c ≡ d = cc in (ap (λ (e : ℕ). blank e) head, cc)
-one_piece (blank c) (line_comment j) a b same right_p right_q =
+first_piece_unique : (p q : Piece) (a b : List ℕ) → bytes_of p ++ a ≡ bytes_of q ++ b → IsRight p a → IsRight q b → (p ≡ q) × (a ≡ b)
+first_piece_unique (blank c) (blank d) a b same right_p right_q = let head : c ≡ d = cc in (ap (λ (e : ℕ). blank e) head, cc)
+first_piece_unique (blank c) (line_comment j) a b same right_p right_q =
     let head : c ≡ slash = cc in absurd (slash_no_blank c head right_p)
-one_piece (blank c) (block_comment j) a b same right_p right_q =
+first_piece_unique (blank c) (block_comment j) a b same right_p right_q =
     let head : c ≡ slash = cc in absurd (slash_no_blank c head right_p)
-one_piece (blank c) (run g ys) a b same right_p right_q =
+first_piece_unique (blank c) (run g ys) a b same right_p right_q =
     absurd (run_no_blank c (run_in_front g ys b c a same right_q.0) right_p)
-one_piece (blank c) (sign d) a b same right_p right_q =
+first_piece_unique (blank c) (sign d) a b same right_p right_q =
     let head : d ≡ c = cc in absurd (blank_no_sign c right_p (subst (λ (e : ℕ). IsSome (sign_kind e)) head right_q))
-one_piece (line_comment i) (blank d) a b same right_p right_q =
+first_piece_unique (line_comment i) (blank d) a b same right_p right_q =
     let head : d ≡ slash = cc in absurd (slash_no_blank d head right_q)
-one_piece (line_comment i) (line_comment j) a b same right_p right_q =
+first_piece_unique (line_comment i) (line_comment j) a b same right_p right_q =
     let tails : i ++ a ≡ j ++ b = cc in
-    let known = one_front in_line i j a b right_p.0 right_q.0 (line_stops a right_p.1) (line_stops b right_q.1) tails in
+    let known = longest_prefix_unique in_line i j a b right_p.0 right_q.0 (line_stops a right_p.1) (line_stops b right_q.1) tails in
     (ap (λ (t : List ℕ). line_comment t) known.0, known.1)
-one_piece (line_comment i) (block_comment j) a b same right_p right_q =
+first_piece_unique (line_comment i) (block_comment j) a b same right_p right_q =
     let no : slash ≡ star = cc in absurd (omega arith)
-one_piece (line_comment i) (run g ys) a b same right_p right_q =
+first_piece_unique (line_comment i) (run g ys) a b same right_p right_q =
     absurd (run_no_slash slash (run_in_front g ys b slash (slash ∷ i ++ a) same right_q.0) refl)
-one_piece (line_comment i) (sign d) a b same right_p right_q =
+first_piece_unique (line_comment i) (sign d) a b same right_p right_q =
     let head : d ≡ slash = cc in absurd (slash_no_sign d head right_q)
-one_piece (block_comment i) (blank d) a b same right_p right_q =
+first_piece_unique (block_comment i) (blank d) a b same right_p right_q =
     let head : d ≡ slash = cc in absurd (slash_no_blank d head right_q)
-one_piece (block_comment i) (line_comment j) a b same right_p right_q =
+first_piece_unique (block_comment i) (line_comment j) a b same right_p right_q =
     let no : star ≡ slash = cc in absurd (omega arith)
-one_piece (block_comment i) (block_comment j) a b same right_p right_q =
+first_piece_unique (block_comment i) (block_comment j) a b same right_p right_q =
     let tails : i ++ star ∷ slash ∷ [] ++ a ≡ j ++ star ∷ slash ∷ [] ++ b = cc in
-    let known = one_block i j a b right_p right_q tails in
+    let known = block_comment_unique i j a b right_p right_q tails in
     (ap (λ (t : List ℕ). block_comment t) known.0, known.1)
-one_piece (block_comment i) (run g ys) a b same right_p right_q =
+first_piece_unique (block_comment i) (run g ys) a b same right_p right_q =
     absurd (run_no_slash slash (run_in_front g ys b slash (star ∷ i ++ star ∷ slash ∷ [] ++ a) same right_q.0) refl)
-one_piece (block_comment i) (sign d) a b same right_p right_q =
+first_piece_unique (block_comment i) (sign d) a b same right_p right_q =
     let head : d ≡ slash = cc in absurd (slash_no_sign d head right_q)
-one_piece (run f xs) (blank d) a b same right_p right_q =
+first_piece_unique (run f xs) (blank d) a b same right_p right_q =
     absurd (run_no_blank d (run_in_front f xs a d b (sym same) right_p.0) right_q)
-one_piece (run f xs) (line_comment j) a b same right_p right_q =
+first_piece_unique (run f xs) (line_comment j) a b same right_p right_q =
     absurd (run_no_slash slash (run_in_front f xs a slash (slash ∷ j ++ b) (sym same) right_p.0) refl)
-one_piece (run f xs) (block_comment j) a b same right_p right_q =
+first_piece_unique (run f xs) (block_comment j) a b same right_p right_q =
     absurd (run_no_slash slash (run_in_front f xs a slash (star ∷ j ++ star ∷ slash ∷ [] ++ b) (sym same) right_p.0) refl)
-one_piece (run f xs) (run g ys) a b same right_p right_q =
-    one_run f g xs ys a b right_p.0 right_q.0 right_p.2 right_q.2 same
-one_piece (run f xs) (sign d) a b same right_p right_q =
+first_piece_unique (run f xs) (run g ys) a b same right_p right_q =
+    run_unique f g xs ys a b right_p.0 right_q.0 right_p.2 right_q.2 same
+first_piece_unique (run f xs) (sign d) a b same right_p right_q =
     absurd (run_no_sign d (run_in_front f xs a d b (sym same) right_p.0) right_q)
-one_piece (sign c) (blank d) a b same right_p right_q =
+first_piece_unique (sign c) (blank d) a b same right_p right_q =
     let head : c ≡ d = cc in absurd (blank_no_sign d right_q (subst (λ (e : ℕ). IsSome (sign_kind e)) head right_p))
-one_piece (sign c) (line_comment j) a b same right_p right_q =
+first_piece_unique (sign c) (line_comment j) a b same right_p right_q =
     let head : c ≡ slash = cc in absurd (slash_no_sign c head right_p)
-one_piece (sign c) (block_comment j) a b same right_p right_q =
+first_piece_unique (sign c) (block_comment j) a b same right_p right_q =
     let head : c ≡ slash = cc in absurd (slash_no_sign c head right_p)
-one_piece (sign c) (run g ys) a b same right_p right_q =
+first_piece_unique (sign c) (run g ys) a b same right_p right_q =
     absurd (run_no_sign c (run_in_front g ys b c a same right_q.0) right_p)
-one_piece (sign c) (sign d) a b same right_p right_q = let head : c ≡ d = cc in (ap (λ (e : ℕ). sign e) head, cc)
+first_piece_unique (sign c) (sign d) a b same right_p right_q = let head : c ≡ d = cc in (ap (λ (e : ℕ). sign e) head, cc)
 
 -- two cuts of a text, each up to where nothing begins
-one_cut : (ps qs : List Piece) (r s : List ℕ) → spelled ps ++ r ≡ spelled qs ++ s → AreRight ps r → AreRight qs s →
+cuts_equal : (ps qs : List Piece) (r s : List ℕ) → spelled ps ++ r ≡ spelled qs ++ s → AreRight ps r → AreRight qs s →
     NothingBegins r → NothingBegins s → (ps ≡ qs) × (r ≡ s)
-one_cut [] [] r s same right_p right_q nothing_r nothing_s = (refl, same)
-one_cut [] (q ∷ qs) r s same right_p right_q nothing_r nothing_s =
+cuts_equal [] [] r s same right_p right_q nothing_r nothing_s = (refl, same)
+cuts_equal [] (q ∷ qs) r s same right_p right_q nothing_r nothing_s =
     absurd (nothing_r q (spelled qs ++ s) (same ∙ append_assoc (bytes_of q) (spelled qs) s) right_q.0)
-one_cut (p ∷ ps) [] r s same right_p right_q nothing_r nothing_s =
+cuts_equal (p ∷ ps) [] r s same right_p right_q nothing_r nothing_s =
     absurd (nothing_s p (spelled ps ++ r) (sym same ∙ append_assoc (bytes_of p) (spelled ps) r) right_p.0)
-one_cut (p ∷ ps) (q ∷ qs) r s same right_p right_q nothing_r nothing_s =
-    let first = one_piece p q (spelled ps ++ r) (spelled qs ++ s)
+cuts_equal (p ∷ ps) (q ∷ qs) r s same right_p right_q nothing_r nothing_s =
+    let first = first_piece_unique p q (spelled ps ++ r) (spelled qs ++ s)
     (sym (append_assoc (bytes_of p) (spelled ps) r) ∙ same ∙ append_assoc (bytes_of q) (spelled qs) s) right_p.0 right_q.0 in
-    let others = one_cut ps qs r s first.1 right_p.1 right_q.1 nothing_r nothing_s in
+    let others = cuts_equal ps qs r s first.1 right_p.1 right_q.1 nothing_r nothing_s in
     (ap (λ (x : Piece). x ∷ ps) first.0 ∙ ap (λ (xs : List Piece). q ∷ xs) others.0, others.1)
 
 -- nothing begins at the end of a text
@@ -166,7 +166,7 @@ pub only_reading : (text : List ℕ) (pieces : List Piece) (rest : List ℕ) →
 only_reading text pieces rest cut nothing =
     let reading = reading_of text in
     let place : 0 + length (spelled reading.pieces) ≡ length (spelled reading.pieces) = omega arith in
-    let known = one_cut reading.pieces pieces reading.rest rest (sym reading.cut.whole ∙ cut.whole) reading.cut.right cut.right
+    let known = cuts_equal reading.pieces pieces reading.rest rest (sym reading.cut.whole ∙ cut.whole) reading.cut.right cut.right
     (nothing_at_rest (lexed text).1 (0 + length (spelled reading.pieces)) reading.rest reading.end) nothing in (
       reading.tokens_are ∙ ap (tokens_of 0) known.0,
       subst (EndsWith (lexed text).1 (length (spelled pieces))) known.1
@@ -175,7 +175,7 @@ only_reading text pieces rest cut nothing =
     )
 
 -- two cuts of one text are the same
-pub one_cut_only : (text : List ℕ) (pieces others : List Piece) (rest left : List ℕ) → IsCutInto text pieces rest → NothingBegins rest →
+pub cut_unique : (text : List ℕ) (pieces others : List Piece) (rest left : List ℕ) → IsCutInto text pieces rest → NothingBegins rest →
     IsCutInto text others left → NothingBegins left → (pieces ≡ others) × (rest ≡ left)
-one_cut_only text pieces others rest left cut nothing other_cut nothing_left =
-    one_cut pieces others rest left (sym cut.whole ∙ other_cut.whole) cut.right other_cut.right nothing nothing_left
+cut_unique text pieces others rest left cut nothing other_cut nothing_left =
+    cuts_equal pieces others rest left (sym cut.whole ∙ other_cut.whole) cut.right other_cut.right nothing nothing_left

@@ -28,18 +28,18 @@ abbrev pub ReadOn : ℕ → List ℕ → Type 0
 ReadOn start xs = IsReading start xs (tokens_to_end Between start xs) (fault_of Between start xs)
 
 -- a reading, from its parts
-reading_as : (start : ℕ) (text text' : List ℕ) (tokens tokens' : List Token) (fault fault' : Option ℕ) →
+reading_of_equal : (start : ℕ) (text text' : List ℕ) (tokens tokens' : List Token) (fault fault' : Option ℕ) →
     text ≡ text' → tokens ≡ tokens' → fault ≡ fault' → IsReading start text tokens fault → IsReading start text' tokens' fault'
-reading_as start text text' tokens tokens' fault fault' same_text same_tokens same_fault reading =
+reading_of_equal start text text' tokens tokens' fault fault' same_text same_tokens same_fault reading =
     subst (λ (f : Option ℕ). IsReading start text' tokens' f) same_fault
     (subst (λ (ts : List Token). IsReading start text' ts fault) same_tokens
     (subst (λ (t : List ℕ). IsReading start t tokens fault) same_text reading))
 
 -- a piece at the front
-with_piece : (piece : Piece) (start : ℕ) (after : List ℕ) (tokens : List Token) (fault : Option ℕ) → IsRight piece after →
+reading_with_piece : (piece : Piece) (start : ℕ) (after : List ℕ) (tokens : List Token) (fault : Option ℕ) → IsRight piece after →
     IsReading (start + length (bytes_of piece)) after tokens fault →
     IsReading start (bytes_of piece ++ after) (piece_tokens start piece ++ tokens) fault
-with_piece piece start after tokens fault right reading =
+reading_with_piece piece start after tokens fault right reading =
     let bytes = bytes_of piece in
     let more = reading.pieces in
     let place : start + length bytes + length (spelled more) ≡ start + length (bytes ++ spelled more) =
@@ -72,11 +72,11 @@ unfolding scan
 next_fault mode place c xs new tokens made = ap (λ (r : Scanned). fault_at_end (scan r.0 (place + 1) xs).0) made
 
 -- what is open takes another byte
-pub goes_on_by : (mode new : Mode) (start : ℕ) (bytes : List ℕ) (c : ℕ) (xs : List ℕ) →
+pub open_takes_byte : (mode new : Mode) (start : ℕ) (bytes : List ℕ) (c : ℕ) (xs : List ℕ) →
     next mode (start + length bytes) c ≡ (new, []) → Read new start (bytes ++ c ∷ []) xs → Read mode start bytes (c ∷ xs)
-goes_on_by mode new start bytes c xs made read =
+open_takes_byte mode new start bytes c xs made read =
     let place : start + length (bytes ++ c ∷ []) ≡ start + length bytes + 1 = omega (arith, length-append bytes (c ∷ [])) in
-    reading_as start (bytes ++ c ∷ [] ++ xs) (bytes ++ c ∷ xs)
+    reading_of_equal start (bytes ++ c ∷ [] ++ xs) (bytes ++ c ∷ xs)
     (tokens_to_end new (start + length (bytes ++ c ∷ [])) xs) (tokens_to_end mode (start + length bytes) (c ∷ xs))
     (fault_of new (start + length (bytes ++ c ∷ [])) xs) (fault_of mode (start + length bytes) (c ∷ xs))
     (append_assoc bytes (c ∷ []) xs)
@@ -92,7 +92,7 @@ ends_with_byte mode start bytes c xs piece made spelling right between =
     let at = start + length (bytes_of piece) in
     let place : at ≡ start + length bytes + 1 =
     omega (arith, length-append bytes (c ∷ []), ap length spelling) in
-    reading_as start (bytes_of piece ++ xs) (bytes ++ c ∷ xs)
+    reading_of_equal start (bytes_of piece ++ xs) (bytes ++ c ∷ xs)
     (piece_tokens start piece ++ tokens_to_end Between at xs) (tokens_to_end mode (start + length bytes) (c ∷ xs))
     (fault_of Between at xs) (fault_of mode (start + length bytes) (c ∷ xs))
     (ap (λ (t : List ℕ). t ++ xs) spelling ∙ append_assoc bytes (c ∷ []) xs)
@@ -100,7 +100,7 @@ ends_with_byte mode start bytes c xs piece made spelling right between =
     ∙ sym (next_tokens mode (start + length bytes) c xs Between (piece_tokens start piece) made))
     (ap (λ (p : ℕ). fault_of Between p xs) place
     ∙ sym (next_fault mode (start + length bytes) c xs Between (piece_tokens start piece) made))
-    (with_piece piece start xs (tokens_to_end Between at xs) (fault_of Between at xs) right (between at))
+    (reading_with_piece piece start xs (tokens_to_end Between at xs) (fault_of Between at xs) right (between at))
 
 -- what is open is a piece that ended before the rest
 pub ends_before : (mode : Mode) (start : ℕ) (xs : List ℕ) (piece : Piece) →
@@ -110,18 +110,18 @@ pub ends_before : (mode : Mode) (start : ℕ) (xs : List ℕ) (piece : Piece) �
     IsRight piece xs → ((place : ℕ) → ReadOn place xs) → Read mode start (bytes_of piece) xs
 ends_before mode start xs piece same_tokens same_fault right between =
     let at = start + length (bytes_of piece) in
-    reading_as start (bytes_of piece ++ xs) (bytes_of piece ++ xs)
+    reading_of_equal start (bytes_of piece ++ xs) (bytes_of piece ++ xs)
     (piece_tokens start piece ++ tokens_to_end Between at xs) (tokens_to_end mode at xs)
     (fault_of Between at xs) (fault_of mode at xs)
     refl (sym same_tokens) (sym same_fault)
-    (with_piece piece start xs (tokens_to_end Between at xs) (fault_of Between at xs) right (between at))
+    (reading_with_piece piece start xs (tokens_to_end Between at xs) (fault_of Between at xs) right (between at))
 
 -- no piece begins where the scan is at fault
-pub at_fault : (start : ℕ) (bytes xs : List ℕ) → bytes ++ xs ≢ [] → NothingBegins (bytes ++ xs) → Read (Failed start) start bytes xs
-at_fault start bytes xs some nothing =
+pub reading_at_fault : (start : ℕ) (bytes xs : List ℕ) → bytes ++ xs ≢ [] → NothingBegins (bytes ++ xs) → Read (Failed start) start bytes xs
+reading_at_fault start bytes xs some nothing =
     let place = start + length bytes in
     let stays = scan_failed start place xs in
-    reading_as start (bytes ++ xs) (bytes ++ xs) [] (tokens_to_end (Failed start) place xs) (Some start) (fault_of (Failed start) place xs)
+    reading_of_equal start (bytes ++ xs) (bytes ++ xs) [] (tokens_to_end (Failed start) place xs) (Some start) (fault_of (Failed start) place xs)
     refl
     (sym (ap (λ (r : Scanned). (ended (place + length xs) r).1) stays))
     (sym (ap (λ (r : Scanned). fault_at_end r.0) stays))
@@ -134,11 +134,11 @@ at_fault start bytes xs some nothing =
     })
 
 -- the text ends where something is open that has to go on
-pub ends_open : (mode : Mode) (start : ℕ) (bytes : List ℕ) → ((place : ℕ) → closing place mode ≡ []) →
+pub text_ends_open : (mode : Mode) (start : ℕ) (bytes : List ℕ) → ((place : ℕ) → closing place mode ≡ []) →
     fault_at_end mode ≡ Some start → bytes ++ [] ≢ [] → NothingBegins (bytes ++ []) → Read mode start bytes []
 unfolding scan
-ends_open mode start bytes none fault some nothing =
-    reading_as start (bytes ++ []) (bytes ++ []) [] (tokens_to_end mode (start + length bytes) []) (Some start) (fault_of mode (start + length bytes) [])
+text_ends_open mode start bytes none fault some nothing =
+    reading_of_equal start (bytes ++ []) (bytes ++ []) [] (tokens_to_end mode (start + length bytes) []) (Some start) (fault_of mode (start + length bytes) [])
     refl (sym (none (start + length bytes + 0))) (sym fault)
     (record {
       pieces = [];
@@ -149,17 +149,17 @@ ends_open mode start bytes none fault some nothing =
     })
 
 -- while nothing is open, a byte opens something
-pub opens_with : (start c : ℕ) (xs : List ℕ) (new : Mode) → next Between start c ≡ (new, []) → Read new start (c ∷ []) xs →
+pub byte_opens : (start c : ℕ) (xs : List ℕ) (new : Mode) → next Between start c ≡ (new, []) → Read new start (c ∷ []) xs →
     ReadOn start (c ∷ xs)
-opens_with start c xs new made read =
+byte_opens start c xs new made read =
     let same : start + 0 ≡ start = omega arith in
     subst (λ (p : ℕ). IsReading start (c ∷ xs) (tokens_to_end Between p (c ∷ xs)) (fault_of Between p (c ∷ xs))) same
-    (goes_on_by Between new start [] c xs (ap (λ (p : ℕ). next Between p c) same ∙ made) read)
+    (open_takes_byte Between new start [] c xs (ap (λ (p : ℕ). next Between p c) same ∙ made) read)
 
 -- while nothing is open, a byte is a piece
-pub is_piece : (start c : ℕ) (xs : List ℕ) (piece : Piece) → next Between start c ≡ (Between, piece_tokens start piece) →
+pub byte_is_piece : (start c : ℕ) (xs : List ℕ) (piece : Piece) → next Between start c ≡ (Between, piece_tokens start piece) →
     bytes_of piece ≡ c ∷ [] → IsRight piece xs → ((place : ℕ) → ReadOn place xs) → ReadOn start (c ∷ xs)
-is_piece start c xs piece made spelling right between =
+byte_is_piece start c xs piece made spelling right between =
     let same : start + 0 ≡ start = omega arith in
     subst (λ (p : ℕ). IsReading start (c ∷ xs) (tokens_to_end Between p (c ∷ xs)) (fault_of Between p (c ∷ xs))) same
     (ends_with_byte Between start [] c xs piece (ap (λ (p : ℕ). next Between p c) same ∙ made) spelling right between)

@@ -11,10 +11,10 @@ use Rattle.goal_lexer.specs.Scan.{scan, closing, fault_at_end, lexed, form_with}
 use Rattle.goal_lexer.specs.Runs.{run_token}
 use Rattle.goal_lexer.specs.Pieces.{blank, line_comment, block_comment, run, sign, Each, has_close, sign_kind, NothingBegins, IsReading}
 use Rattle.goal_lexer.specs.Open.{ends_in_star}
-use Rattle.goal_lexer.proofs.FormLaws.{form_of, form_of-grown, has_form}
-use Rattle.goal_lexer.proofs.CommentLaws.{has_close-push, ends_in_star-push, before_star, has_close-front}
+use Rattle.goal_lexer.proofs.FormLaws.{form_of, form_of-grown, form_of_has_form}
+use Rattle.goal_lexer.proofs.CommentLaws.{has_close-push, ends_in_star-push, bytes_before_star, has_close-front}
 use Rattle.goal_lexer.proofs.NothingLaws.{nothing_at, nothing_at_slash, nothing_at_last_slash, nothing_in_comment, nothing_without_form, nothing_too_long, Each-push}
-use Rattle.goal_lexer.proofs.PieceLaws.{Read, ReadOn, goes_on_by, ends_with_byte, ends_before, at_fault, ends_open, opens_with, is_piece, next_tokens, next_fault, tokens_past_run, fault_past_run}
+use Rattle.goal_lexer.proofs.PieceLaws.{Read, ReadOn, open_takes_byte, ends_with_byte, ends_before, reading_at_fault, text_ends_open, byte_opens, byte_is_piece, next_tokens, next_fault, tokens_past_run, fault_past_run}
 
 -- a byte of a line comment
 abbrev pub in_line : ℕ → Bool
@@ -31,9 +31,9 @@ record Going (xs : List ℕ) : Type 0 where
       Read (BlockComment start (ends_in_star inside)) start (slash ∷ star ∷ inside) xs
 
 -- where the text ends
-at_end : (start : ℕ) → ReadOn start []
+reading_at_end : (start : ℕ) → ReadOn start []
 unfolding scan
-at_end start = record {
+reading_at_end start = record {
   pieces = [];
   rest = [];
   cut = record { whole = refl; right = tt };
@@ -48,20 +48,20 @@ run_at_end start bytes form has short =
     let place : start + length bytes + 0 ≡ start + length bytes = omega arith in
     ends_before (Run start bytes form) start [] (run form bytes)
     (ap (λ (p : ℕ). run_token start bytes form p ∷ []) place) refl
-    (has_form bytes form has, short, refl) at_end
+    (form_of_has_form bytes form has, short, refl) reading_at_end
 
 line_at_end : (start : ℕ) (inside : List ℕ) → Each in_line inside → Read (LineComment start) start (slash ∷ slash ∷ inside) []
 unfolding scan
-line_at_end start inside each = ends_before (LineComment start) start [] (line_comment inside) refl refl (each, tt) at_end
+line_at_end start inside each = ends_before (LineComment start) start [] (line_comment inside) refl refl (each, tt) reading_at_end
 
-going_end : Going []
-going_end = record {
-  at_between = at_end;
+continues_at_end : Going []
+continues_at_end = record {
+  at_between = reading_at_end;
   at_run = run_at_end;
-  at_slash = λ start. ends_open (Slash start) start (slash ∷ []) (λ _. refl) refl (λ empty. cc) nothing_at_last_slash;
+  at_slash = λ start. text_ends_open (Slash start) start (slash ∷ []) (λ _. refl) refl (λ empty. cc) nothing_at_last_slash;
   at_line = line_at_end;
   at_block = λ start inside none.
-      ends_open (BlockComment start (ends_in_star inside)) start (slash ∷ star ∷ inside) (λ _. refl) refl (λ empty. cc)
+      text_ends_open (BlockComment start (ends_in_star inside)) start (slash ∷ star ∷ inside) (λ _. refl) refl (λ empty. cc)
       (subst (λ (t : List ℕ). NothingBegins (slash ∷ star ∷ t)) (sym (append-nil inside)) (nothing_in_comment inside none));
 }
 
@@ -72,8 +72,8 @@ module _ (xs : List ℕ) (going : Going xs) (start c : ℕ) where
   byte_fault no_word no_digit no_blank no_open no_close no_colon no_slash =
       let no_run : is_run_byte c ≡ false = rw (no_word, no_digit) in
       let no_kind : sign_kind c ≡ None = rw (no_open, no_close, no_colon) in
-      opens_with start c xs (Failed start) (rw (no_word, no_digit, no_blank, no_open, no_close, no_colon, no_slash))
-      (at_fault start (c ∷ []) xs (λ empty. cc)
+      byte_opens start c xs (Failed start) (rw (no_word, no_digit, no_blank, no_open, no_close, no_colon, no_slash))
+      (reading_at_fault start (c ∷ []) xs (λ empty. cc)
       (nothing_at c xs no_run no_blank (λ some. false≢true (subst (λ o. IsSome o) no_kind some)) (λ is. grind (arith, nat_tests))))
 
   byte_slash : (s : Bool) → (c == slash) ≡ s → begins_word c ≡ false → is_digit c ≡ false → is_blank c ≡ false →
@@ -82,7 +82,7 @@ module _ (xs : List ℕ) (going : Going xs) (start c : ℕ) where
       byte_fault no_word no_digit no_blank no_open no_close no_colon is_s
   byte_slash true is_s no_word no_digit no_blank no_open no_close no_colon =
       let same : c ≡ slash = grind (arith, nat_tests) in
-      opens_with start c xs (Slash start) (rw (no_word, no_digit, no_blank, no_open, no_close, no_colon, is_s))
+      byte_opens start c xs (Slash start) (rw (no_word, no_digit, no_blank, no_open, no_close, no_colon, is_s))
       (subst (λ (b : ℕ). Read (Slash start) start (b ∷ []) xs) (sym same) (going.at_slash start))
 
   byte_colon : (s : Bool) → (c == 58) ≡ s → begins_word c ≡ false → is_digit c ≡ false → is_blank c ≡ false →
@@ -90,45 +90,45 @@ module _ (xs : List ℕ) (going : Going xs) (start c : ℕ) where
   byte_colon false is_s no_word no_digit no_blank no_open no_close =
       byte_slash (c == slash) refl no_word no_digit no_blank no_open no_close is_s
   byte_colon true is_s no_word no_digit no_blank no_open no_close =
-      is_piece start c xs (sign c) (rw (no_word, no_digit, no_blank, no_open, no_close, is_s)) refl
+      byte_is_piece start c xs (sign c) (rw (no_word, no_digit, no_blank, no_open, no_close, is_s)) refl
       (rw (no_open, no_close, is_s)) going.at_between
 
   byte_close : (s : Bool) → (c == 125) ≡ s → begins_word c ≡ false → is_digit c ≡ false → is_blank c ≡ false →
       (c == 123) ≡ false → ReadOn start (c ∷ xs)
   byte_close false is_s no_word no_digit no_blank no_open = byte_colon (c == 58) refl no_word no_digit no_blank no_open is_s
   byte_close true is_s no_word no_digit no_blank no_open =
-      is_piece start c xs (sign c) (rw (no_word, no_digit, no_blank, no_open, is_s)) refl (rw (no_open, is_s)) going.at_between
+      byte_is_piece start c xs (sign c) (rw (no_word, no_digit, no_blank, no_open, is_s)) refl (rw (no_open, is_s)) going.at_between
 
   byte_open : (s : Bool) → (c == 123) ≡ s → begins_word c ≡ false → is_digit c ≡ false → is_blank c ≡ false →
       ReadOn start (c ∷ xs)
   byte_open false is_s no_word no_digit no_blank = byte_close (c == 125) refl no_word no_digit no_blank is_s
   byte_open true is_s no_word no_digit no_blank =
-      is_piece start c xs (sign c) (rw (no_word, no_digit, no_blank, is_s)) refl (rw is_s) going.at_between
+      byte_is_piece start c xs (sign c) (rw (no_word, no_digit, no_blank, is_s)) refl (rw is_s) going.at_between
 
   byte_blank : (s : Bool) → is_blank c ≡ s → begins_word c ≡ false → is_digit c ≡ false → ReadOn start (c ∷ xs)
   byte_blank false is_s no_word no_digit = byte_open (c == 123) refl no_word no_digit is_s
   byte_blank true is_s no_word no_digit =
-      is_piece start c xs (blank c) (rw (no_word, no_digit, is_s)) refl is_s going.at_between
+      byte_is_piece start c xs (blank c) (rw (no_word, no_digit, is_s)) refl is_s going.at_between
 
   byte_digit : (s : Bool) → is_digit c ≡ s → begins_word c ≡ false → ReadOn start (c ∷ xs)
   byte_digit false is_s no_word = byte_blank (is_blank c) refl no_word is_s
   byte_digit true is_s no_word =
-      opens_with start c xs (Run start (c ∷ []) Digits) (rw (no_word, is_s))
+      byte_opens start c xs (Run start (c ∷ []) Digits) (rw (no_word, is_s))
       (going.at_run start (c ∷ []) Digits (rw (no_word, is_s)) (omega arith))
 
   byte_word : (s : Bool) → begins_word c ≡ s → ReadOn start (c ∷ xs)
   byte_word false is_s = byte_digit (is_digit c) refl is_s
   byte_word true is_s =
-      opens_with start c xs (Run start (c ∷ []) Word) (rw is_s)
+      byte_opens start c xs (Run start (c ∷ []) Word) (rw is_s)
       (going.at_run start (c ∷ []) Word (rw is_s) (omega arith))
 
 at_byte : (xs : List ℕ) → Going xs → (c start : ℕ) → ReadOn start (c ∷ xs)
 at_byte xs going c start = byte_word xs going start c (begins_word c) refl
 
 -- some bytes follow
-some_byte : (bytes : List ℕ) (c : ℕ) (xs : List ℕ) → bytes ++ c ∷ [] ++ xs ≢ []
-some_byte [] c xs empty = cc
-some_byte (b ∷ bs) c xs empty = cc
+bytes_not_empty : (bytes : List ℕ) (c : ℕ) (xs : List ℕ) → bytes ++ c ∷ [] ++ xs ≢ []
+bytes_not_empty [] c xs empty = cc
+bytes_not_empty (b ∷ bs) c xs empty = cc
 
 -- a byte after a run
 module _ (xs : List ℕ) (going : Going xs) (start : ℕ) (bytes : List ℕ) (form : Form) (c : ℕ) (has : form_of bytes ≡ Some form) where
@@ -136,22 +136,22 @@ module _ (xs : List ℕ) (going : Going xs) (start : ℕ) (bytes : List ℕ) (fo
       nat_lt 64 (length (bytes ++ c ∷ [])) ≡ long → Read (Run start bytes form) start bytes (c ∷ xs)
   run_grown false other in_run grown is_long =
       let short : length (bytes ++ c ∷ []) ≤ 64 = grind (arith, nat_tests) in
-      goes_on_by (Run start bytes form) (Run start (bytes ++ c ∷ []) other) start bytes c xs
+      open_takes_byte (Run start bytes form) (Run start (bytes ++ c ∷ []) other) start bytes c xs
       (rw (in_run, grown, is_long))
       (going.at_run start (bytes ++ c ∷ []) other (form_of-grown bytes c form has in_run ∙ grown) short)
   run_grown true other in_run grown is_long =
       let long : 64 < length (bytes ++ c ∷ []) = grind (arith, nat_tests) in
-      goes_on_by (Run start bytes form) (Failed start) start bytes c xs
+      open_takes_byte (Run start bytes form) (Failed start) start bytes c xs
       (rw (in_run, grown, is_long))
-      (at_fault start (bytes ++ c ∷ []) xs (some_byte bytes c xs)
+      (reading_at_fault start (bytes ++ c ∷ []) xs (bytes_not_empty bytes c xs)
       (nothing_too_long bytes c xs form has in_run long))
 
   run_formed : (o : Option Form) → is_run_byte c ≡ true → form_with form c ≡ o → Read (Run start bytes form) start bytes (c ∷ xs)
   run_formed (Some other) in_run grown = run_grown (nat_lt 64 (length (bytes ++ c ∷ []))) other in_run grown refl
   run_formed None in_run grown =
-      goes_on_by (Run start bytes form) (Failed start) start bytes c xs
+      open_takes_byte (Run start bytes form) (Failed start) start bytes c xs
       (rw (in_run, grown))
-      (at_fault start (bytes ++ c ∷ []) xs (some_byte bytes c xs)
+      (reading_at_fault start (bytes ++ c ∷ []) xs (bytes_not_empty bytes c xs)
       (nothing_without_form bytes c xs form has in_run (form_of-grown bytes c form has in_run ∙ grown)))
 
   behind_run : (r : Bool) → is_run_byte c ≡ r → length bytes ≤ 64 → Read (Run start bytes form) start bytes (c ∷ xs)
@@ -160,28 +160,28 @@ module _ (xs : List ℕ) (going : Going xs) (start : ℕ) (bytes : List ℕ) (fo
       ends_before (Run start bytes form) start (c ∷ xs) (run form bytes)
       (tokens_past_run start bytes form (start + length bytes) c xs apart)
       (fault_past_run start bytes form (start + length bytes) c xs apart)
-      (has_form bytes form has, short, apart) (at_byte xs going c)
+      (form_of_has_form bytes form has, short, apart) (at_byte xs going c)
 
 -- a byte after a `/`
 module _ (xs : List ℕ) (going : Going xs) (start c : ℕ) where
   no_comment : (c == slash) ≡ false → (c == star) ≡ false → Read (Slash start) start (slash ∷ []) (c ∷ xs)
   no_comment no_slash no_star =
-      goes_on_by (Slash start) (Failed start) start (slash ∷ []) c xs (rw (no_slash, no_star))
-      (at_fault start (slash ∷ c ∷ []) xs (λ empty. cc)
+      open_takes_byte (Slash start) (Failed start) start (slash ∷ []) c xs (rw (no_slash, no_star))
+      (reading_at_fault start (slash ∷ c ∷ []) xs (λ empty. cc)
       (nothing_at_slash c xs (λ is. grind (arith, nat_tests)) (λ is. grind (arith, nat_tests))))
 
   behind_slash_star : (s : Bool) → (c == star) ≡ s → (c == slash) ≡ false → Read (Slash start) start (slash ∷ []) (c ∷ xs)
   behind_slash_star false is_s no_slash = no_comment no_slash is_s
   behind_slash_star true is_s no_slash =
       let same : c ≡ star = grind (arith, nat_tests) in
-      goes_on_by (Slash start) (BlockComment start false) start (slash ∷ []) c xs (rw (no_slash, is_s))
+      open_takes_byte (Slash start) (BlockComment start false) start (slash ∷ []) c xs (rw (no_slash, is_s))
       (subst (λ (b : ℕ). Read (BlockComment start false) start (slash ∷ b ∷ []) xs) (sym same) (going.at_block start [] refl))
 
   behind_slash : (s : Bool) → (c == slash) ≡ s → Read (Slash start) start (slash ∷ []) (c ∷ xs)
   behind_slash false is_s = behind_slash_star (c == star) refl is_s
   behind_slash true is_s =
       let same : c ≡ slash = grind (arith, nat_tests) in
-      goes_on_by (Slash start) (LineComment start) start (slash ∷ []) c xs (rw is_s)
+      open_takes_byte (Slash start) (LineComment start) start (slash ∷ []) c xs (rw is_s)
       (subst (λ (b : ℕ). Read (LineComment start) start (slash ∷ b ∷ []) xs) (sym same) (going.at_line start [] tt))
 
 -- a byte in a line comment
@@ -200,23 +200,23 @@ module _ (xs : List ℕ) (going : Going xs) (start : ℕ) (inside : List ℕ) (e
       let same : c ≡ line_feed = grind (arith, nat_tests) in
       subst (λ (b : ℕ). Read (LineComment start) start (slash ∷ slash ∷ inside) (b ∷ xs)) (sym same) line_ends
   in_line_comment c false is_s =
-      goes_on_by (LineComment start) (LineComment start) start (slash ∷ slash ∷ inside) c xs (rw is_s)
+      open_takes_byte (LineComment start) (LineComment start) start (slash ∷ slash ∷ inside) c xs (rw is_s)
       (going.at_line start (inside ++ c ∷ []) (Each-push in_line inside c each (ap not is_s)))
 
 -- a byte in a block comment
 module _ (xs : List ℕ) (going : Going xs) (start : ℕ) (inside : List ℕ) (none : has_close inside ≡ false) where
-  both : (a b : Bool) → (a && b) ≡ true → (a ≡ true) × (b ≡ true)
-  both true true is = (refl, refl)
-  both true false is = cc
-  both false b is = cc
+  and_parts : (a b : Bool) → (a && b) ≡ true → (a ≡ true) × (b ≡ true)
+  and_parts true true is = (refl, refl)
+  and_parts true false is = cc
+  and_parts false b is = cc
 
   in_block_comment : (c : ℕ) (s : Bool) → (ends_in_star inside && c == slash) ≡ s →
       Read (BlockComment start (ends_in_star inside)) start (slash ∷ star ∷ inside) (c ∷ xs)
   in_block_comment c true is_s =
-      let parts = both (ends_in_star inside) (c == slash) is_s in
+      let parts = and_parts (ends_in_star inside) (c == slash) is_s in
       let is_slash = parts.1 in
       let same : c ≡ slash = grind (arith, nat_tests) in
-      let before = before_star inside parts.0 in
+      let before = bytes_before_star inside parts.0 in
       let spelling : before.0 ++ star ∷ slash ∷ [] ≡ inside ++ c ∷ [] =
       sym (ap (λ (t : List ℕ). t ++ c ∷ []) before.1 ∙ append_assoc before.0 (star ∷ []) (c ∷ [])
       ∙ ap (λ (b : ℕ). before.0 ++ star ∷ b ∷ []) same) in
@@ -224,14 +224,14 @@ module _ (xs : List ℕ) (going : Going xs) (start : ℕ) (inside : List ℕ) (n
       (rw is_s) (ap (λ (t : List ℕ). slash ∷ star ∷ t) spelling)
       (has_close-front before.0 (star ∷ []) (ap has_close (sym before.1) ∙ none)) going.at_between
   in_block_comment c false is_s =
-      goes_on_by (BlockComment start (ends_in_star inside)) (BlockComment start (c == star)) start (slash ∷ star ∷ inside) c xs (rw is_s)
+      open_takes_byte (BlockComment start (ends_in_star inside)) (BlockComment start (c == star)) start (slash ∷ star ∷ inside) c xs (rw is_s)
       (subst (λ (b : Bool). Read (BlockComment start b) start (slash ∷ star ∷ inside ++ c ∷ []) xs) (ends_in_star-push inside c)
       (going.at_block start (inside ++ c ∷ []) (has_close-push inside c none is_s)))
 
-going_on : (xs : List ℕ) → Going xs
-going_on [] = going_end
-going_on (c ∷ xs) =
-    let going = going_on xs in
+continues_by_any : (xs : List ℕ) → Going xs
+continues_by_any [] = continues_at_end
+continues_by_any (c ∷ xs) =
+    let going = continues_by_any xs in
     record {
       at_between = at_byte xs going c;
       at_run = λ start bytes form has short. behind_run xs going start bytes form c has (is_run_byte c) refl short;
@@ -245,4 +245,4 @@ pub reading_of : (text : List ℕ) → IsReading 0 text (lexed text).0 (lexed te
 reading_of text =
     let same : 0 + length text ≡ length text = omega arith in
     subst (λ (p : ℕ). IsReading 0 text ((scan Between 0 text).1 ++ closing p (scan Between 0 text).0) (fault_at_end (scan Between 0 text).0))
-    same ((going_on text).at_between 0)
+    same ((continues_by_any text).at_between 0)

@@ -33,20 +33,20 @@ unfolding scan
 scan_one mode place c = ap (λ (ts : List Token). ((next mode place c).0, ts)) (append-nil (next mode place c).1)
 
 -- the first part ended no token
-pub scan_quiet : (mode begun_here : Mode) (place : ℕ) (xs ys : List ℕ) → scan mode place xs ≡ (begun_here, []) →
+pub scan_after_no_token : (mode begun_here : Mode) (place : ℕ) (xs ys : List ℕ) → scan mode place xs ≡ (begun_here, []) →
     scan mode place (xs ++ ys) ≡ scan begun_here (place + length xs) ys
-scan_quiet mode begun_here place xs ys quiet =
+scan_after_no_token mode begun_here place xs ys quiet =
     scan-append mode place xs ys
     ∙ ap (λ (r : Scanned). after_tokens r.1 (scan r.0 (place + length xs) ys)) quiet
 
 -- another byte
-pub scan_more : (mode begun_here : Mode) (place : ℕ) (xs : List ℕ) (n : ℕ) → n < length xs →
+pub scan_next_byte : (mode begun_here : Mode) (place : ℕ) (xs : List ℕ) (n : ℕ) → n < length xs →
     scan mode place (take n xs) ≡ (begun_here, []) →
     scan mode place (take (n + 1) xs) ≡ next begun_here (place + n) (get_or xs n 0)
-scan_more mode begun_here place xs n here quiet =
+scan_next_byte mode begun_here place xs n here quiet =
     let long : length (take n xs) ≡ n = length-take-le n xs (omega arith) in
     ap (scan mode place) (take_more xs n 0 here)
-    ∙ scan_quiet mode begun_here place (take n xs) (get_or xs n 0 ∷ []) quiet
+    ∙ scan_after_no_token mode begun_here place (take n xs) (get_or xs n 0 ∷ []) quiet
     ∙ ap (λ (k : ℕ). scan begun_here (place + k) (get_or xs n 0 ∷ [])) long
     ∙ scan_one begun_here (place + n) (get_or xs n 0)
 
@@ -57,7 +57,7 @@ pub scan_stretch : (mode begun_here new : Mode) (place : ℕ) (xs : List ℕ) (n
 scan_stretch mode begun_here new place xs n m within quiet more =
     let long : length (take n xs) ≡ n = length-take-le n xs within in
     ap (scan mode place) (take-add n m xs)
-    ∙ scan_quiet mode begun_here place (take n xs) (take m (drop n xs)) quiet
+    ∙ scan_after_no_token mode begun_here place (take n xs) (take m (drop n xs)) quiet
     ∙ ap (λ (k : ℕ). scan begun_here (place + k) (take m (drop n xs))) long
     ∙ more
 
@@ -80,5 +80,5 @@ pub scan_fault : (mode : Mode) (at place : ℕ) (xs : List ℕ) (n : ℕ) →
     scan mode place (take n xs) ≡ (Failed at, []) → scan mode place xs ≡ (Failed at, [])
 scan_fault mode at place xs n failed =
     ap (scan mode place) (sym (take-append-drop n xs))
-    ∙ scan_quiet mode (Failed at) place (take n xs) (drop n xs) failed
+    ∙ scan_after_no_token mode (Failed at) place (take n xs) (drop n xs) failed
     ∙ scan_failed at (place + length (take n xs)) (drop n xs)

@@ -20,14 +20,14 @@ scanned-append text xs =
     ∙ ap (λ (p : ℕ). after_tokens (scanned text).1 (scan (scanned text).0 p xs)) same
 
 -- a byte that is no run byte ends the run, and is then taken as if nothing were open
-past_run : (mode : Mode) (place c : ℕ) → IsRun mode → is_run_byte c ≡ false →
+next_past_run : (mode : Mode) (place c : ℕ) → IsRun mode → is_run_byte c ≡ false →
     next mode place c ≡ after_tokens (closing place mode) (next (after_run mode) place c)
-past_run (Run start bytes form) place c run apart = rw apart
-past_run Between place c run apart = absurd run
-past_run (Slash start) place c run apart = absurd run
-past_run (LineComment start) place c run apart = absurd run
-past_run (BlockComment start closes) place c run apart = absurd run
-past_run (Failed at) place c run apart = absurd run
+next_past_run (Run start bytes form) place c run apart = rw apart
+next_past_run Between place c run apart = absurd run
+next_past_run (Slash start) place c run apart = absurd run
+next_past_run (LineComment start) place c run apart = absurd run
+next_past_run (BlockComment start closes) place c run apart = absurd run
+next_past_run (Failed at) place c run apart = absurd run
 
 pub scan_past_run : (mode : Mode) (place c : ℕ) (cs : List ℕ) → IsRun mode → is_run_byte c ≡ false →
     scan mode place (c ∷ cs) ≡ after_tokens (closing place mode) (scan (after_run mode) place (c ∷ cs))
@@ -35,7 +35,7 @@ unfolding scan
 scan_past_run mode place c cs run apart =
     let made = next (after_run mode) place c in
     let rest = scan made.0 (place + 1) cs in
-    ap (λ (r : Scanned). after_tokens r.1 (scan r.0 (place + 1) cs)) (past_run mode place c run apart)
+    ap (λ (r : Scanned). after_tokens r.1 (scan r.0 (place + 1) cs)) (next_past_run mode place c run apart)
     ∙ ap (λ (ts : List Token). (rest.0, ts)) (append_assoc (closing place mode) made.1 rest.1)
 
 -- the scan of a continued text is the lexer's scan of the bytes that continue it
@@ -119,9 +119,9 @@ begins_run-take (suc n) [] apart = refl
 begins_run-take (suc n) (x ∷ xs) apart = apart
 
 -- the fault of a text is that of each text that begins with it
-pub fault_of_every : (text more : List ℕ) (at : ℕ) (tokens : List Token) → scanned text ≡ (Failed at, tokens) →
+pub fault_of_continued : (text more : List ℕ) (at : ℕ) (tokens : List Token) → scanned text ≡ (Failed at, tokens) →
     lexed (text ++ more) ≡ (tokens, Some at)
-fault_of_every text more at tokens scan_is =
+fault_of_continued text more at tokens scan_is =
     let whole : scanned (text ++ more) ≡ (Failed at, tokens) =
     scanned-append text more
     ∙ ap (λ (r : Scanned). after_tokens r.1 (scan r.0 (length text) more)) scan_is
@@ -155,22 +155,22 @@ finishes mode place true text stands =
     ∙ ap (λ (m : Mode). (handed_out ++ closing place m, fault_at_end m)) between
 
 -- the same for a prefix of a piece, with the lexer's state given by its parts
-pub went_view : (mode new : Mode) (place : ℕ) (ends : Bool) (lexer : LexState) →
+pub scan_of_continuation_by_parts : (mode new : Mode) (place : ℕ) (ends : Bool) (lexer : LexState) →
     ◌≡◌ {A = LexState} (record { mode = mode; place = place; ends_run = ends }) lexer →
     (n : ℕ) (rest : List ℕ) (tokens : List Token) → (lexer.ends_run ≡ true → begins_run rest ≡ false) →
     (ends ≡ true → 0 < length (take n rest)) → scan mode place (take n rest) ≡ (new, tokens) →
     (text : List ℕ) → Stands lexer text → scanned (text ++ take n rest) ≡ (new, handed lexer text ++ tokens)
-went_view mode new place ends lexer view_is n rest tokens apart some scan_is text stands =
+scan_of_continuation_by_parts mode new place ends lexer view_is n rest tokens apart some scan_is text stands =
     subst (λ (s : LexState). (s.ends_run ≡ true → begins_run rest ≡ false) → Stands s text →
     scanned (text ++ take n rest) ≡ (new, handed s text ++ tokens)) view_is
     (λ was_apart stood. went_on mode new place ends text (take n rest) tokens stood (λ e. begins_run-take n rest (was_apart e)) some scan_is)
     apart stands
 
 -- the length of the text grows by the bytes taken
-pub place_on : (mode : Mode) (place : ℕ) (ends : Bool) (lexer : LexState) →
+pub place_after_continuation : (mode : Mode) (place : ℕ) (ends : Bool) (lexer : LexState) →
     ◌≡◌ {A = LexState} (record { mode = mode; place = place; ends_run = ends }) lexer →
     (n : ℕ) (rest text : List ℕ) → n ≤ length rest → Stands lexer text → length (text ++ take n rest) ≡ place + n
-place_on mode place ends lexer view_is n rest text within stands =
+place_after_continuation mode place ends lexer view_is n rest text within stands =
     let same : place ≡ lexer.place = ap (λ (s : LexState). s.place) view_is in
     let known = stands.place in
     omega (arith, length-append text (take n rest), length-take n rest)

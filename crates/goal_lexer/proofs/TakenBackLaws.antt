@@ -15,18 +15,18 @@ use Rattle.goal_lexer.specs.State.{LexState}
 use Rattle.goal_lexer.specs.Stands.{Stands, handed}
 use Rattle.goal_lexer.specs.Pieces.{Piece, blank, line_comment, block_comment, run, sign, bytes_of, Each, HasForm, has_close, sign_kind, IsRight, spelled, AreRight, sign_tokens, piece_tokens, tokens_of}
 use Rattle.goal_lexer.specs.Open.{ends_in_star, IsOpen, IsTaken}
-use Rattle.goal_lexer.proofs.FormLaws.{form_from, first_in_run}
-use Rattle.goal_lexer.proofs.CommentLaws.{has_close-found, ends_in_star-push, before_star}
+use Rattle.goal_lexer.proofs.FormLaws.{has_form_form_of, first_in_run}
+use Rattle.goal_lexer.proofs.CommentLaws.{has_close-found, ends_in_star-push, bytes_before_star}
 use Rattle.goal_lexer.proofs.NothingLaws.{run_bytes}
 use Rattle.goal_lexer.proofs.ReadingLaws.{in_line}
-use Rattle.goal_lexer.proofs.ScanLaws.{scan_quiet}
+use Rattle.goal_lexer.proofs.ScanLaws.{scan_after_no_token}
 use Rattle.goal_lexer.proofs.StandsLaws.{scan_past_run}
 use Rattle.goal_lexer.proofs.WholeLaws.{scan_of_run, next_sign}
 use Rattle.goal_lexer.proofs.TakenLaws.{spelled-push, tokens_of-push}
 
 -- the scan of a run, which stays open
 scan_run : (place : ℕ) (form : Form) (bytes : List ℕ) → HasForm form bytes → length bytes ≤ 64 → scan Between place bytes ≡ (Run place bytes form, [])
-scan_run place form bytes has short = scan_of_run place bytes form (run_bytes bytes form (form_from form bytes has)) has short
+scan_run place form bytes has short = scan_of_run place bytes form (run_bytes bytes form (has_form_form_of form bytes has)) has short
 
 -- the scan inside a line comment
 in_line_next : (start place c : ℕ) → in_line c ≡ true → next (LineComment start) place c ≡ (LineComment start, [])
@@ -49,11 +49,11 @@ unfolding scan
 scan_line_comment place inside each = ap (λ (r : Scanned). after_tokens [] (after_tokens [] r)) (scan_line place (place + 1 + 1) inside each)
 
 -- the scan inside a block comment
-no_close_here : (seen : List ℕ) (c : ℕ) (cs : List ℕ) → has_close (seen ++ c ∷ cs) ≡ false → (s : Bool) → (ends_in_star seen && c == slash) ≡ s → s ≡ false
-no_close_here seen c cs none false is = refl
-no_close_here seen c cs none true is =
+no_close_at_byte : (seen : List ℕ) (c : ℕ) (cs : List ℕ) → has_close (seen ++ c ∷ cs) ≡ false → (s : Bool) → (ends_in_star seen && c == slash) ≡ s → s ≡ false
+no_close_at_byte seen c cs none false is = refl
+no_close_at_byte seen c cs none true is =
     let parts = both (ends_in_star seen) (c == slash) is in
-    let before = before_star seen parts.0 in
+    let before = bytes_before_star seen parts.0 in
     let is_slash = parts.1 in
     let same : c ≡ slash = grind (arith, nat_tests) in
     let spelling : seen ++ c ∷ cs ≡ before.0 ++ star ∷ slash ∷ cs =
@@ -70,7 +70,7 @@ scan_block : (start place : ℕ) (seen inside : List ℕ) → has_close (seen ++
 unfolding scan
 scan_block start place seen [] none = ap (λ (t : List ℕ). (BlockComment start (ends_in_star t), [])) (sym (append-nil seen))
 scan_block start place seen (c ∷ cs) none =
-    let open_still = no_close_here seen c cs none (ends_in_star seen && c == slash) refl in
+    let open_still = no_close_at_byte seen c cs none (ends_in_star seen && c == slash) refl in
     let made : next (BlockComment start (ends_in_star seen)) place c ≡ (BlockComment start (ends_in_star (seen ++ c ∷ [])), []) =
     rw open_still (ap (λ (b : Bool). (BlockComment start b, [])) (sym (ends_in_star-push seen c))) in
     let same : seen ++ c ∷ [] ++ cs ≡ seen ++ c ∷ cs = append_assoc seen (c ∷ []) cs in
@@ -113,25 +113,25 @@ scan_piece (line_comment inside) place [] right settled =
     let no : 97 ≡ line_feed = (settled refl (97 ∷ [])).1 in absurd (omega arith)
 scan_piece (line_comment inside) place (d ∷ ds) right settled =
     let at = place + length (slash ∷ slash ∷ inside) in
-    scan_quiet Between (LineComment place) place (slash ∷ slash ∷ inside) (d ∷ ds) (scan_line_comment place inside right.0)
+    scan_after_no_token Between (LineComment place) place (slash ∷ slash ∷ inside) (d ∷ ds) (scan_line_comment place inside right.0)
     ∙ subst (λ (b : ℕ). scan (LineComment place) at (b ∷ ds) ≡ scan Between at (b ∷ ds)) (sym right.1) (scan_line_end place at ds)
 scan_piece (block_comment inside) place rest right settled =
     let at = place + length (slash ∷ star ∷ inside) in
     let same : at + 1 + 1 ≡ place + length (slash ∷ star ∷ inside ++ star ∷ slash ∷ []) = omega (arith, length-append inside (star ∷ slash ∷ [])) in
     ap (λ (t : List ℕ). scan Between place (slash ∷ star ∷ t)) (append_assoc inside (star ∷ slash ∷ []) rest)
-    ∙ scan_quiet Between (BlockComment place (ends_in_star inside)) place (slash ∷ star ∷ inside) (star ∷ slash ∷ rest) (scan_block_comment place inside right)
+    ∙ scan_after_no_token Between (BlockComment place (ends_in_star inside)) place (slash ∷ star ∷ inside) (star ∷ slash ∷ rest) (scan_block_comment place inside right)
     ∙ scan_closed place at (ends_in_star inside) rest
     ∙ ap (λ (n : ℕ). scan Between n rest) same
 scan_piece (run form bytes) place [] right settled = absurd (false≢true (sym (settled refl (97 ∷ [])).2))
 scan_piece (run form bytes) place (d ∷ ds) right settled =
-    scan_quiet Between (Run place bytes form) place bytes (d ∷ ds) (scan_run place form bytes right.0 right.1)
+    scan_after_no_token Between (Run place bytes form) place bytes (d ∷ ds) (scan_run place form bytes right.0 right.1)
     ∙ scan_past_run (Run place bytes form) (place + length bytes) d ds tt right.2
 scan_piece (sign c) place rest right settled = scan_byte Between Between place c (sign_tokens (sign_kind c) place) rest (next_sign place c right)
 
 -- no pieces have no bytes
-no_bytes : (xs ys : List ℕ) → xs ++ ys ≡ [] → (xs ≡ []) × (ys ≡ [])
-no_bytes [] ys none = (refl, none)
-no_bytes (x ∷ xs) ys none = cc
+both_are_empty : (xs ys : List ℕ) → xs ++ ys ≡ [] → (xs ≡ []) × (ys ≡ [])
+both_are_empty [] ys none = (refl, none)
+both_are_empty (x ∷ xs) ys none = cc
 
 -- pieces and what follows them
 scan_pieces : (ps : List Piece) (place : ℕ) (rest : List ℕ) → AreRight ps rest → (rest ≡ [] → (more : List ℕ) → AreRight ps more) →
@@ -143,7 +143,7 @@ scan_pieces (p ∷ ps) place rest right settled =
     let same : after + length (spelled ps) ≡ place + length (bytes_of p ++ spelled ps) = omega (arith, length-append (bytes_of p) (spelled ps)) in
     let settled_first : spelled ps ++ rest ≡ [] → (more : List ℕ) → IsRight p more =
     λ none more.
-    let parts = no_bytes (spelled ps) rest none in
+    let parts = both_are_empty (spelled ps) rest none in
     subst (λ (t : List ℕ). IsRight p (t ++ more)) parts.0 (settled parts.1 more).0 in
     ap (scan Between place) (append_assoc (bytes_of p) (spelled ps) rest)
     ∙ scan_piece p place (spelled ps ++ rest) right.0 settled_first
@@ -178,9 +178,9 @@ open_is_sound (BlockComment start closes) place bytes opened = tt
 open_is_sound (Failed at) place bytes opened = opened
 
 -- the scan of whole pieces and of what is open
-scanned_of : (mode : Mode) (text : List ℕ) (ps : List Piece) (bytes : List ℕ) → text ≡ spelled ps ++ bytes → AreRight ps bytes →
+scan_of_pieces_and_open : (mode : Mode) (text : List ℕ) (ps : List Piece) (bytes : List ℕ) → text ≡ spelled ps ++ bytes → AreRight ps bytes →
     (bytes ≡ [] → (more : List ℕ) → AreRight ps more) → IsOpen mode (length (spelled ps)) bytes → scanned text ≡ (mode, tokens_of 0 ps)
-scanned_of mode text ps bytes whole right settled opened =
+scan_of_pieces_and_open mode text ps bytes whole right settled opened =
     let same : 0 + length (spelled ps) ≡ length (spelled ps) = omega arith in
     ap scanned whole
     ∙ scan_pieces ps 0 bytes right settled
@@ -203,7 +203,7 @@ quiet_from mode place text taken =
     let ps = taken.pieces in
     let bytes = taken.bytes in
     let cut = taken.cut [] (λ is. cc) in
-    scanned_of mode text ps bytes
+    scan_of_pieces_and_open mode text ps bytes
     (sym (append-nil text) ∙ cut.whole ∙ ap (λ (t : List ℕ). spelled ps ++ t) (append-nil bytes))
     (subst (AreRight ps) (append-nil bytes) cut.right)
     (λ none more. subst (λ (t : List ℕ). AreRight ps (t ++ more)) none (taken.cut more (λ is. cc)).right)
@@ -234,34 +234,34 @@ run_from mode place text taken =
       bytes,
       form,
       tokens_of 0 ps,
-      scanned_of (Run start bytes form) text ps bytes whole (subst (AreRight ps) (append-nil bytes) rights.0) none_settled (refl, refl, rights.1.0, rights.1.1),
+      scan_of_pieces_and_open (Run start bytes form) text ps bytes whole (subst (AreRight ps) (append-nil bytes) rights.0) none_settled (refl, refl, rights.1.0, rights.1.1),
       ap (λ (n : ℕ). tokens_of 0 ps ++ run_token start bytes form n ∷ []) (sym end)
           ∙ ap (λ (n : ℕ). tokens_of 0 ps ++ run_token n bytes form (n + length bytes) ∷ []) (sym same_start)
           ∙ sym (tokens_of-push 0 ps piece) ∙ ap (tokens_of 0) (sym out.0.3),
     )
 
-between_by : (mode : Mode) (place : ℕ) (bytes : List ℕ) → IsOpen mode place bytes → bytes ≡ [] → mode ≡ Between
-between_by Between place bytes opened none = refl
-between_by (Run start kept form) place bytes opened none =
+nothing_open_is_between : (mode : Mode) (place : ℕ) (bytes : List ℕ) → IsOpen mode place bytes → bytes ≡ [] → mode ≡ Between
+nothing_open_is_between Between place bytes opened none = refl
+nothing_open_is_between (Run start kept form) place bytes opened none =
     let first = first_in_run form bytes opened.2 in
     let no : first.0 ∷ first.1 ≡ [] = sym first.2 ∙ none in cc
-between_by (Slash start) place bytes opened none = let no : slash ∷ [] ≡ [] = sym opened.1 ∙ none in cc
-between_by (LineComment start) place bytes opened none = let no : slash ∷ slash ∷ opened.1.0 ≡ [] = sym opened.1.1 ∙ none in cc
-between_by (BlockComment start closes) place bytes opened none = let no : slash ∷ star ∷ opened.1.0 ≡ [] = sym opened.1.1 ∙ none in cc
-between_by (Failed at) place bytes opened none = absurd opened
+nothing_open_is_between (Slash start) place bytes opened none = let no : slash ∷ [] ≡ [] = sym opened.1 ∙ none in cc
+nothing_open_is_between (LineComment start) place bytes opened none = let no : slash ∷ slash ∷ opened.1.0 ≡ [] = sym opened.1.1 ∙ none in cc
+nothing_open_is_between (BlockComment start closes) place bytes opened none = let no : slash ∷ star ∷ opened.1.0 ≡ [] = sym opened.1.1 ∙ none in cc
+nothing_open_is_between (Failed at) place bytes opened none = absurd opened
 
-stands_from : (mode : Mode) (place : ℕ) (ends : Bool) (text : List ℕ) → IsTaken (record { mode = mode; place = place; ends_run = ends }) text →
+taken_stands_by_parts : (mode : Mode) (place : ℕ) (ends : Bool) (text : List ℕ) → IsTaken (record { mode = mode; place = place; ends_run = ends }) text →
     Stands (record { mode = mode; place = place; ends_run = ends }) text
-stands_from mode place false text taken =
+taken_stands_by_parts mode place false text taken =
     record {
       place = taken.place;
       open_there = ap (λ (r : Scanned). r.0) (quiet_from mode place text taken);
       run_there = tt;
       sound = open_is_sound mode (length (spelled taken.pieces)) taken.bytes taken.opened;
     }
-stands_from mode place true text taken =
+taken_stands_by_parts mode place true text taken =
     let found = run_from mode place text taken in
-    let between = between_by mode (length (spelled taken.pieces)) taken.bytes taken.opened (taken.run_out refl).1 in
+    let between = nothing_open_is_between mode (length (spelled taken.pieces)) taken.bytes taken.opened (taken.run_out refl).1 in
     record {
       place = taken.place;
       open_there = ap (λ (r : Scanned). (ended (length text) r).0) found.4 ∙ sym between;
@@ -269,8 +269,8 @@ stands_from mode place true text taken =
       sound = open_is_sound mode (length (spelled taken.pieces)) taken.bytes taken.opened;
     }
 
-pub stands_of : (lexer : LexState) (text : List ℕ) → IsTaken lexer text → Stands lexer text
-stands_of lexer text taken = stands_from lexer.mode lexer.place lexer.ends_run text taken
+pub taken_stands : (lexer : LexState) (text : List ℕ) → IsTaken lexer text → Stands lexer text
+taken_stands lexer text taken = taken_stands_by_parts lexer.mode lexer.place lexer.ends_run text taken
 
 handed_from : (mode : Mode) (place : ℕ) (ends : Bool) (text : List ℕ) → (taken : IsTaken (record { mode = mode; place = place; ends_run = ends }) text) →
     handed (record { mode = mode; place = place; ends_run = ends }) text ≡ tokens_of 0 taken.pieces
@@ -279,5 +279,5 @@ handed_from mode place true text taken =
     let found = run_from mode place text taken in
     ap (λ (r : Scanned). (ended (length text) r).1) found.4 ∙ found.5
 
-pub handed_of : (lexer : LexState) (text : List ℕ) (taken : IsTaken lexer text) → handed lexer text ≡ tokens_of 0 taken.pieces
-handed_of lexer text taken = handed_from lexer.mode lexer.place lexer.ends_run text taken
+pub handed_are_tokens : (lexer : LexState) (text : List ℕ) (taken : IsTaken lexer text) → handed lexer text ≡ tokens_of 0 taken.pieces
+handed_are_tokens lexer text taken = handed_from lexer.mode lexer.place lexer.ends_run text taken

@@ -19,21 +19,21 @@ use Rattle.goal_lexer.specs.Stands.{begins_run}
 use Rattle.goal_lexer.specs.Pieces.{Each, AreDigits, HasForm, sign_kind, sign_tokens}
 use Rattle.goal_lexer.specs.Whole.{BeginsWord, IsWholeRun}
 use Rattle.goal_lexer.proofs.ByteLaws.{digit_no_word}
-use Rattle.goal_lexer.proofs.ScanLaws.{scan_quiet, scan_one, scan_more, scan_stretch}
+use Rattle.goal_lexer.proofs.ScanLaws.{scan_after_no_token, scan_one, scan_next_byte, scan_stretch}
 use Rattle.goal_lexer.proofs.StretchLaws.{Each-take, scan_word, scan_digits}
 
 -- a first byte, and then the others
-scan_first : (place c : ℕ) (cs : List ℕ) (form : Form) → next Between place c ≡ (Run place (c ∷ []) form, []) →
+scan_from_first_byte : (place c : ℕ) (cs : List ℕ) (form : Form) → next Between place c ≡ (Run place (c ∷ []) form, []) →
     scan (Run place (c ∷ []) form) (place + 1) cs ≡ (Run place (c ∷ cs) form, []) → scan Between place (c ∷ cs) ≡ (Run place (c ∷ cs) form, [])
 unfolding scan
-scan_first place c cs form first others =
+scan_from_first_byte place c cs form first others =
     ap (λ (r : Scanned). after_tokens r.1 (scan r.0 (place + 1) cs)) first ∙ ap (after_tokens []) others
 
 scan_of_word : (place : ℕ) (run : List ℕ) → Each is_run_byte run → BeginsWord run → length run ≤ 64 →
     scan Between place run ≡ (Run place run Word, [])
 scan_of_word place [] each begins short = absurd begins
 scan_of_word place (c ∷ cs) each begins short =
-    scan_first place c cs Word (rw begins) (scan_word place (place + 1) (c ∷ []) cs each.1 (λ _. short))
+    scan_from_first_byte place c cs Word (rw begins) (scan_word place (place + 1) (c ∷ []) cs each.1 (λ _. short))
 
 scan_of_digits : (place : ℕ) (run : List ℕ) → 0 < length run → Each is_digit run → length run ≤ 64 →
     scan Between place run ≡ (Run place run Digits, [])
@@ -41,7 +41,7 @@ scan_of_digits place [] some each short = absurd (omega arith)
 scan_of_digits place (c ∷ cs) some each short =
     let digit = each.0 in
     let no_word = digit_no_word c digit in
-    scan_first place c cs Digits (rw (no_word, digit)) (scan_digits place (place + 1) (c ∷ []) cs each.1 (λ _. short))
+    scan_from_first_byte place c cs Digits (rw (no_word, digit)) (scan_digits place (place + 1) (c ∷ []) cs each.1 (λ _. short))
 
 -- the mark of a size after digits
 next_mark : (start place : ℕ) (digits : List ℕ) → length (digits ++ size_mark ∷ []) ≤ 64 →
@@ -54,13 +54,13 @@ scan_of_size : (place : ℕ) (digits : List ℕ) → 0 < length digits → Each 
     scan Between place (digits ++ size_mark ∷ []) ≡ (Run place (digits ++ size_mark ∷ []) Sized, [])
 scan_of_size place digits some each short =
     let fits : length digits ≤ 64 = omega (arith, length-append digits (size_mark ∷ [])) in
-    scan_quiet Between (Run place digits Digits) place digits (size_mark ∷ []) (scan_of_digits place digits some each fits)
+    scan_after_no_token Between (Run place digits Digits) place digits (size_mark ∷ []) (scan_of_digits place digits some each fits)
     ∙ scan_one (Run place digits Digits) (place + length digits) size_mark
     ∙ next_mark place (place + length digits) digits short
 
-digits_some : (xs : List ℕ) → AreDigits xs → 0 < length xs
-digits_some [] are = absurd are
-digits_some (x ∷ xs) are = omega arith
+digits_not_empty : (xs : List ℕ) → AreDigits xs → 0 < length xs
+digits_not_empty [] are = absurd are
+digits_not_empty (x ∷ xs) are = omega arith
 
 digits_each : (xs : List ℕ) → AreDigits xs → Each is_digit xs
 digits_each [] are = absurd are
@@ -71,22 +71,22 @@ pub scan_of_run : (place : ℕ) (run : List ℕ) (form : Form) → Each is_run_b
     scan Between place run ≡ (Run place run form, [])
 scan_of_run place [] Word each has short = absurd has
 scan_of_run place (c ∷ cs) Word each has short = scan_of_word place (c ∷ cs) each has.0 short
-scan_of_run place run Digits each has short = scan_of_digits place run (digits_some run has) (digits_each run has) short
+scan_of_run place run Digits each has short = scan_of_digits place run (digits_not_empty run has) (digits_each run has) short
 scan_of_run place run Sized each has short =
     let digits = has.0 in
     let fits : length (digits ++ size_mark ∷ []) ≤ 64 = subst (λ (t : List ℕ). length t ≤ 64) has.1 short in
     subst (λ (t : List ℕ). scan Between place t ≡ (Run place t Sized, [])) (sym has.1)
-    (scan_of_size place digits (digits_some digits has.2) (digits_each digits has.2) fits)
+    (scan_of_size place digits (digits_not_empty digits has.2) (digits_each digits has.2) fits)
 
 -- the first byte of a prefix
-begins_front : (n : ℕ) (xs : List ℕ) → 0 < n → 0 < length xs → begins_word (get_or xs 0 0) ≡ true → BeginsWord (take n xs)
-begins_front zero xs some has is = absurd (omega arith)
-begins_front (suc n) [] some has is = absurd (omega arith)
-begins_front (suc n) (x ∷ xs) some has is = is
+prefix_begins_word : (n : ℕ) (xs : List ℕ) → 0 < n → 0 < length xs → begins_word (get_or xs 0 0) ≡ true → BeginsWord (take n xs)
+prefix_begins_word zero xs some has is = absurd (omega arith)
+prefix_begins_word (suc n) [] some has is = absurd (omega arith)
+prefix_begins_word (suc n) (x ∷ xs) some has is = is
 
 -- the byte at that place is no run byte
-ends_at : (piece : List ℕ) (n : ℕ) → n < length piece → is_run_byte (get_or piece n 0) ≡ false → begins_run (drop n piece) ≡ false
-ends_at piece n inside ends = ap begins_run (drop_more piece n 0 inside) ∙ ends
+run_ends_at_place : (piece : List ℕ) (n : ℕ) → n < length piece → is_run_byte (get_or piece n 0) ≡ false → begins_run (drop n piece) ≡ false
+run_ends_at_place piece n inside ends = ap begins_run (drop_more piece n 0 inside) ∙ ends
 
 -- a word that ends inside the piece
 pub whole_letters : (place count : ℕ) (piece : List ℕ) (kind : TokenKind) → 0 < count → count < length piece → count ≤ 64 →
@@ -99,11 +99,11 @@ whole_letters place count piece kind some inside few begins each ends is =
     let short : length run ≤ 64 = omega (arith, length-take count piece) in (
       some,
       inside,
-      ends_at piece count inside ends,
+      run_ends_at_place piece count inside ends,
       refl,
       (
         Run place run Word,
-        scan_of_word place run (Each-take is_run_byte count piece each within) (begins_front count piece some (omega arith) begins) short,
+        scan_of_word place run (Each-take is_run_byte count piece each within) (prefix_begins_word count piece some (omega arith) begins) short,
         ap (λ (k : TokenKind). record { kind = k; start = place; end = place + count } ∷ []) (sym is),
       ),
     )
@@ -119,7 +119,7 @@ whole_digits place count value piece some inside few each ends is =
     let long : length run ≡ count = length-take-le count piece within in (
       some,
       inside,
-      ends_at piece count inside ends,
+      run_ends_at_place piece count inside ends,
       refl,
       (
         Run place run Digits,
@@ -148,7 +148,7 @@ whole_size place count value piece some inside few each mark ends is =
     let short : length (digits ++ size_mark ∷ []) ≤ 64 = omega (arith, length-append digits (size_mark ∷ [])) in (
       omega arith,
       inside,
-      ends_at piece (count + 1) inside ends,
+      run_ends_at_place piece (count + 1) inside ends,
       refl,
       (
         Run place (digits ++ size_mark ∷ []) Sized,
@@ -209,6 +209,6 @@ pub sign_in_piece : (place n : ℕ) (piece : List ℕ) (kind : TokenKind) → n 
 sign_in_piece place n piece kind inside quiet is =
     let c = get_or piece n 0 in
     let some : IsSome (sign_kind c) = subst (λ (o : Option TokenKind). IsSome o) (sym is) refl in
-    scan_more Between Between place piece n inside quiet
+    scan_next_byte Between Between place piece n inside quiet
     ∙ next_sign (place + n) c some
     ∙ ap (λ (o : Option TokenKind). (Between, sign_tokens o (place + n))) is

@@ -3,7 +3,7 @@ use Rattle.std.proofs.lemmas.List.{take_all, drop_more}
 use Rattle.goal_lexer.specs.declared.mode.Mode.{Mode}
 use Rattle.goal_lexer.specs.Scan.{scan, next}
 use Rattle.goal_lexer.specs.Stands.{begins_run}
-use Rattle.goal_lexer.proofs.ScanLaws.{scan_more, scan_fault, scan_sliced, sliced_within}
+use Rattle.goal_lexer.proofs.ScanLaws.{scan_next_byte, scan_fault, scan_sliced, sliced_within}
 use Rattle.goal_lexer.proofs.WholeLaws.{run_in_piece}
 use Rattle.goal_lexer.proofs.scanning.take_open_piece.Goals as goal
 use Rattle.goal_lexer.proofs.scanning.take_open_piece.Goals.{After-take_byte}
@@ -29,7 +29,7 @@ after_byte : (c : After-take_byte) →
     ≡ next c.take_stretch-taken.new.mode (c.args.place + (c.loop-taken.taken + c.take_stretch-taken.result))
     (get_or c.args.piece.now (c.loop-taken.taken + c.take_stretch-taken.result) 0)
 after_byte c =
-    scan_more c.args.mode.now c.take_stretch-taken.new.mode c.args.place c.args.piece.now
+    scan_next_byte c.args.mode.now c.take_stretch-taken.new.mode c.args.place c.args.piece.now
     (c.loop-taken.taken + c.take_stretch-taken.result) (below c) (stretched c)
 
 -- the stretch reaches the end of the piece

@@ -6,7 +6,7 @@ use Rattle.goal_lexer.specs.declared.mode.Mode.TheVariants.{Between, Failed}
 use Rattle.goal_lexer.specs.Scan.{Scanned, scan, scanned, closing}
 use Rattle.goal_lexer.specs.State.{LexState}
 use Rattle.goal_lexer.specs.Stands.{Stands, handed}
-use Rattle.goal_lexer.proofs.StandsLaws.{went_view, place_on, stands_on, stands_past_run, run_was_open, fault_of_every}
+use Rattle.goal_lexer.proofs.StandsLaws.{scan_of_continuation_by_parts, place_after_continuation, stands_on, stands_past_run, run_was_open, fault_of_continued}
 use Rattle.goal_lexer.proofs.lexing.Lexer.next_token_into.Goals as goal
 use Rattle.goal_lexer.proofs.lexing.Lexer.next_token_into.Goals.{After-take_piece}
 
@@ -22,13 +22,13 @@ went : (c : After-take_piece) (n : ℕ) (new : Mode) (tokens : List Token) →
     scanned (text ++ take n c.args.rest.now) ≡ (new, handed c.args.self.now text ++ tokens)
 went c n new tokens some scan_is text stands =
     let fields = c.self.inside in
-    went_view fields.mode new fields.place fields.ends_run c.args.self.now c.self.view_is n c.args.rest.now tokens c.requires.apart some scan_is text stands
+    scan_of_continuation_by_parts fields.mode new fields.place fields.ends_run c.args.self.now c.self.view_is n c.args.rest.now tokens c.requires.apart some scan_is text stands
 
 at_place : (c : After-take_piece) (n : ℕ) → n ≤ length c.args.rest.now → (text : List ℕ) → Stands c.args.self.now text →
     length (text ++ take n c.args.rest.now) ≡ c.self.inside.place + n
 at_place c n within text stands =
     let fields = c.self.inside in
-    place_on fields.mode fields.place fields.ends_run c.args.self.now c.self.view_is n c.args.rest.now text within stands
+    place_after_continuation fields.mode fields.place fields.ends_run c.args.self.now c.self.view_is n c.args.rest.now text within stands
 
 -- the scan of the whole piece
 went_whole : (c : After-take_piece) (new : Mode) →
@@ -150,5 +150,5 @@ returns-in-Fault-clause-fault c text stands =
 pub returns-in-Fault-clause-every : goal.returns-in-Fault-clause-every
 returns-in-Fault-clause-every c text more stands =
     let k = (goal.at.returns-in-Fault-clause-every c).After-take_piece in
-    fault_of_every (text ++ c.args.rest.now) more c.in-Fault.at (handed c.args.self.now text)
+    fault_of_continued (text ++ c.args.rest.now) more c.in-Fault.at (handed c.args.self.now text)
     (fault_there k c.in-Fault.at c.in-Fault.ensures.0 text stands)
