@@ -40,7 +40,7 @@ use Rattle.goal_parser.specs.Ranks.{ranks_with, ranks_of}
 use Rattle.goal_parser.specs.Counts.{counts_of}
 use Rattle.goal_parser.specs.Items.{defined_as, is_defined, first_outside, first_unknown, dep_uses, note_uses, used_with, used_of}
 use Rattle.goal_parser.specs.Faults.{fault_by, token_fault, syntax_fault, number_fault, rank_fault, rank_fault_of, fault_if, option_fault, defined_fault, label_fault, label_fault_of, count_fault, unknown_fault, unknown_fault_of}
-use Rattle.goal_parser.proofs.ParserLaws.{none_first, none_second, not_so, rank_passes}
+use Rattle.goal_parser.proofs.ParserLaws.{first_is_none, second_is_none, no_fault_if_false, rank_passes}
 use Rattle.goal_parser.specs.Grammar.{Amount, plain, marked, Setting, tag, cpu, nic, Item, calc, send, recv, requires, irequires, moves, adds, Block, Written, number_or_any, amount_token, setting_tokens, label_tokens, item_tokens, block_tokens, text_tokens, amount, tag_of, cpu_of, nic_of, op_said, defined_before, defined_by, definitions, dep_said, note_said, plan_said, rank_said, AreSaid, used_by, is_tag, is_cpu, is_nic, AreGivenOnce, HasOptionsOnce, KeepsRules, AreRight, IsWritten, IsNewRank}
 
 -- what is kept of the tokens so far, except for the newest action and the newest head
@@ -117,8 +117,8 @@ module _ {A B : Type 0} (f : A → B) (g : Item → List A) (h : Item → List B
   map_items (item ∷ items) =
       map-append f (g item) (flat_map g items) ∙ ap (λ (xs : List B). xs ++ map f (flat_map g items)) (same item) ∙ ap (λ (xs : List B). h item ++ xs) (map_items items)
 
-flat_more : {A B : Type 0} (f : A → List B) (xs : List A) (x : A) → flat_map f xs ++ f x ≡ flat_map f (xs ++ x ∷ [])
-flat_more f xs x = flat_map_more f [] xs x
+flat_map_with_last : {A B : Type 0} (f : A → List B) (xs : List A) (x : A) → flat_map f xs ++ f x ≡ flat_map f (xs ++ x ∷ [])
+flat_map_with_last f xs x = flat_map_more f [] xs x
 
 definitions-push : (n : ℕ) (items : List Item) (item : Item) → definitions n (items ++ item ∷ []) ≡ definitions n items ++ defined_by item (n + length (flat_map op_said items))
 definitions-push n [] item =
@@ -209,8 +209,8 @@ record In (kept : Kept) (ks part : List TokenKind) (label : Option (List ℕ)) :
 
 module _ (kept : Kept) (ks part : List TokenKind) (label : Option (List ℕ)) (inside : In kept ks part label) where
   -- another token of the item
-  stay : (k : TokenKind) (longer : List TokenKind) → part ++ k ∷ [] ≡ longer → In kept (ks ++ k ∷ []) longer label
-  stay k longer same =
+  item_with_token : (k : TokenKind) (longer : List TokenKind) → part ++ k ∷ [] ≡ longer → In kept (ks ++ k ∷ []) longer label
+  item_with_token k longer same =
       let front = text_tokens inside.written in
       let items = flat_map item_tokens inside.items in
       let open_block = token.Rank ∷ token.Number kept.rank ∷ token.Open ∷ [] in
@@ -236,11 +236,11 @@ module _ (kept : Kept) (ks part : List TokenKind) (label : Option (List ℕ)) (i
       }
 
   -- the item is complete
-  complete : (item : Item) (ops : List Op) (deps : List NamedDep) (notes : List NamedNote) (used : List Mention) → part ≡ item_tokens item →
+  item_is_complete : (item : Item) (ops : List Op) (deps : List NamedDep) (notes : List NamedNote) (used : List Mention) → part ≡ item_tokens item →
       ops ≡ kept.ops ++ op_said item → deps ≡ kept.deps ++ dep_named item → notes ≡ kept.notes ++ note_named item →
       ((n : ℕ) → defined_before label n ≡ defined_by item n) → labels_in used ≡ labels_in kept.used ++ used_by item → HasOptionsOnce item →
       In (record { ranks = kept.ranks; used = used; blocks = kept.blocks; rank = kept.rank; ops = ops; defined = kept.defined; deps = deps; notes = notes; plans = kept.plans }) ks [] None
-  complete item ops deps notes used whole same_ops same_deps same_notes same_label same_used once =
+  item_is_complete item ops deps notes used whole same_ops same_deps same_notes same_label same_used once =
       let items = inside.items in
       let front = text_tokens inside.written in
       let open_block = token.Rank ∷ token.Number kept.rank ∷ token.Open ∷ [] in
@@ -250,20 +250,20 @@ module _ (kept : Kept) (ks part : List TokenKind) (label : Option (List ℕ)) (i
         items = items ++ item ∷ [];
         spelled = inside.spelled
             ∙ ap (λ (xs : List TokenKind). front ++ (open_block ++ xs))
-            (ap (λ (xs : List TokenKind). flat_map item_tokens items ++ xs) whole ∙ flat_more item_tokens items item ∙ sym (append-nil (flat_map item_tokens (items ++ item ∷ []))));
+            (ap (λ (xs : List TokenKind). flat_map item_tokens items ++ xs) whole ∙ flat_map_with_last item_tokens items item ∙ sym (append-nil (flat_map item_tokens (items ++ item ∷ []))));
         right = inside.right;
         ranks = inside.ranks;
         below = inside.below;
         said = inside.said;
         blocks = inside.blocks;
         new = inside.new;
-        ops = same_ops ∙ ap (λ (xs : List Op). xs ++ op_said item) inside.ops ∙ flat_more op_said items item;
+        ops = same_ops ∙ ap (λ (xs : List Op). xs ++ op_said item) inside.ops ∙ flat_map_with_last op_said items item;
         defined = inside.defined
             ∙ ap (λ (ds : List Definition). definitions 0 items ++ ds) (same_label (length kept.ops) ∙ ap (defined_by item) at)
             ∙ sym (definitions-push 0 items item) ∙ sym (append-nil (definitions 0 (items ++ item ∷ [])));
-        deps = same_deps ∙ ap (λ (xs : List NamedDep). xs ++ dep_named item) inside.deps ∙ flat_more dep_named items item;
-        notes = same_notes ∙ ap (λ (xs : List NamedNote). xs ++ note_named item) inside.notes ∙ flat_more note_named items item;
-        used = same_used ∙ ap (λ (xs : List (List ℕ)). xs ++ used_by item) inside.used ∙ flat_more used_by items item;
+        deps = same_deps ∙ ap (λ (xs : List NamedDep). xs ++ dep_named item) inside.deps ∙ flat_map_with_last dep_named items item;
+        notes = same_notes ∙ ap (λ (xs : List NamedNote). xs ++ note_named item) inside.notes ∙ flat_map_with_last note_named items item;
+        used = same_used ∙ ap (λ (xs : List (List ℕ)). xs ++ used_by item) inside.used ∙ flat_map_with_last used_by items item;
         once = inside.once;
         options = All-push HasOptionsOnce items item inside.options once;
       }
@@ -391,15 +391,15 @@ At state.Recv6 kept draft head ks =
     × (draft ≡ mark w (drafted action.Recv (amount size) from ss o)) × AreGivenOnce ss
 
 -- the plan of a rank, with a block more
-either_way : (a b : Bool) → (a || b) ≡ false → (a ≡ false) × (b ≡ false)
-either_way false b none = (refl, none)
-either_way true b none = cc
+or_false_parts : (a b : Bool) → (a || b) ≡ false → (a ≡ false) × (b ≡ false)
+or_false_parts false b none = (refl, none)
+or_false_parts true b none = cc
 
 rank_of_new : (bs : List Block) (b : Block) (rank : ℕ) → rank ≡ b.rank → list_any (nat_eq b.rank) (ranks_in bs) ≡ false → rank_said (bs ++ b ∷ []) rank ≡ plan_said b.items
 rank_of_new [] b rank same new =
     let is : (rank == b.rank) ≡ true = grind (arith, nat_tests) in ap (λ (t : Bool). if t then plan_said b.items else empty_plan) is
 rank_of_new (c ∷ bs) b rank same new =
-    let parts = either_way (nat_eq b.rank c.rank) (list_any (nat_eq b.rank) (ranks_in bs)) new in
+    let parts = or_false_parts (nat_eq b.rank c.rank) (list_any (nat_eq b.rank) (ranks_in bs)) new in
     let other = parts.0 in
     let is : (rank == c.rank) ≡ false = grind (arith, nat_tests) in
     ap (λ (t : Bool). if t then plan_said c.items else rank_said (bs ++ b ∷ []) rank) is ∙ rank_of_new bs b rank same parts.1
@@ -408,9 +408,9 @@ rank_of_other : (bs : List Block) (b : Block) (rank : ℕ) → (rank == b.rank) 
 rank_of_other [] b rank is = ap (λ (t : Bool). if t then plan_said b.items else empty_plan) is
 rank_of_other (c ∷ bs) b rank is = ap (λ (p : Plan). if rank == c.rank then plan_said c.items else p) (rank_of_other bs b rank is)
 
-said_more : (w : Written) (ps : List Plan) (b : Block) (plan : Plan) → AreSaid w ps → list_any (nat_eq b.rank) (ranks_in w.blocks) ≡ false → plan ≡ plan_said b.items →
+said_with_block : (w : Written) (ps : List Plan) (b : Block) (plan : Plan) → AreSaid w ps → list_any (nat_eq b.rank) (ranks_in w.blocks) ≡ false → plan ≡ plan_said b.items →
     AreSaid (record { ranks = w.ranks; blocks = w.blocks ++ b ∷ [] }) (slice_set ps b.rank plan)
-said_more w ps b plan said new same =
+said_with_block w ps b plan said new same =
     record {
       ranks = length-set ps b.rank plan ∙ said.ranks;
       each = λ rank below. by rank below (rank == b.rank) refl;
@@ -430,12 +430,12 @@ said_more w ps b plan said new same =
 none_of_rank : (bs : List Block) (rank : ℕ) → list_any (nat_eq rank) (ranks_in bs) ≡ false → count_by (λ (b : Block). rank == b.rank) bs ≡ 0
 none_of_rank [] rank new = refl
 none_of_rank (b ∷ bs) rank new =
-    let parts = either_way (nat_eq rank b.rank) (list_any (nat_eq rank) (ranks_in bs)) new in
+    let parts = or_false_parts (nat_eq rank b.rank) (list_any (nat_eq rank) (ranks_in bs)) new in
     count_none (λ (c : Block). rank == c.rank) b bs parts.0 (none_of_rank bs rank parts.1)
 
-right_more : (w : Written) (b : Block) → AreRight w → b.rank < w.ranks → list_any (nat_eq b.rank) (ranks_in w.blocks) ≡ false → KeepsRules b →
+right_with_block : (w : Written) (b : Block) → AreRight w → b.rank < w.ranks → list_any (nat_eq b.rank) (ranks_in w.blocks) ≡ false → KeepsRules b →
     AreRight (record { ranks = w.ranks; blocks = w.blocks ++ b ∷ [] })
-right_more w b right below new keeps =
+right_with_block w b right below new keeps =
     record {
       ranks = All-push (λ (c : Block). c.rank < w.ranks) w.blocks b right.ranks below;
       once = λ rank. count_one (λ (c : Block). rank == c.rank) w.blocks b
@@ -445,19 +445,19 @@ right_more w b right below new keeps =
     }
 
 -- the labels that are used pass the test
-used_pass : (test : List ℕ → Bool) (us : List Mention) → first_outside test us ≡ None → AllByRecursion (λ (l : List ℕ). test l ≡ true) (labels_in us)
+used_labels_pass : (test : List ℕ → Bool) (us : List Mention) → first_outside test us ≡ None → AllByRecursion (λ (l : List ℕ). test l ≡ true) (labels_in us)
 unfolding first_outside
-used_pass test [] none = tt
-used_pass test (u ∷ us) none = by (test u.label) refl none (used_pass test us)
+used_labels_pass test [] none = tt
+used_labels_pass test (u ∷ us) none = by (test u.label) refl none (used_labels_pass test us)
   where
     by : (b : Bool) → test u.label ≡ b → (if b then first_outside test us else Some u.at) ≡ None →
         (first_outside test us ≡ None → AllByRecursion (λ (l : List ℕ). test l ≡ true) (labels_in us)) → (test u.label ≡ true) × AllByRecursion (λ (l : List ℕ). test l ≡ true) (labels_in us)
     by true is rest more = (is, more rest)
     by false is rest more = cc
 
-none_found : (o : Option ℕ) → option_map UnknownLabel o ≡ None → o ≡ None
-none_found None none = refl
-none_found (Some at) none = cc
+mapped_none : (o : Option ℕ) → option_map UnknownLabel o ≡ None → o ≡ None
+mapped_none None none = refl
+mapped_none (Some at) none = cc
 
 -- an item begins where no action is open, or a block ends
 module _ (kept : Kept) (draft : Draft) (head : ItemHead) (ks : List TokenKind) (inside : In kept ks [] None) where
@@ -478,7 +478,7 @@ module _ (kept : Kept) (draft : Draft) (head : ItemHead) (ks : List TokenKind) (
   rules_kept found =
       let items = inside.items in
       let labels : kept.defined ≡ definitions 0 items = inside.defined ∙ append-nil (definitions 0 items) in
-      let pass = All-from_recursion (λ (l : List ℕ). is_defined kept.defined l ≡ true) (labels_in kept.used) (used_pass (is_defined kept.defined) kept.used found) in
+      let pass = All-from_recursion (λ (l : List ℕ). is_defined kept.defined l ≡ true) (labels_in kept.used) (used_labels_pass (is_defined kept.defined) kept.used found) in
       record {
         once = λ label. subst (λ (ds : List Definition). count_by (is_label label) ds ≤ 1) labels (inside.once label);
         defined = subst (λ (ds : List Definition). All (λ (l : List ℕ). is_defined ds l ≡ true) (flat_map used_by items)) labels
@@ -486,9 +486,9 @@ module _ (kept : Kept) (draft : Draft) (head : ItemHead) (ks : List TokenKind) (
         options = inside.options;
       }
 
-  closed : (at : ℕ) → first_unknown kept.defined kept.used ≡ None → Out (kept_with state.Item token.Close at draft head kept) (ks ++ token.Close ∷ []) []
+  block_is_closed : (at : ℕ) → first_unknown kept.defined kept.used ≡ None → Out (kept_with state.Item token.Close at draft head kept) (ks ++ token.Close ∷ []) []
   unfolding ranks_with used_with blocks_with rank_with ops_with ends_action defined_with deps_with notes_with plans_with
-  closed at found =
+  block_is_closed at found =
       let w = inside.written in
       let block : Block = record { rank = kept.rank; items = inside.items } in
       let front = text_tokens w in
@@ -499,10 +499,10 @@ module _ (kept : Kept) (draft : Draft) (head : ItemHead) (ks : List TokenKind) (
         spelled = ap (λ (xs : List TokenKind). xs ++ token.Close ∷ []) inside.spelled
             ∙ append_assoc front (open_block ++ (items ++ [])) (token.Close ∷ [])
             ∙ ap (λ (xs : List TokenKind). front ++ (open_block ++ (xs ++ token.Close ∷ []))) (append-nil items)
-            ∙ ap (λ (xs : List TokenKind). token.NumRanks ∷ token.Number w.ranks ∷ xs) (flat_more block_tokens w.blocks block ∙ sym (append-nil (flat_map block_tokens (w.blocks ++ block ∷ []))));
-        right = right_more w block inside.right inside.below inside.new (rules_kept found);
+            ∙ ap (λ (xs : List TokenKind). token.NumRanks ∷ token.Number w.ranks ∷ xs) (flat_map_with_last block_tokens w.blocks block ∙ sym (append-nil (flat_map block_tokens (w.blocks ++ block ∷ []))));
+        right = right_with_block w block inside.right inside.below inside.new (rules_kept found);
         ranks = inside.ranks;
-        said = said_more w kept.plans block (plan_with state.Item draft kept) inside.said inside.new plan_is;
+        said = said_with_block w kept.plans block (plan_with state.Item draft kept) inside.said inside.new plan_is;
         blocks = inside.blocks ∙ sym (map-append (λ (b : Block). b.rank) w.blocks (block ∷ []));
         clear = record { ops = refl; defined = refl; used = refl; deps = refl; notes = refl };
       }
@@ -510,11 +510,11 @@ module _ (kept : Kept) (draft : Draft) (head : ItemHead) (ks : List TokenKind) (
   step_item : (k : TokenKind) (at : ℕ) → is_none (item_entry k) ≡ false → unknown_fault_of kept.defined kept.used k ≡ None →
       At (unwrap_or (item_entry k) state.Item) (kept_with state.Item k at draft head kept) (draft_with state.Item k draft) (head_with state.Item k at head) (ks ++ k ∷ [])
   unfolding ranks_with used_with blocks_with rank_with draft_with head_with ops_with ends_action defined_with deps_with notes_with plans_with
-  step_item token.Close at known found = closed at (none_found (first_unknown kept.defined kept.used) found)
-  step_item (token.Label label) at known found = (label, (at, refl), stay kept ks [] None inside (token.Label label) (token.Label label ∷ []) refl)
-  step_item token.Calc at known found = (None, draft.option, stay kept ks [] None inside token.Calc (token.Calc ∷ []) refl, refl)
-  step_item token.Send at known found = (None, draft.option, stay kept ks [] None inside token.Send (token.Send ∷ []) refl, refl)
-  step_item token.Recv at known found = (None, draft.option, stay kept ks [] None inside token.Recv (token.Recv ∷ []) refl, refl)
+  step_item token.Close at known found = block_is_closed at (mapped_none (first_unknown kept.defined kept.used) found)
+  step_item (token.Label label) at known found = (label, (at, refl), item_with_token kept ks [] None inside (token.Label label) (token.Label label ∷ []) refl)
+  step_item token.Calc at known found = (None, draft.option, item_with_token kept ks [] None inside token.Calc (token.Calc ∷ []) refl, refl)
+  step_item token.Send at known found = (None, draft.option, item_with_token kept ks [] None inside token.Send (token.Send ∷ []) refl, refl)
+  step_item token.Recv at known found = (None, draft.option, item_with_token kept ks [] None inside token.Recv (token.Recv ∷ []) refl, refl)
   step_item _ at known found = absurd (true≢false known)
 
 -- the same behind an action, which then is complete
@@ -664,39 +664,39 @@ module _ (a : Action) (size : ℕ) (peer : Option ℕ) (ss : List Setting) (o : 
     option = option.Nic;
   }
 
-  settled : (w : OptionWord) (n : ℕ) → gives w ss ≡ false →
+  option_is_settled : (w : OptionWord) (n : ℕ) → gives w ss ≡ false →
       option_with (mark w (drafted a size peer ss o)).option n (mark w (drafted a size peer ss o)) ≡ drafted a size peer (ss ++ number_setting w n ∷ []) w
-  settled option.Tag n new = with_tag (Some n) new
-  settled option.Cpu n new = with_cpu n new
-  settled option.Nic n new = with_nic n new
+  option_is_settled option.Tag n new = with_tag (Some n) new
+  option_is_settled option.Cpu n new = with_cpu n new
+  option_is_settled option.Nic n new = with_nic n new
 
 -- each option once
-none_given : AreGivenOnce []
-none_given = record { tags = omega arith; cpus = omega arith; nics = omega arith }
+no_option_given : AreGivenOnce []
+no_option_given = record { tags = omega arith; cpus = omega arith; nics = omega arith }
 
 gives_none : (w : OptionWord) (ss : List Setting) → gives w ss ≡ false → count_by (is_of w) ss ≡ 0
 gives_none w [] new = refl
 gives_none w (s ∷ ss) new =
-    let parts = either_way (is_of w s) (gives w ss) new in
+    let parts = or_false_parts (is_of w s) (gives w ss) new in
     count_none (is_of w) s ss parts.0 (gives_none w ss parts.1)
 
-given_by : (x : Setting) (ss : List Setting) → AreGivenOnce ss → (is_tag x ≡ true → count_by is_tag ss ≡ 0) → (is_cpu x ≡ true → count_by is_cpu ss ≡ 0) →
+once_with_setting : (x : Setting) (ss : List Setting) → AreGivenOnce ss → (is_tag x ≡ true → count_by is_tag ss ≡ 0) → (is_cpu x ≡ true → count_by is_cpu ss ≡ 0) →
     (is_nic x ≡ true → count_by is_nic ss ≡ 0) → AreGivenOnce (ss ++ x ∷ [])
-given_by x ss given tags cpus nics = record {
+once_with_setting x ss given tags cpus nics = record {
   tags = count_one is_tag ss x tags given.tags;
   cpus = count_one is_cpu ss x cpus given.cpus;
   nics = count_one is_nic ss x nics given.nics;
 }
 
 given_tag : (n : Option ℕ) (ss : List Setting) → gives option.Tag ss ≡ false → AreGivenOnce ss → AreGivenOnce (ss ++ tag n ∷ [])
-given_tag n ss new given = given_by (tag n) ss given (λ is. gives_none option.Tag ss new) (λ is. absurd (true≢false (sym is))) (λ is. absurd (true≢false (sym is)))
+given_tag n ss new given = once_with_setting (tag n) ss given (λ is. gives_none option.Tag ss new) (λ is. absurd (true≢false (sym is))) (λ is. absurd (true≢false (sym is)))
 
-given_more : (w : OptionWord) (n : ℕ) (ss : List Setting) → gives w ss ≡ false → AreGivenOnce ss → AreGivenOnce (ss ++ number_setting w n ∷ [])
-given_more option.Tag n ss new given = given_tag (Some n) ss new given
-given_more option.Cpu n ss new given =
-    given_by (cpu n) ss given (λ is. absurd (true≢false (sym is))) (λ is. gives_none option.Cpu ss new) (λ is. absurd (true≢false (sym is)))
-given_more option.Nic n ss new given =
-    given_by (nic n) ss given (λ is. absurd (true≢false (sym is))) (λ is. absurd (true≢false (sym is))) (λ is. gives_none option.Nic ss new)
+once_with_number : (w : OptionWord) (n : ℕ) (ss : List Setting) → gives w ss ≡ false → AreGivenOnce ss → AreGivenOnce (ss ++ number_setting w n ∷ [])
+once_with_number option.Tag n ss new given = given_tag (Some n) ss new given
+once_with_number option.Cpu n ss new given =
+    once_with_setting (cpu n) ss given (λ is. absurd (true≢false (sym is))) (λ is. gives_none option.Cpu ss new) (λ is. absurd (true≢false (sym is)))
+once_with_number option.Nic n ss new given =
+    once_with_setting (nic n) ss given (λ is. absurd (true≢false (sym is))) (λ is. absurd (true≢false (sym is))) (λ is. gives_none option.Nic ss new)
 
 setting_is : (w : OptionWord) (n : ℕ) → option_token w ∷ token.Number n ∷ [] ≡ setting_tokens (number_setting w n)
 setting_is option.Tag n = refl
@@ -704,15 +704,15 @@ setting_is option.Cpu n = refl
 setting_is option.Nic n = refl
 
 -- an option more, of two tokens
-longer_by : (front back : List TokenKind) (ss : List Setting) (x : Setting) (word value : TokenKind) → word ∷ value ∷ [] ≡ setting_tokens x →
+settings_with_another : (front back : List TokenKind) (ss : List Setting) (x : Setting) (word value : TokenKind) → word ∷ value ∷ [] ≡ setting_tokens x →
     ((front ++ (back ++ flat_map setting_tokens ss)) ++ word ∷ []) ++ value ∷ [] ≡ front ++ (back ++ flat_map setting_tokens (ss ++ x ∷ []))
-longer_by front back ss x word value same =
+settings_with_another front back ss x word value same =
     append_assoc (front ++ (back ++ flat_map setting_tokens ss)) (word ∷ []) (value ∷ [])
     ∙ append_assoc front (back ++ flat_map setting_tokens ss) (word ∷ value ∷ [])
     ∙ ap (λ (xs : List TokenKind). front ++ xs)
     (append_assoc back (flat_map setting_tokens ss) (word ∷ value ∷ [])
     ∙ ap (λ (xs : List TokenKind). back ++ (flat_map setting_tokens ss ++ xs)) same
-    ∙ ap (λ (xs : List TokenKind). back ++ xs) (flat_more setting_tokens ss x))
+    ∙ ap (λ (xs : List TokenKind). back ++ xs) (flat_map_with_last setting_tokens ss x))
 
 -- the operation of a calc
 calc_op : (nanos : ℕ) (c : Option ℕ) (o : OptionWord) → op_of (drafted action.Calc nanos None (cpu_settings c) o) ∷ [] ≡ op_said (calc None nanos c)
@@ -721,10 +721,10 @@ calc_op nanos (Some n) o = refl
 
 -- an action is complete
 module _ (kept : Kept) (draft : Draft) (ks : List TokenKind) (label : Option (List ℕ)) where
-  acted : (item : Item) → In kept ks (item_tokens item) label → op_of draft ∷ [] ≡ op_said item → [] ≡ dep_named item → [] ≡ note_named item →
+  action_is_complete : (item : Item) → In kept ks (item_tokens item) label → op_of draft ∷ [] ≡ op_said item → [] ≡ dep_named item → [] ≡ note_named item →
       ((n : ℕ) → defined_before label n ≡ defined_by item n) → [] ≡ used_by item → HasOptionsOnce item → In (with_op draft kept) ks [] None
-  acted item inside same no_dep no_note same_label no_use once =
-      complete kept ks (item_tokens item) label inside item (kept.ops ++ op_of draft ∷ []) kept.deps kept.notes kept.used refl
+  action_is_complete item inside same no_dep no_note same_label no_use once =
+      item_is_complete kept ks (item_tokens item) label inside item (kept.ops ++ op_of draft ∷ []) kept.deps kept.notes kept.used refl
       (ap (λ (os : List Op). kept.ops ++ os) same)
       (sym (append-nil kept.deps) ∙ ap (λ (ds : List NamedDep). kept.deps ++ ds) no_dep)
       (sym (append-nil kept.notes) ∙ ap (λ (ns : List NamedNote). kept.notes ++ ns) no_note)
@@ -832,10 +832,10 @@ step_open token.Open at kept draft head ks known once fits here =
 step_open _ at kept draft head ks known once fits here = absurd (true≢false known)
 
 -- a label that is not defined yet
-not_among : (ds : List Definition) (label : List ℕ) → is_defined ds label ≡ false → count_by (is_label label) ds ≡ 0
+undefined_not_counted : (ds : List Definition) (label : List ℕ) → is_defined ds label ≡ false → count_by (is_label label) ds ≡ 0
 unfolding defined_as
-not_among [] label new = refl
-not_among (d ∷ ds) label new = by (bytes_eq label d.label) refl new (not_among ds label)
+undefined_not_counted [] label new = refl
+undefined_not_counted (d ∷ ds) label new = by (bytes_eq label d.label) refl new (undefined_not_counted ds label)
   where
     by : (b : Bool) → bytes_eq label d.label ≡ b → is_some (if b then Some d.op else defined_as ds label) ≡ false → (is_defined ds label ≡ false → count_by (is_label label) ds ≡ 0) →
         count_by (is_label label) (d ∷ ds) ≡ 0
@@ -846,15 +846,15 @@ defined_once : (ds : List Definition) (label : List ℕ) (op : ℕ) → ((other 
     (other : List ℕ) → count_by (is_label other) (ds ++ record { label = label; op = op } ∷ []) ≤ 1
 defined_once ds label op once new other =
     count_one (is_label other) ds (record { label = label; op = op })
-    (λ is. not_among ds other (subst (λ (l : List ℕ). is_defined ds l ≡ false) (sym ((bytes_eq-Decides other label).0 is)) new))
+    (λ is. undefined_not_counted ds other (subst (λ (l : List ℕ). is_defined ds l ≡ false) (sym ((bytes_eq-Decides other label).0 is)) new))
     (once other)
 
 module _ (label : List ℕ) (kept : Kept) (ks : List TokenKind) (inside : In kept ks (token.Label label ∷ []) None) where
   -- a colon defines the label
-  defines : (subject : Option Mention) (at : ℕ) → subject ≡ Some (record { label = label; at = at }) → defined_fault kept.defined subject ≡ None →
+  colon_defines : (subject : Option Mention) (at : ℕ) → subject ≡ Some (record { label = label; at = at }) → defined_fault kept.defined subject ≡ None →
       In (record kept { defined = define subject (length kept.ops) kept.defined }) (ks ++ token.Colon ∷ []) (token.Label label ∷ token.Colon ∷ []) (Some label)
-  defines subject at is fresh =
-      let stayed = stay kept ks (token.Label label ∷ []) None inside token.Colon (token.Label label ∷ token.Colon ∷ []) refl in
+  colon_defines subject at is fresh =
+      let stayed = item_with_token kept ks (token.Label label ∷ []) None inside token.Colon (token.Label label ∷ token.Colon ∷ []) refl in
       record {
         written = stayed.written;
         items = stayed.items;
@@ -873,17 +873,17 @@ module _ (label : List ℕ) (kept : Kept) (ks : List TokenKind) (inside : In kep
         used = stayed.used;
         once = λ other. subst (λ (s : Option Mention). count_by (is_label other) (define s (length kept.ops) kept.defined) ≤ 1) (sym is)
             (defined_once kept.defined label (length kept.ops) stayed.once
-            (not_so (is_defined kept.defined label) (Repeat at) (subst (λ (s : Option Mention). defined_fault kept.defined s ≡ None) is fresh)) other);
+            (no_fault_if_false (is_defined kept.defined label) (Repeat at) (subst (λ (s : Option Mention). defined_fault kept.defined s ≡ None) is fresh)) other);
         options = stayed.options;
       }
 
 step_word : Steps state.Word
 unfolding entry ranks_with used_with blocks_with rank_with draft_with head_with ops_with ends_action defined_with deps_with notes_with plans_with
-step_word token.Colon at kept draft head ks known once fits here = (here.0, defines here.0 kept ks here.2 head.subject here.1.0 here.1.1 fits.fresh)
-step_word token.Requires at kept draft head ks known once fits here = (here.0, here.1, tt, stay kept ks (token.Label here.0 ∷ []) None here.2 token.Requires (token.Label here.0 ∷ token.Requires ∷ []) refl)
-step_word token.Irequires at kept draft head ks known once fits here = (here.0, here.1, tt, stay kept ks (token.Label here.0 ∷ []) None here.2 token.Irequires (token.Label here.0 ∷ token.Irequires ∷ []) refl)
-step_word token.Moves at kept draft head ks known once fits here = (here.0, here.1, tt, stay kept ks (token.Label here.0 ∷ []) None here.2 token.Moves (token.Label here.0 ∷ token.Moves ∷ []) refl)
-step_word token.Adds at kept draft head ks known once fits here = (here.0, here.1, tt, stay kept ks (token.Label here.0 ∷ []) None here.2 token.Adds (token.Label here.0 ∷ token.Adds ∷ []) refl)
+step_word token.Colon at kept draft head ks known once fits here = (here.0, colon_defines here.0 kept ks here.2 head.subject here.1.0 here.1.1 fits.fresh)
+step_word token.Requires at kept draft head ks known once fits here = (here.0, here.1, tt, item_with_token kept ks (token.Label here.0 ∷ []) None here.2 token.Requires (token.Label here.0 ∷ token.Requires ∷ []) refl)
+step_word token.Irequires at kept draft head ks known once fits here = (here.0, here.1, tt, item_with_token kept ks (token.Label here.0 ∷ []) None here.2 token.Irequires (token.Label here.0 ∷ token.Irequires ∷ []) refl)
+step_word token.Moves at kept draft head ks known once fits here = (here.0, here.1, tt, item_with_token kept ks (token.Label here.0 ∷ []) None here.2 token.Moves (token.Label here.0 ∷ token.Moves ∷ []) refl)
+step_word token.Adds at kept draft head ks known once fits here = (here.0, here.1, tt, item_with_token kept ks (token.Label here.0 ∷ []) None here.2 token.Adds (token.Label here.0 ∷ token.Adds ∷ []) refl)
 step_word _ at kept draft head ks known once fits here = absurd (true≢false known)
 
 -- a dependency and a note are complete
@@ -900,60 +900,60 @@ module _ (kept : Kept) (ks : List TokenKind) (label : List ℕ) (subject : Optio
       ∙ ap (λ (ls : List (List ℕ)). ls ++ earlier ∷ []) (map-append (λ (u : Mention). u.label) kept.used (record { label = label; at = at } ∷ []))
       ∙ append_assoc (labels_in kept.used) (label ∷ []) (earlier ∷ [])
 
-  depends : (earlier : List ℕ) (place : ℕ) (v : Verb) → IsOrder v → In kept ks (token.Label label ∷ verb_token v ∷ token.Label earlier ∷ []) None →
+  dependency_is_complete : (earlier : List ℕ) (place : ℕ) (v : Verb) → IsOrder v → In kept ks (token.Label label ∷ verb_token v ∷ token.Label earlier ∷ []) None →
       In (record kept { used = dep_uses state.Label subject (record { label = earlier; at = place }) kept.used; deps = dep_ended state.Label subject v earlier kept.deps }) ks [] None
-  depends earlier place verb.Requires order inside =
-      complete kept ks (item_tokens (requires label earlier)) None inside (requires label earlier) kept.ops (dep_ended state.Label subject verb.Requires earlier kept.deps) kept.notes (dep_uses state.Label subject (record { label = earlier; at = place }) kept.used) refl
+  dependency_is_complete earlier place verb.Requires order inside =
+      item_is_complete kept ks (item_tokens (requires label earlier)) None inside (requires label earlier) kept.ops (dep_ended state.Label subject verb.Requires earlier kept.deps) kept.notes (dep_uses state.Label subject (record { label = earlier; at = place }) kept.used) refl
       (sym (append-nil kept.ops)) (ap (λ (s : Option Mention). dep_ended state.Label s verb.Requires earlier kept.deps) is) (sym (append-nil kept.notes)) (λ n. refl) (uses_two earlier place) tt
-  depends earlier place verb.Irequires order inside =
-      complete kept ks (item_tokens (irequires label earlier)) None inside (irequires label earlier) kept.ops (dep_ended state.Label subject verb.Irequires earlier kept.deps) kept.notes (dep_uses state.Label subject (record { label = earlier; at = place }) kept.used) refl
+  dependency_is_complete earlier place verb.Irequires order inside =
+      item_is_complete kept ks (item_tokens (irequires label earlier)) None inside (irequires label earlier) kept.ops (dep_ended state.Label subject verb.Irequires earlier kept.deps) kept.notes (dep_uses state.Label subject (record { label = earlier; at = place }) kept.used) refl
       (sym (append-nil kept.ops)) (ap (λ (s : Option Mention). dep_ended state.Label s verb.Irequires earlier kept.deps) is) (sym (append-nil kept.notes)) (λ n. refl) (uses_two earlier place) tt
-  depends earlier place _ order inside = absurd order
+  dependency_is_complete earlier place _ order inside = absurd order
 
-  notes_on : (low n : ℕ) (v : Verb) → IsNote v → In kept ks (token.Label label ∷ verb_token v ∷ token.Number low ∷ token.To ∷ token.Number n ∷ []) None →
+  note_is_complete : (low n : ℕ) (v : Verb) → IsNote v → In kept ks (token.Label label ∷ verb_token v ∷ token.Number low ∷ token.To ∷ token.Number n ∷ []) None →
       In (record kept { used = note_uses state.Note3 subject kept.used; notes = note_ended state.Note3 subject v low n kept.notes }) ks [] None
-  notes_on low n verb.Moves note inside =
-      complete kept ks (item_tokens (moves label low n)) None inside (moves label low n) kept.ops kept.deps (note_ended state.Note3 subject verb.Moves low n kept.notes) (note_uses state.Note3 subject kept.used) refl
+  note_is_complete low n verb.Moves note inside =
+      item_is_complete kept ks (item_tokens (moves label low n)) None inside (moves label low n) kept.ops kept.deps (note_ended state.Note3 subject verb.Moves low n kept.notes) (note_uses state.Note3 subject kept.used) refl
       (sym (append-nil kept.ops)) (sym (append-nil kept.deps)) (ap (λ (s : Option Mention). note_ended state.Note3 s verb.Moves low n kept.notes) is) (λ n. refl) uses_one tt
-  notes_on low n verb.Adds note inside =
-      complete kept ks (item_tokens (adds label low n)) None inside (adds label low n) kept.ops kept.deps (note_ended state.Note3 subject verb.Adds low n kept.notes) (note_uses state.Note3 subject kept.used) refl
+  note_is_complete low n verb.Adds note inside =
+      item_is_complete kept ks (item_tokens (adds label low n)) None inside (adds label low n) kept.ops kept.deps (note_ended state.Note3 subject verb.Adds low n kept.notes) (note_uses state.Note3 subject kept.used) refl
       (sym (append-nil kept.ops)) (sym (append-nil kept.deps)) (ap (λ (s : Option Mention). note_ended state.Note3 s verb.Adds low n kept.notes) is) (λ n. refl) uses_one tt
-  notes_on low n _ note inside = absurd note
+  note_is_complete low n _ note inside = absurd note
 
 step_label : Steps state.Label
 unfolding entry ranks_with used_with blocks_with rank_with draft_with head_with ops_with ends_action defined_with deps_with notes_with plans_with
 step_label (token.Label earlier) at kept draft head ks known once fits here =
-    depends kept (ks ++ token.Label earlier ∷ []) here.0 head.subject here.1.0 here.1.1 earlier at head.verb here.2
-    (stay kept ks (token.Label here.0 ∷ verb_token head.verb ∷ []) None here.3 (token.Label earlier) (token.Label here.0 ∷ verb_token head.verb ∷ token.Label earlier ∷ []) refl)
+    dependency_is_complete kept (ks ++ token.Label earlier ∷ []) here.0 head.subject here.1.0 here.1.1 earlier at head.verb here.2
+    (item_with_token kept ks (token.Label here.0 ∷ verb_token head.verb ∷ []) None here.3 (token.Label earlier) (token.Label here.0 ∷ verb_token head.verb ∷ token.Label earlier ∷ []) refl)
 step_label _ at kept draft head ks known once fits here = absurd (true≢false known)
 
 step_note1 : Steps state.Note1
 unfolding entry ranks_with used_with blocks_with rank_with draft_with head_with ops_with ends_action defined_with deps_with notes_with plans_with
-step_note1 (token.Number n) at kept draft head ks known once fits here = (here.0, here.1, here.2, stay kept ks (token.Label here.0 ∷ verb_token head.verb ∷ []) None here.3 (token.Number n) (token.Label here.0 ∷ verb_token head.verb ∷ token.Number n ∷ []) refl)
+step_note1 (token.Number n) at kept draft head ks known once fits here = (here.0, here.1, here.2, item_with_token kept ks (token.Label here.0 ∷ verb_token head.verb ∷ []) None here.3 (token.Number n) (token.Label here.0 ∷ verb_token head.verb ∷ token.Number n ∷ []) refl)
 step_note1 _ at kept draft head ks known once fits here = absurd (true≢false known)
 
 step_note2 : Steps state.Note2
 unfolding entry ranks_with used_with blocks_with rank_with draft_with head_with ops_with ends_action defined_with deps_with notes_with plans_with
-step_note2 token.To at kept draft head ks known once fits here = (here.0, here.1, here.2, stay kept ks (token.Label here.0 ∷ verb_token head.verb ∷ token.Number head.low ∷ []) None here.3 token.To (token.Label here.0 ∷ verb_token head.verb ∷ token.Number head.low ∷ token.To ∷ []) refl)
+step_note2 token.To at kept draft head ks known once fits here = (here.0, here.1, here.2, item_with_token kept ks (token.Label here.0 ∷ verb_token head.verb ∷ token.Number head.low ∷ []) None here.3 token.To (token.Label here.0 ∷ verb_token head.verb ∷ token.Number head.low ∷ token.To ∷ []) refl)
 step_note2 _ at kept draft head ks known once fits here = absurd (true≢false known)
 
 step_note3 : Steps state.Note3
 unfolding entry ranks_with used_with blocks_with rank_with draft_with head_with ops_with ends_action defined_with deps_with notes_with plans_with
 step_note3 (token.Number n) at kept draft head ks known once fits here =
-    notes_on kept (ks ++ token.Number n ∷ []) here.0 head.subject here.1.0 here.1.1 head.low n head.verb here.2
-    (stay kept ks (token.Label here.0 ∷ verb_token head.verb ∷ token.Number head.low ∷ token.To ∷ []) None here.3 (token.Number n) (token.Label here.0 ∷ verb_token head.verb ∷ token.Number head.low ∷ token.To ∷ token.Number n ∷ []) refl)
+    note_is_complete kept (ks ++ token.Number n ∷ []) here.0 head.subject here.1.0 here.1.1 head.low n head.verb here.2
+    (item_with_token kept ks (token.Label here.0 ∷ verb_token head.verb ∷ token.Number head.low ∷ token.To ∷ []) None here.3 (token.Number n) (token.Label here.0 ∷ verb_token head.verb ∷ token.Number head.low ∷ token.To ∷ token.Number n ∷ []) refl)
 step_note3 _ at kept draft head ks known once fits here = absurd (true≢false known)
 
 step_action : Steps state.Action
 unfolding entry ranks_with used_with blocks_with rank_with draft_with head_with ops_with ends_action defined_with deps_with notes_with plans_with
-step_action token.Calc at kept draft head ks known once fits here = (Some here.0, draft.option, stay kept ks (token.Label here.0 ∷ token.Colon ∷ []) (Some here.0) here.1 token.Calc (token.Label here.0 ∷ token.Colon ∷ token.Calc ∷ []) refl, refl)
-step_action token.Send at kept draft head ks known once fits here = (Some here.0, draft.option, stay kept ks (token.Label here.0 ∷ token.Colon ∷ []) (Some here.0) here.1 token.Send (token.Label here.0 ∷ token.Colon ∷ token.Send ∷ []) refl, refl)
-step_action token.Recv at kept draft head ks known once fits here = (Some here.0, draft.option, stay kept ks (token.Label here.0 ∷ token.Colon ∷ []) (Some here.0) here.1 token.Recv (token.Label here.0 ∷ token.Colon ∷ token.Recv ∷ []) refl, refl)
+step_action token.Calc at kept draft head ks known once fits here = (Some here.0, draft.option, item_with_token kept ks (token.Label here.0 ∷ token.Colon ∷ []) (Some here.0) here.1 token.Calc (token.Label here.0 ∷ token.Colon ∷ token.Calc ∷ []) refl, refl)
+step_action token.Send at kept draft head ks known once fits here = (Some here.0, draft.option, item_with_token kept ks (token.Label here.0 ∷ token.Colon ∷ []) (Some here.0) here.1 token.Send (token.Label here.0 ∷ token.Colon ∷ token.Send ∷ []) refl, refl)
+step_action token.Recv at kept draft head ks known once fits here = (Some here.0, draft.option, item_with_token kept ks (token.Label here.0 ∷ token.Colon ∷ []) (Some here.0) here.1 token.Recv (token.Label here.0 ∷ token.Colon ∷ token.Recv ∷ []) refl, refl)
 step_action _ at kept draft head ks known once fits here = absurd (true≢false known)
 
 step_calc1 : Steps state.Calc1
 unfolding entry ranks_with used_with blocks_with rank_with draft_with head_with ops_with ends_action defined_with deps_with notes_with plans_with
-step_calc1 (token.Number n) at kept draft head ks known once fits here = (here.0, here.1, n, None, stay kept ks (label_tokens here.0 ++ token.Calc ∷ []) here.0 here.2 (token.Number n) (label_tokens here.0 ++ token.Calc ∷ token.Number n ∷ []) (append_assoc (label_tokens here.0) (token.Calc ∷ []) ((token.Number n) ∷ [])), ap (λ (d : Draft). record d { size = n }) here.3)
+step_calc1 (token.Number n) at kept draft head ks known once fits here = (here.0, here.1, n, None, item_with_token kept ks (label_tokens here.0 ++ token.Calc ∷ []) here.0 here.2 (token.Number n) (label_tokens here.0 ++ token.Calc ∷ token.Number n ∷ []) (append_assoc (label_tokens here.0) (token.Calc ∷ []) ((token.Number n) ∷ [])), ap (λ (d : Draft). record d { size = n }) here.3)
 step_calc1 _ at kept draft head ks known once fits here = absurd (true≢false known)
 
 step_calc2 : Steps state.Calc2
@@ -966,45 +966,45 @@ step_calc2 token.Cpu at kept draft head ks known once fits here = by here.3 here
       here.0,
       here.1,
       here.2,
-      stay kept ks (label_tokens here.0 ++ token.Calc ∷ token.Number here.2 ∷ []) here.0 inside token.Cpu (label_tokens here.0 ++ token.Calc ∷ token.Number here.2 ∷ token.Cpu ∷ [])
+      item_with_token kept ks (label_tokens here.0 ++ token.Calc ∷ token.Number here.2 ∷ []) here.0 inside token.Cpu (label_tokens here.0 ++ token.Calc ∷ token.Number here.2 ∷ token.Cpu ∷ [])
           (append_assoc (label_tokens here.0) (token.Calc ∷ token.Number here.2 ∷ []) (token.Cpu ∷ [])),
       ap (mark option.Cpu) is,
     )
     by (Some n) inside is = absurd (true≢false (sym (ap (λ (d : Draft). d.has_cpu) is) ∙ once))
 step_calc2 k at kept draft head ks known once fits here =
     step_calc kept draft head ks
-    (acted kept draft ks here.0 (calc here.0 here.2 here.3) here.4 (ap (λ (d : Draft). op_of d ∷ []) here.5 ∙ calc_op here.2 here.3 here.1) refl refl (λ n. refl) refl tt)
+    (action_is_complete kept draft ks here.0 (calc here.0 here.2 here.3) here.4 (ap (λ (d : Draft). op_of d ∷ []) here.5 ∙ calc_op here.2 here.3 here.1) refl refl (λ n. refl) refl tt)
     k at known fits.found
 
 step_calc3 : Steps state.Calc3
 unfolding entry ranks_with used_with blocks_with rank_with draft_with head_with ops_with ends_action defined_with deps_with notes_with plans_with
-step_calc3 (token.Number n) at kept draft head ks known once fits here = (here.0, option.Cpu, here.2, Some n, stay kept ks (label_tokens here.0 ++ token.Calc ∷ token.Number here.2 ∷ token.Cpu ∷ []) here.0 here.3 (token.Number n) (label_tokens here.0 ++ token.Calc ∷ token.Number here.2 ∷ token.Cpu ∷ token.Number n ∷ []) (append_assoc (label_tokens here.0) (token.Calc ∷ token.Number here.2 ∷ token.Cpu ∷ []) ((token.Number n) ∷ [])), ap (λ (d : Draft). option_with d.option n d) here.4)
+step_calc3 (token.Number n) at kept draft head ks known once fits here = (here.0, option.Cpu, here.2, Some n, item_with_token kept ks (label_tokens here.0 ++ token.Calc ∷ token.Number here.2 ∷ token.Cpu ∷ []) here.0 here.3 (token.Number n) (label_tokens here.0 ++ token.Calc ∷ token.Number here.2 ∷ token.Cpu ∷ token.Number n ∷ []) (append_assoc (label_tokens here.0) (token.Calc ∷ token.Number here.2 ∷ token.Cpu ∷ []) ((token.Number n) ∷ [])), ap (λ (d : Draft). option_with d.option n d) here.4)
 step_calc3 _ at kept draft head ks known once fits here = absurd (true≢false known)
 
 step_send1 : Steps state.Send1
 unfolding entry ranks_with used_with blocks_with rank_with draft_with head_with ops_with ends_action defined_with deps_with notes_with plans_with
-step_send1 (token.Number n) at kept draft head ks known once fits here = (here.0, here.1, plain n, stay kept ks (label_tokens here.0 ++ token.Send ∷ []) here.0 here.2 (token.Number n) (label_tokens here.0 ++ token.Send ∷ token.Number n ∷ []) (append_assoc (label_tokens here.0) (token.Send ∷ []) ((token.Number n) ∷ [])), ap (λ (d : Draft). record d { size = n }) here.3)
-step_send1 (token.Size n) at kept draft head ks known once fits here = (here.0, here.1, marked n, stay kept ks (label_tokens here.0 ++ token.Send ∷ []) here.0 here.2 (token.Size n) (label_tokens here.0 ++ token.Send ∷ token.Size n ∷ []) (append_assoc (label_tokens here.0) (token.Send ∷ []) ((token.Size n) ∷ [])), ap (λ (d : Draft). record d { size = n }) here.3)
+step_send1 (token.Number n) at kept draft head ks known once fits here = (here.0, here.1, plain n, item_with_token kept ks (label_tokens here.0 ++ token.Send ∷ []) here.0 here.2 (token.Number n) (label_tokens here.0 ++ token.Send ∷ token.Number n ∷ []) (append_assoc (label_tokens here.0) (token.Send ∷ []) ((token.Number n) ∷ [])), ap (λ (d : Draft). record d { size = n }) here.3)
+step_send1 (token.Size n) at kept draft head ks known once fits here = (here.0, here.1, marked n, item_with_token kept ks (label_tokens here.0 ++ token.Send ∷ []) here.0 here.2 (token.Size n) (label_tokens here.0 ++ token.Send ∷ token.Size n ∷ []) (append_assoc (label_tokens here.0) (token.Send ∷ []) ((token.Size n) ∷ [])), ap (λ (d : Draft). record d { size = n }) here.3)
 step_send1 _ at kept draft head ks known once fits here = absurd (true≢false known)
 
 step_send2 : Steps state.Send2
 unfolding entry ranks_with used_with blocks_with rank_with draft_with head_with ops_with ends_action defined_with deps_with notes_with plans_with
-step_send2 token.To at kept draft head ks known once fits here = (here.0, here.1, here.2, stay kept ks (label_tokens here.0 ++ token.Send ∷ amount_token here.2 ∷ []) here.0 here.3 token.To (label_tokens here.0 ++ token.Send ∷ amount_token here.2 ∷ token.To ∷ []) (append_assoc (label_tokens here.0) (token.Send ∷ amount_token here.2 ∷ []) (token.To ∷ [])), here.4)
+step_send2 token.To at kept draft head ks known once fits here = (here.0, here.1, here.2, item_with_token kept ks (label_tokens here.0 ++ token.Send ∷ amount_token here.2 ∷ []) here.0 here.3 token.To (label_tokens here.0 ++ token.Send ∷ amount_token here.2 ∷ token.To ∷ []) (append_assoc (label_tokens here.0) (token.Send ∷ amount_token here.2 ∷ []) (token.To ∷ [])), here.4)
 step_send2 _ at kept draft head ks known once fits here = absurd (true≢false known)
 
 step_send3 : Steps state.Send3
 unfolding entry ranks_with used_with blocks_with rank_with draft_with head_with ops_with ends_action defined_with deps_with notes_with plans_with
-step_send3 (token.Number n) at kept draft head ks known once fits here = (here.0, here.1, here.2, n, [], stay kept ks (label_tokens here.0 ++ token.Send ∷ amount_token here.2 ∷ token.To ∷ []) here.0 here.3 (token.Number n) (label_tokens here.0 ++ token.Send ∷ amount_token here.2 ∷ token.To ∷ token.Number n ∷ []) (append_assoc (label_tokens here.0) (token.Send ∷ amount_token here.2 ∷ token.To ∷ []) ((token.Number n) ∷ [])), ap (λ (d : Draft). record d { peer = Some n }) here.4, none_given)
+step_send3 (token.Number n) at kept draft head ks known once fits here = (here.0, here.1, here.2, n, [], item_with_token kept ks (label_tokens here.0 ++ token.Send ∷ amount_token here.2 ∷ token.To ∷ []) here.0 here.3 (token.Number n) (label_tokens here.0 ++ token.Send ∷ amount_token here.2 ∷ token.To ∷ token.Number n ∷ []) (append_assoc (label_tokens here.0) (token.Send ∷ amount_token here.2 ∷ token.To ∷ []) ((token.Number n) ∷ [])), ap (λ (d : Draft). record d { peer = Some n }) here.4, no_option_given)
 step_send3 _ at kept draft head ks known once fits here = absurd (true≢false known)
 
 step_send4 : Steps state.Send4
 unfolding entry ranks_with used_with blocks_with rank_with draft_with head_with ops_with ends_action defined_with deps_with notes_with plans_with
-step_send4 token.Tag at kept draft head ks known once fits here = (here.0, here.1, here.2, here.3, here.4, option.Tag, stay kept ks (item_tokens (send here.0 here.2 here.3 here.4)) here.0 here.5 token.Tag (item_tokens (send here.0 here.2 here.3 here.4) ++ token.Tag ∷ []) refl, sym (ap (λ (d : Draft). d.has_tag) here.6) ∙ once, ap (mark option.Tag) here.6, here.7)
-step_send4 token.Cpu at kept draft head ks known once fits here = (here.0, here.1, here.2, here.3, here.4, option.Cpu, stay kept ks (item_tokens (send here.0 here.2 here.3 here.4)) here.0 here.5 token.Cpu (item_tokens (send here.0 here.2 here.3 here.4) ++ token.Cpu ∷ []) refl, sym (ap (λ (d : Draft). d.has_cpu) here.6) ∙ once, ap (mark option.Cpu) here.6, here.7)
-step_send4 token.Nic at kept draft head ks known once fits here = (here.0, here.1, here.2, here.3, here.4, option.Nic, stay kept ks (item_tokens (send here.0 here.2 here.3 here.4)) here.0 here.5 token.Nic (item_tokens (send here.0 here.2 here.3 here.4) ++ token.Nic ∷ []) refl, sym (ap (λ (d : Draft). d.has_nic) here.6) ∙ once, ap (mark option.Nic) here.6, here.7)
+step_send4 token.Tag at kept draft head ks known once fits here = (here.0, here.1, here.2, here.3, here.4, option.Tag, item_with_token kept ks (item_tokens (send here.0 here.2 here.3 here.4)) here.0 here.5 token.Tag (item_tokens (send here.0 here.2 here.3 here.4) ++ token.Tag ∷ []) refl, sym (ap (λ (d : Draft). d.has_tag) here.6) ∙ once, ap (mark option.Tag) here.6, here.7)
+step_send4 token.Cpu at kept draft head ks known once fits here = (here.0, here.1, here.2, here.3, here.4, option.Cpu, item_with_token kept ks (item_tokens (send here.0 here.2 here.3 here.4)) here.0 here.5 token.Cpu (item_tokens (send here.0 here.2 here.3 here.4) ++ token.Cpu ∷ []) refl, sym (ap (λ (d : Draft). d.has_cpu) here.6) ∙ once, ap (mark option.Cpu) here.6, here.7)
+step_send4 token.Nic at kept draft head ks known once fits here = (here.0, here.1, here.2, here.3, here.4, option.Nic, item_with_token kept ks (item_tokens (send here.0 here.2 here.3 here.4)) here.0 here.5 token.Nic (item_tokens (send here.0 here.2 here.3 here.4) ++ token.Nic ∷ []) refl, sym (ap (λ (d : Draft). d.has_nic) here.6) ∙ once, ap (mark option.Nic) here.6, here.7)
 step_send4 k at kept draft head ks known once fits here =
     step_send kept draft head ks
-    (acted kept draft ks here.0 (send here.0 here.2 here.3 here.4) here.5 (ap (λ (d : Draft). op_of d ∷ []) here.6) refl refl (λ n. refl) refl here.7)
+    (action_is_complete kept draft ks here.0 (send here.0 here.2 here.3 here.4) here.5 (ap (λ (d : Draft). op_of d ∷ []) here.6) refl refl (λ n. refl) refl here.7)
     k at known fits.found
 
 step_send5 : Steps state.Send5
@@ -1015,38 +1015,38 @@ step_send5 (token.Number n) at kept draft head ks known once fits here = (
   here.2,
   here.3,
   here.4 ++ number_setting here.5 n ∷ [],
-  stay kept ks (item_tokens (send here.0 here.2 here.3 here.4) ++ option_token here.5 ∷ []) here.0 here.6 (token.Number n) (item_tokens (send here.0 here.2 here.3 (here.4 ++ number_setting here.5 n ∷ [])))
-      (longer_by (label_tokens here.0) (token.Send ∷ amount_token here.2 ∷ token.To ∷ token.Number here.3 ∷ []) here.4 (number_setting here.5 n) (option_token here.5) (token.Number n) (setting_is here.5 n)),
-  ap (λ (d : Draft). option_with d.option n d) here.8 ∙ settled action.Send (amount here.2) (Some here.3) here.4 here.1 here.5 n here.7,
-  given_more here.5 n here.4 here.7 here.9,
+  item_with_token kept ks (item_tokens (send here.0 here.2 here.3 here.4) ++ option_token here.5 ∷ []) here.0 here.6 (token.Number n) (item_tokens (send here.0 here.2 here.3 (here.4 ++ number_setting here.5 n ∷ [])))
+      (settings_with_another (label_tokens here.0) (token.Send ∷ amount_token here.2 ∷ token.To ∷ token.Number here.3 ∷ []) here.4 (number_setting here.5 n) (option_token here.5) (token.Number n) (setting_is here.5 n)),
+  ap (λ (d : Draft). option_with d.option n d) here.8 ∙ option_is_settled action.Send (amount here.2) (Some here.3) here.4 here.1 here.5 n here.7,
+  once_with_number here.5 n here.4 here.7 here.9,
 )
 step_send5 _ at kept draft head ks known once fits here = absurd (true≢false known)
 
 step_recv1 : Steps state.Recv1
 unfolding entry ranks_with used_with blocks_with rank_with draft_with head_with ops_with ends_action defined_with deps_with notes_with plans_with
-step_recv1 (token.Number n) at kept draft head ks known once fits here = (here.0, here.1, plain n, stay kept ks (label_tokens here.0 ++ token.Recv ∷ []) here.0 here.2 (token.Number n) (label_tokens here.0 ++ token.Recv ∷ token.Number n ∷ []) (append_assoc (label_tokens here.0) (token.Recv ∷ []) ((token.Number n) ∷ [])), ap (λ (d : Draft). record d { size = n }) here.3)
-step_recv1 (token.Size n) at kept draft head ks known once fits here = (here.0, here.1, marked n, stay kept ks (label_tokens here.0 ++ token.Recv ∷ []) here.0 here.2 (token.Size n) (label_tokens here.0 ++ token.Recv ∷ token.Size n ∷ []) (append_assoc (label_tokens here.0) (token.Recv ∷ []) ((token.Size n) ∷ [])), ap (λ (d : Draft). record d { size = n }) here.3)
+step_recv1 (token.Number n) at kept draft head ks known once fits here = (here.0, here.1, plain n, item_with_token kept ks (label_tokens here.0 ++ token.Recv ∷ []) here.0 here.2 (token.Number n) (label_tokens here.0 ++ token.Recv ∷ token.Number n ∷ []) (append_assoc (label_tokens here.0) (token.Recv ∷ []) ((token.Number n) ∷ [])), ap (λ (d : Draft). record d { size = n }) here.3)
+step_recv1 (token.Size n) at kept draft head ks known once fits here = (here.0, here.1, marked n, item_with_token kept ks (label_tokens here.0 ++ token.Recv ∷ []) here.0 here.2 (token.Size n) (label_tokens here.0 ++ token.Recv ∷ token.Size n ∷ []) (append_assoc (label_tokens here.0) (token.Recv ∷ []) ((token.Size n) ∷ [])), ap (λ (d : Draft). record d { size = n }) here.3)
 step_recv1 _ at kept draft head ks known once fits here = absurd (true≢false known)
 
 step_recv2 : Steps state.Recv2
 unfolding entry ranks_with used_with blocks_with rank_with draft_with head_with ops_with ends_action defined_with deps_with notes_with plans_with
-step_recv2 token.From at kept draft head ks known once fits here = (here.0, here.1, here.2, stay kept ks (label_tokens here.0 ++ token.Recv ∷ amount_token here.2 ∷ []) here.0 here.3 token.From (label_tokens here.0 ++ token.Recv ∷ amount_token here.2 ∷ token.From ∷ []) (append_assoc (label_tokens here.0) (token.Recv ∷ amount_token here.2 ∷ []) (token.From ∷ [])), here.4)
+step_recv2 token.From at kept draft head ks known once fits here = (here.0, here.1, here.2, item_with_token kept ks (label_tokens here.0 ++ token.Recv ∷ amount_token here.2 ∷ []) here.0 here.3 token.From (label_tokens here.0 ++ token.Recv ∷ amount_token here.2 ∷ token.From ∷ []) (append_assoc (label_tokens here.0) (token.Recv ∷ amount_token here.2 ∷ []) (token.From ∷ [])), here.4)
 step_recv2 _ at kept draft head ks known once fits here = absurd (true≢false known)
 
 step_recv3 : Steps state.Recv3
 unfolding entry ranks_with used_with blocks_with rank_with draft_with head_with ops_with ends_action defined_with deps_with notes_with plans_with
-step_recv3 (token.Number n) at kept draft head ks known once fits here = (here.0, here.1, here.2, Some n, [], stay kept ks (label_tokens here.0 ++ token.Recv ∷ amount_token here.2 ∷ token.From ∷ []) here.0 here.3 (token.Number n) (label_tokens here.0 ++ token.Recv ∷ amount_token here.2 ∷ token.From ∷ token.Number n ∷ []) (append_assoc (label_tokens here.0) (token.Recv ∷ amount_token here.2 ∷ token.From ∷ []) ((token.Number n) ∷ [])), ap (λ (d : Draft). record d { peer = Some n }) here.4, none_given)
-step_recv3 token.Any at kept draft head ks known once fits here = (here.0, here.1, here.2, None, [], stay kept ks (label_tokens here.0 ++ token.Recv ∷ amount_token here.2 ∷ token.From ∷ []) here.0 here.3 token.Any (label_tokens here.0 ++ token.Recv ∷ amount_token here.2 ∷ token.From ∷ token.Any ∷ []) (append_assoc (label_tokens here.0) (token.Recv ∷ amount_token here.2 ∷ token.From ∷ []) (token.Any ∷ [])), ap (λ (d : Draft). record d { peer = None }) here.4, none_given)
+step_recv3 (token.Number n) at kept draft head ks known once fits here = (here.0, here.1, here.2, Some n, [], item_with_token kept ks (label_tokens here.0 ++ token.Recv ∷ amount_token here.2 ∷ token.From ∷ []) here.0 here.3 (token.Number n) (label_tokens here.0 ++ token.Recv ∷ amount_token here.2 ∷ token.From ∷ token.Number n ∷ []) (append_assoc (label_tokens here.0) (token.Recv ∷ amount_token here.2 ∷ token.From ∷ []) ((token.Number n) ∷ [])), ap (λ (d : Draft). record d { peer = Some n }) here.4, no_option_given)
+step_recv3 token.Any at kept draft head ks known once fits here = (here.0, here.1, here.2, None, [], item_with_token kept ks (label_tokens here.0 ++ token.Recv ∷ amount_token here.2 ∷ token.From ∷ []) here.0 here.3 token.Any (label_tokens here.0 ++ token.Recv ∷ amount_token here.2 ∷ token.From ∷ token.Any ∷ []) (append_assoc (label_tokens here.0) (token.Recv ∷ amount_token here.2 ∷ token.From ∷ []) (token.Any ∷ [])), ap (λ (d : Draft). record d { peer = None }) here.4, no_option_given)
 step_recv3 _ at kept draft head ks known once fits here = absurd (true≢false known)
 
 step_recv4 : Steps state.Recv4
 unfolding entry ranks_with used_with blocks_with rank_with draft_with head_with ops_with ends_action defined_with deps_with notes_with plans_with
-step_recv4 token.Tag at kept draft head ks known once fits here = (here.0, here.1, here.2, here.3, here.4, stay kept ks (item_tokens (recv here.0 here.2 here.3 here.4)) here.0 here.5 token.Tag (item_tokens (recv here.0 here.2 here.3 here.4) ++ token.Tag ∷ []) refl, sym (ap (λ (d : Draft). d.has_tag) here.6) ∙ once, ap (mark option.Tag) here.6, here.7)
-step_recv4 token.Cpu at kept draft head ks known once fits here = (here.0, here.1, here.2, here.3, here.4, option.Cpu, stay kept ks (item_tokens (recv here.0 here.2 here.3 here.4)) here.0 here.5 token.Cpu (item_tokens (recv here.0 here.2 here.3 here.4) ++ token.Cpu ∷ []) refl, sym (ap (λ (d : Draft). d.has_cpu) here.6) ∙ once, ap (mark option.Cpu) here.6, here.7)
-step_recv4 token.Nic at kept draft head ks known once fits here = (here.0, here.1, here.2, here.3, here.4, option.Nic, stay kept ks (item_tokens (recv here.0 here.2 here.3 here.4)) here.0 here.5 token.Nic (item_tokens (recv here.0 here.2 here.3 here.4) ++ token.Nic ∷ []) refl, sym (ap (λ (d : Draft). d.has_nic) here.6) ∙ once, ap (mark option.Nic) here.6, here.7)
+step_recv4 token.Tag at kept draft head ks known once fits here = (here.0, here.1, here.2, here.3, here.4, item_with_token kept ks (item_tokens (recv here.0 here.2 here.3 here.4)) here.0 here.5 token.Tag (item_tokens (recv here.0 here.2 here.3 here.4) ++ token.Tag ∷ []) refl, sym (ap (λ (d : Draft). d.has_tag) here.6) ∙ once, ap (mark option.Tag) here.6, here.7)
+step_recv4 token.Cpu at kept draft head ks known once fits here = (here.0, here.1, here.2, here.3, here.4, option.Cpu, item_with_token kept ks (item_tokens (recv here.0 here.2 here.3 here.4)) here.0 here.5 token.Cpu (item_tokens (recv here.0 here.2 here.3 here.4) ++ token.Cpu ∷ []) refl, sym (ap (λ (d : Draft). d.has_cpu) here.6) ∙ once, ap (mark option.Cpu) here.6, here.7)
+step_recv4 token.Nic at kept draft head ks known once fits here = (here.0, here.1, here.2, here.3, here.4, option.Nic, item_with_token kept ks (item_tokens (recv here.0 here.2 here.3 here.4)) here.0 here.5 token.Nic (item_tokens (recv here.0 here.2 here.3 here.4) ++ token.Nic ∷ []) refl, sym (ap (λ (d : Draft). d.has_nic) here.6) ∙ once, ap (mark option.Nic) here.6, here.7)
 step_recv4 k at kept draft head ks known once fits here =
     step_recv kept draft head ks
-    (acted kept draft ks here.0 (recv here.0 here.2 here.3 here.4) here.5 (ap (λ (d : Draft). op_of d ∷ []) here.6) refl refl (λ n. refl) refl here.7)
+    (action_is_complete kept draft ks here.0 (recv here.0 here.2 here.3 here.4) here.5 (ap (λ (d : Draft). op_of d ∷ []) here.6) refl refl (λ n. refl) refl here.7)
     k at known fits.found
 
 step_recv5 : Steps state.Recv5
@@ -1057,10 +1057,10 @@ step_recv5 (token.Number n) at kept draft head ks known once fits here = (
   here.2,
   here.3,
   here.4 ++ number_setting option.Tag n ∷ [],
-  stay kept ks (item_tokens (recv here.0 here.2 here.3 here.4) ++ option_token option.Tag ∷ []) here.0 here.5 (token.Number n) (item_tokens (recv here.0 here.2 here.3 (here.4 ++ number_setting option.Tag n ∷ [])))
-      (longer_by (label_tokens here.0) (token.Recv ∷ amount_token here.2 ∷ token.From ∷ number_or_any here.3 ∷ []) here.4 (number_setting option.Tag n) (option_token option.Tag) (token.Number n) (setting_is option.Tag n)),
-  ap (λ (d : Draft). option_with d.option n d) here.7 ∙ settled action.Recv (amount here.2) here.3 here.4 here.1 option.Tag n here.6,
-  given_more option.Tag n here.4 here.6 here.8,
+  item_with_token kept ks (item_tokens (recv here.0 here.2 here.3 here.4) ++ option_token option.Tag ∷ []) here.0 here.5 (token.Number n) (item_tokens (recv here.0 here.2 here.3 (here.4 ++ number_setting option.Tag n ∷ [])))
+      (settings_with_another (label_tokens here.0) (token.Recv ∷ amount_token here.2 ∷ token.From ∷ number_or_any here.3 ∷ []) here.4 (number_setting option.Tag n) (option_token option.Tag) (token.Number n) (setting_is option.Tag n)),
+  ap (λ (d : Draft). option_with d.option n d) here.7 ∙ option_is_settled action.Recv (amount here.2) here.3 here.4 here.1 option.Tag n here.6,
+  once_with_number option.Tag n here.4 here.6 here.8,
 )
 step_recv5 token.Any at kept draft head ks known once fits here = (
   here.0,
@@ -1068,8 +1068,8 @@ step_recv5 token.Any at kept draft head ks known once fits here = (
   here.2,
   here.3,
   here.4 ++ tag None ∷ [],
-  stay kept ks (item_tokens (recv here.0 here.2 here.3 here.4) ++ token.Tag ∷ []) here.0 here.5 token.Any (item_tokens (recv here.0 here.2 here.3 (here.4 ++ tag None ∷ [])))
-      (longer_by (label_tokens here.0) (token.Recv ∷ amount_token here.2 ∷ token.From ∷ number_or_any here.3 ∷ []) here.4 (tag None) token.Tag token.Any refl),
+  item_with_token kept ks (item_tokens (recv here.0 here.2 here.3 here.4) ++ token.Tag ∷ []) here.0 here.5 token.Any (item_tokens (recv here.0 here.2 here.3 (here.4 ++ tag None ∷ [])))
+      (settings_with_another (label_tokens here.0) (token.Recv ∷ amount_token here.2 ∷ token.From ∷ number_or_any here.3 ∷ []) here.4 (tag None) token.Tag token.Any refl),
   ap (λ (d : Draft). record d { tag = None }) here.7 ∙ with_tag action.Recv (amount here.2) here.3 here.4 here.1 None here.6,
   given_tag None here.4 here.6 here.8,
 )
@@ -1083,10 +1083,10 @@ step_recv6 (token.Number n) at kept draft head ks known once fits here = (
   here.2,
   here.3,
   here.4 ++ number_setting here.5 n ∷ [],
-  stay kept ks (item_tokens (recv here.0 here.2 here.3 here.4) ++ option_token here.5 ∷ []) here.0 here.6 (token.Number n) (item_tokens (recv here.0 here.2 here.3 (here.4 ++ number_setting here.5 n ∷ [])))
-      (longer_by (label_tokens here.0) (token.Recv ∷ amount_token here.2 ∷ token.From ∷ number_or_any here.3 ∷ []) here.4 (number_setting here.5 n) (option_token here.5) (token.Number n) (setting_is here.5 n)),
-  ap (λ (d : Draft). option_with d.option n d) here.8 ∙ settled action.Recv (amount here.2) here.3 here.4 here.1 here.5 n here.7,
-  given_more here.5 n here.4 here.7 here.9,
+  item_with_token kept ks (item_tokens (recv here.0 here.2 here.3 here.4) ++ option_token here.5 ∷ []) here.0 here.6 (token.Number n) (item_tokens (recv here.0 here.2 here.3 (here.4 ++ number_setting here.5 n ∷ [])))
+      (settings_with_another (label_tokens here.0) (token.Recv ∷ amount_token here.2 ∷ token.From ∷ number_or_any here.3 ∷ []) here.4 (number_setting here.5 n) (option_token here.5) (token.Number n) (setting_is here.5 n)),
+  ap (λ (d : Draft). option_with d.option n d) here.8 ∙ option_is_settled action.Recv (amount here.2) here.3 here.4 here.1 here.5 n here.7,
+  once_with_number here.5 n here.4 here.7 here.9,
 )
 step_recv6 _ at kept draft head ks known once fits here = absurd (true≢false known)
 
@@ -1128,13 +1128,13 @@ record Passes (s : State) (draft : Draft) (ranks : ℕ) (blocks : List ℕ) (ds 
   fresh : label_fault_of ds subject k ≡ None
   found : unknown_fault_of ds us k ≡ None
 
-so : (b : Bool) (f : TextFault) → fault_if (not b) f ≡ None → b ≡ true
-so true f h = refl
-so false f h = cc
+no_fault_unless_true : (b : Bool) (f : TextFault) → fault_if (not b) f ≡ None → b ≡ true
+no_fault_unless_true true f h = refl
+no_fault_unless_true false f h = cc
 
 below_passes : (s : State) (ranks : ℕ) (blocks : List ℕ) (k : TokenKind) (at : ℕ) → rank_fault_of s ranks blocks k at ≡ None → IsBelow s ranks k
 below_passes state.Block ranks blocks (token.Number n) at h =
-    let is = so (nat_lt n ranks) (Rank at) (none_first (fault_if (not (nat_lt n ranks)) (Rank at)) (fault_if (list_any (nat_eq n) blocks) (Repeat at)) h) in
+    let is = no_fault_unless_true (nat_lt n ranks) (Rank at) (first_is_none (fault_if (not (nat_lt n ranks)) (Rank at)) (fault_if (list_any (nat_eq n) blocks) (Repeat at)) h) in
     let below : n < ranks = grind (arith, nat_tests) in below
 below_passes _ ranks blocks _ at h = tt
 
@@ -1147,39 +1147,39 @@ module _ (s : State) (draft : Draft) (ranks : ℕ) (blocks : List ℕ) (ds : Lis
       let options = option_or (option_fault draft t) labels in
       let numbered = option_or (rank_fault s ranks blocks t) options in
       let sized = option_or (number_fault s draft.option t) numbered in
-      let behind_syntax = none_second (syntax_fault s t) sized h in
-      let behind_number = none_second (number_fault s draft.option t) numbered behind_syntax in
-      let behind_rank = none_second (rank_fault s ranks blocks t) options behind_number in
-      let behind_option = none_second (option_fault draft t) labels behind_rank in
-      let rank_passed = none_first (rank_fault s ranks blocks t) options behind_number in
+      let behind_syntax = second_is_none (syntax_fault s t) sized h in
+      let behind_number = second_is_none (number_fault s draft.option t) numbered behind_syntax in
+      let behind_rank = second_is_none (rank_fault s ranks blocks t) options behind_number in
+      let behind_option = second_is_none (option_fault draft t) labels behind_rank in
+      let rank_passed = first_is_none (rank_fault s ranks blocks t) options behind_number in
       record {
-        known = not_so (is_none (entry s t.kind)) (Syntax t.start) (none_first (syntax_fault s t) sized h);
-        once = not_so (has_option t.kind draft) (Repeat t.start) (none_first (option_fault draft t) labels behind_rank);
+        known = no_fault_if_false (is_none (entry s t.kind)) (Syntax t.start) (first_is_none (syntax_fault s t) sized h);
+        once = no_fault_if_false (has_option t.kind draft) (Repeat t.start) (first_is_none (option_fault draft t) labels behind_rank);
         new_rank = rank_passes s ranks blocks t rank_passed;
         below = below_passes s ranks blocks t.kind t.start rank_passed;
-        fresh = none_first (label_fault ds subject t) last behind_option;
-        found = none_second (count_fault counts t) (unknown_fault ds us t) (none_second (label_fault ds subject t) last behind_option);
+        fresh = first_is_none (label_fault ds subject t) last behind_option;
+        found = second_is_none (count_fault counts t) (unknown_fault ds us t) (second_is_none (label_fault ds subject t) last behind_option);
       }
 
 -- what tokens that fail no test are
 abbrev AtEnd : List Token → List TokenKind → Type 0
 AtEnd before ks = At (state_of before) (kept_of before) (draft_of before) (head_of before) ks
 
-one_more : (before : List Token) (t : Token) (ks : List TokenKind) → token_fault before t ≡ None → AtEnd before ks → AtEnd (t ∷ before) (ks ++ t.kind ∷ [])
+sentences_with_token : (before : List Token) (t : Token) (ks : List TokenKind) → token_fault before t ≡ None → AtEnd before ks → AtEnd (t ∷ before) (ks ++ t.kind ∷ [])
 unfolding token_fault state_of draft_of head_of ranks_of used_of blocks_of rank_of ops_of defined_of deps_of notes_of plans_of
-one_more before t ks passed here =
+sentences_with_token before t ks passed here =
     let passes = passes_of (state_of before) (draft_of before) (ranks_of before) (blocks_of before) (defined_of before) (head_of before).subject (counts_of before) (used_of before) t passed in
     let fits : Fits (state_of before) (kept_of before) (head_of before) t.kind = record { new = passes.new_rank; below = passes.below; fresh = passes.fresh; found = passes.found } in
     step (state_of before) t.kind t.start (kept_of before) (draft_of before) (head_of before) ks passes.known passes.once fits here
 
-all_more : (before tokens : List Token) (ks : List TokenKind) → first_fault before tokens ≡ None → AtEnd before ks →
+sentences_with_tokens : (before tokens : List Token) (ks : List TokenKind) → first_fault before tokens ≡ None → AtEnd before ks →
     AtEnd (reverse tokens ++ before) (ks ++ map (λ (t : Token). t.kind) tokens)
 unfolding first_fault
-all_more before [] ks passed here = subst (AtEnd before) (sym (append-nil ks)) here
-all_more before (t ∷ tokens) ks passed here =
+sentences_with_tokens before [] ks passed here = subst (AtEnd before) (sym (append-nil ks)) here
+sentences_with_tokens before (t ∷ tokens) ks passed here =
     let kinds = map (λ (u : Token). u.kind) tokens in
-    let first = one_more before t ks (none_first (token_fault before t) (first_fault (t ∷ before) tokens) passed) here in
-    let rest = all_more (t ∷ before) tokens (ks ++ t.kind ∷ []) (none_second (token_fault before t) (first_fault (t ∷ before) tokens) passed) first in
+    let first = sentences_with_token before t ks (first_is_none (token_fault before t) (first_fault (t ∷ before) tokens) passed) here in
+    let rest = sentences_with_tokens (t ∷ before) tokens (ks ++ t.kind ∷ []) (second_is_none (token_fault before t) (first_fault (t ∷ before) tokens) passed) first in
     let turned : reverse (t ∷ tokens) ++ before ≡ reverse tokens ++ t ∷ before =
     ap (λ (l : List Token). l ++ before) (reverse-append (t ∷ []) tokens) ∙ append_assoc (reverse tokens) (t ∷ []) before in
     subst (λ (l : List Token). AtEnd l (ks ++ t.kind ∷ kinds)) (sym turned)
@@ -1190,33 +1190,33 @@ unfolding state_of used_of blocks_of ops_of defined_of deps_of notes_of
 at_start = (refl, record { ops = refl; defined = refl; used = refl; deps = refl; notes = refl }, refl)
 
 -- where the text may end
-at_last : (o : Option ℕ) (s : State) (place : ℕ) (kept : Kept) (draft : Draft) (head : ItemHead) (ks : List TokenKind) → last_fault o s place ≡ None →
+text_may_end : (o : Option ℕ) (s : State) (place : ℕ) (kept : Kept) (draft : Draft) (head : ItemHead) (ks : List TokenKind) → last_fault o s place ≡ None →
     At s kept draft head ks → Out kept ks []
-at_last None state.Top place kept draft head ks h here = here
-at_last None _ place kept draft head ks h here = cc
-at_last (Some at) s place kept draft head ks h here = cc
+text_may_end None state.Top place kept draft head ks h here = here
+text_may_end None _ place kept draft head ks h here = cc
+text_may_end (Some at) s place kept draft head ks h here = cc
 
-of_text : (text : List ℕ) → text_fault text ≡ None → IsWritten (lexed text).0 (text_plans text)
+text_is_written : (text : List ℕ) → text_fault text ≡ None → IsWritten (lexed text).0 (text_plans text)
 unfolding text_fault text_plans
-of_text text passed =
+text_is_written text passed =
     let tokens = (lexed text).0 in
     let kinds = map (λ (t : Token). t.kind) tokens in
     let before = reverse tokens in
     let last = last_fault (lexed text).1 (state_of before) (length text) in
-    let here = subst (λ (l : List Token). AtEnd l kinds) (append-nil before) (all_more [] tokens [] (none_first (first_fault [] tokens) last passed) at_start) in
-    let out = at_last (lexed text).1 (state_of before) (length text) (kept_of before) (draft_of before) (head_of before) kinds (none_second (first_fault [] tokens) last passed) here in
+    let here = subst (λ (l : List Token). AtEnd l kinds) (append-nil before) (sentences_with_tokens [] tokens [] (first_is_none (first_fault [] tokens) last passed) at_start) in
+    let out = text_may_end (lexed text).1 (state_of before) (length text) (kept_of before) (draft_of before) (head_of before) kinds (second_is_none (first_fault [] tokens) last passed) here in
     record { written = out.written; right = out.right; spelled = out.spelled ∙ append-nil (text_tokens out.written); said = out.said }
 
-of_reading : (tokens : List Token) (fault : Option TextFault) (said ps : List Plan) → (fault ≡ None → IsWritten tokens said) → reading fault said ≡ plans ps → IsWritten tokens ps
-of_reading tokens None said ps h is = subst (IsWritten tokens) (same said ps is) (h refl)
+reading_is_written : (tokens : List Token) (fault : Option TextFault) (said ps : List Plan) → (fault ≡ None → IsWritten tokens said) → reading fault said ≡ plans ps → IsWritten tokens ps
+reading_is_written tokens None said ps h is = subst (IsWritten tokens) (same said ps is) (h refl)
   where
     same : (a b : List Plan) → plans a ≡ plans b → a ≡ b
     same a b e = cc
-of_reading tokens (Some f) said ps h is = absurd (apart f ps is)
+reading_is_written tokens (Some f) said ps h is = absurd (apart f ps is)
   where
     apart : (f : TextFault) (b : List Plan) → faulty f ≡ plans b → ⊥
     apart f b e = cc
 
-pub say_plans : (text : List ℕ) (ps : List Plan) → reads text ≡ plans ps → IsWritten (lexed text).0 ps
+pub plans_are_said : (text : List ℕ) (ps : List Plan) → reads text ≡ plans ps → IsWritten (lexed text).0 ps
 unfolding reads
-say_plans text ps is = of_reading (lexed text).0 (text_fault text) (text_plans text) ps (of_text text) is
+plans_are_said text ps is = reading_is_written (lexed text).0 (text_fault text) (text_plans text) ps (text_is_written text) is

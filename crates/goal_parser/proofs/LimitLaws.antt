@@ -39,7 +39,7 @@ use Rattle.goal_parser.specs.Plans.{empty_plan, block_plan, first_plans, plans_w
 use Rattle.goal_parser.specs.Faults.{fault_by, token_fault, syntax_fault, number_fault, rank_fault, option_fault, label_fault, count_fault, unknown_fault}
 use Rattle.goal_parser.specs.Reads.{first_fault, last_fault, text_fault, text_plans, reading, reads, plans, faulty}
 use Rattle.goal_graph.specs.Limits.{HasValue, HaveValues, AreWithinLimits}
-use Rattle.goal_parser.proofs.ParserLaws.{none_first, none_second, not_so, number_passes, count_passes}
+use Rattle.goal_parser.proofs.ParserLaws.{first_is_none, second_is_none, no_fault_if_false, number_passes, count_passes}
 
 -- an operation, a dependency or a note has begun in this state, and isn't kept yet
 abbrev acting : State → ℕ
@@ -98,23 +98,23 @@ kept_notes state.Note3 (token.Number n) = 1
 kept_notes _ _ = 0
 
 -- the state behind the token
-abbrev behind : State → TokenKind → State
-behind s k = unwrap_or (entry s k) s
+abbrev state_after : State → TokenKind → State
+state_after s k = unwrap_or (entry s k) s
 
 -- what is kept had begun
-ops_begun : (s : State) (k : TokenKind) → nat_le (kept_ops s k + acting (behind s k)) (acting s + begun_ops k) ≡ true
+ops_begun : (s : State) (k : TokenKind) → nat_le (kept_ops s k + acting (state_after s k)) (acting s + begun_ops k) ≡ true
 unfolding ends_action entry
 ops_begun state.Start token.Calc = refl
 ops_begun _ token.Calc = refl
 ops_begun _ _ = refl
 
-deps_begun : (s : State) (k : TokenKind) → nat_le (kept_deps s k + depending (behind s k)) (depending s + begun_deps k) ≡ true
+deps_begun : (s : State) (k : TokenKind) → nat_le (kept_deps s k + depending (state_after s k)) (depending s + begun_deps k) ≡ true
 unfolding entry
 deps_begun state.Start token.Calc = refl
 deps_begun _ token.Calc = refl
 deps_begun _ _ = refl
 
-notes_begun : (s : State) (k : TokenKind) → nat_le (kept_notes s k + noting (behind s k)) (noting s + begun_notes k) ≡ true
+notes_begun : (s : State) (k : TokenKind) → nat_le (kept_notes s k + noting (state_after s k)) (noting s + begun_notes k) ≡ true
 unfolding entry
 notes_begun state.Start token.Calc = refl
 notes_begun _ token.Calc = refl
@@ -147,18 +147,18 @@ record AreFew (counts : Counts) : Type 0 where
   deps : counts.deps ≤ MAX_DEPS
   notes : counts.notes ≤ MAX_NOTES
 
-one_more : (limit n : ℕ) → nat_le limit n ≡ false → n + 1 ≤ limit
-one_more limit n h = let below : n < limit = leb-false limit n h in omega arith
+room_for_next : (limit n : ℕ) → nat_le limit n ≡ false → n + 1 ≤ limit
+room_for_next limit n h = let below : n < limit = leb-false limit n h in omega arith
 
 few_with : (k : TokenKind) (counts : Counts) → is_too_many k counts ≡ false → AreFew counts → AreFew (counts_with k counts)
 unfolding counts_with is_too_many
-few_with token.Calc counts h few = record { ops = one_more MAX_OPS counts.ops h; deps = few.deps; notes = few.notes }
-few_with token.Send counts h few = record { ops = one_more MAX_OPS counts.ops h; deps = few.deps; notes = few.notes }
-few_with token.Recv counts h few = record { ops = one_more MAX_OPS counts.ops h; deps = few.deps; notes = few.notes }
-few_with token.Requires counts h few = record { ops = few.ops; deps = one_more MAX_DEPS counts.deps h; notes = few.notes }
-few_with token.Irequires counts h few = record { ops = few.ops; deps = one_more MAX_DEPS counts.deps h; notes = few.notes }
-few_with token.Moves counts h few = record { ops = few.ops; deps = few.deps; notes = one_more MAX_NOTES counts.notes h }
-few_with token.Adds counts h few = record { ops = few.ops; deps = few.deps; notes = one_more MAX_NOTES counts.notes h }
+few_with token.Calc counts h few = record { ops = room_for_next MAX_OPS counts.ops h; deps = few.deps; notes = few.notes }
+few_with token.Send counts h few = record { ops = room_for_next MAX_OPS counts.ops h; deps = few.deps; notes = few.notes }
+few_with token.Recv counts h few = record { ops = room_for_next MAX_OPS counts.ops h; deps = few.deps; notes = few.notes }
+few_with token.Requires counts h few = record { ops = few.ops; deps = room_for_next MAX_DEPS counts.deps h; notes = few.notes }
+few_with token.Irequires counts h few = record { ops = few.ops; deps = room_for_next MAX_DEPS counts.deps h; notes = few.notes }
+few_with token.Moves counts h few = record { ops = few.ops; deps = few.deps; notes = room_for_next MAX_NOTES counts.notes h }
+few_with token.Adds counts h few = record { ops = few.ops; deps = few.deps; notes = room_for_next MAX_NOTES counts.notes h }
 few_with _ counts h few = few
 
 -- the end of a block moves what it has kept to the plan of its rank
@@ -222,18 +222,18 @@ RanksFit _ ps = (0 < length ps) × (length ps ≤ MAX_RANKS)
 between : (low n high : ℕ) → (nat_le low n && nat_le n high) ≡ true → (low ≤ n) × (n ≤ high)
 between low n high h = let parts = and_parts (nat_le low n) (nat_le n high) h in (leb-true low n parts.0, leb-true n high parts.1)
 
-so_many : (n : ℕ) → 1 ≤ n → n ≤ MAX_RANKS → (0 < length (replicate n empty_plan)) × (length (replicate n empty_plan) ≤ MAX_RANKS)
-so_many n some few = let e = length-replicate n empty_plan in (omega arith, omega arith)
+replicated_ranks_fit : (n : ℕ) → 1 ≤ n → n ≤ MAX_RANKS → (0 < length (replicate n empty_plan)) × (length (replicate n empty_plan) ≤ MAX_RANKS)
+replicated_ranks_fit n some few = let e = length-replicate n empty_plan in (omega arith, omega arith)
 
 set_fits : (ps : List Plan) (rank : ℕ) (plan : Plan) → (0 < length ps) × (length ps ≤ MAX_RANKS)
     → (0 < length (slice_set ps rank plan)) × (length (slice_set ps rank plan) ≤ MAX_RANKS)
 set_fits ps rank plan h = subst (λ (n : ℕ). (0 < n) × (n ≤ MAX_RANKS)) (sym (length-set ps rank plan)) h
 
-ranks_fit : (s : State) (k : TokenKind) (option : OptionWord) (rank : ℕ) (plan : Plan) (ps : List Plan) → is_within s option k ≡ true → RanksFit s ps → RanksFit (behind s k) (plans_with s k rank plan ps)
+ranks_fit : (s : State) (k : TokenKind) (option : OptionWord) (rank : ℕ) (plan : Plan) (ps : List Plan) → is_within s option k ≡ true → RanksFit s ps → RanksFit (state_after s k) (plans_with s k rank plan ps)
 unfolding entry is_within plans_with
 ranks_fit state.Start token.NumRanks option rank plan ps w h = tt
 ranks_fit state.Start _ option rank plan ps w h = tt
-ranks_fit state.Ranks (token.Number n) option rank plan ps w h = let b = between 1 n MAX_RANKS w in so_many n b.0 b.1
+ranks_fit state.Ranks (token.Number n) option rank plan ps w h = let b = between 1 n MAX_RANKS w in replicated_ranks_fit n b.0 b.1
 ranks_fit state.Ranks _ option rank plan ps w h = tt
 ranks_fit _ token.Close option rank plan ps w h = set_fits ps rank plan h
 ranks_fit _ _ option rank plan ps w h = h
@@ -275,7 +275,7 @@ recv_option option.Tag n d h = h
 recv_option option.Cpu n d h = h
 recv_option option.Nic n d h = h
 
-draft_fits : (s : State) (k : TokenKind) (d : Draft) → is_none (entry s k) ≡ false → is_within s d.option k ≡ true → DraftFits s d → DraftFits (behind s k) (draft_with s k d)
+draft_fits : (s : State) (k : TokenKind) (d : Draft) → is_none (entry s k) ≡ false → is_within s d.option k ≡ true → DraftFits s d → DraftFits (state_after s k) (draft_with s k d)
 unfolding entry is_within draft_with
 draft_fits state.Item token.Calc d e w h = (refl, refl)
 draft_fits state.Item token.Send d e w h = refl
@@ -340,14 +340,14 @@ draft_fits _ token.NumRanks d e w h = tt
 draft_fits _ _ d e w h = tt
 
 -- the operation of an action that ends
-value_of : (s : State) (k : TokenKind) (d : Draft) → DraftFits s d → ends_action s k ≡ true → HasValue (op_of d)
+ended_action_has_value : (s : State) (k : TokenKind) (d : Draft) → DraftFits s d → ends_action s k ≡ true → HasValue (op_of d)
 unfolding ends_action
-value_of state.Calc2 k d h e =
+ended_action_has_value state.Calc2 k d h e =
     subst (λ (a : Action). value_fits (kind_of a d) d.nic ≡ true) (sym h.0)
     (and_from (nat_le d.size MAX_NANOS) (d.nic == 0) (le-leb d.size MAX_NANOS h.2) (subst (λ (n : ℕ). (n == 0) ≡ true) (sym h.1) refl))
-value_of state.Send4 k d h e = subst (λ (a : Action). value_fits (kind_of a d) d.nic ≡ true) (sym h.0) (le-leb d.size MAX_BYTES h.1)
-value_of state.Recv4 k d h e = subst (λ (a : Action). value_fits (kind_of a d) d.nic ≡ true) (sym h.0) (le-leb d.size MAX_BYTES h.1)
-value_of _ k d h e = absurd (true≢false (sym e))
+ended_action_has_value state.Send4 k d h e = subst (λ (a : Action). value_fits (kind_of a d) d.nic ≡ true) (sym h.0) (le-leb d.size MAX_BYTES h.1)
+ended_action_has_value state.Recv4 k d h e = subst (λ (a : Action). value_fits (kind_of a d) d.nic ≡ true) (sym h.0) (le-leb d.size MAX_BYTES h.1)
+ended_action_has_value _ k d h e = absurd (true≢false (sym e))
 
 ended_all : (b : Bool) (op : Op) (ops : List Op) → (b ≡ true → HasValue op) → AllByRecursion HasValue ops → AllByRecursion HasValue (if b then ops ++ op ∷ [] else ops)
 ended_all true op ops v all = All-append HasValue ops (op ∷ []) all (v refl, tt)
@@ -382,9 +382,9 @@ record Keeps (before : List Token) : Type 0 where
   values : AllByRecursion HasValue (ops_of before)
   plans : AllByRecursion KeptValues (plans_of before)
 
-nothing_kept : Keeps []
+keeps_before_all : Keeps []
 unfolding op_count dep_count note_count state_of draft_of ops_of deps_of notes_of counts_of plans_of
-nothing_kept = record {
+keeps_before_all = record {
   ops = omega arith;
   deps = omega arith;
   notes = omega arith;
@@ -403,7 +403,7 @@ record Passes (s : State) (o : OptionWord) (counts : Counts) (t : Token) : Type 
 
 known_passes : (s : State) (t : Token) → syntax_fault s t ≡ None → is_none (entry s t.kind) ≡ false
 unfolding syntax_fault
-known_passes s t h = not_so (is_none (entry s t.kind)) (Syntax t.start) h
+known_passes s t h = no_fault_if_false (is_none (entry s t.kind)) (Syntax t.start) h
 
 passes_of : (s : State) (draft : Draft) (ranks : ℕ) (blocks : List ℕ) (ds : List Definition) (subject : Option Mention) (counts : Counts) (us : List Mention) (t : Token)
     → fault_by s draft ranks blocks ds subject counts us t ≡ None → Passes s draft.option counts t
@@ -414,15 +414,15 @@ passes_of s draft ranks blocks ds subject counts us t h =
     let options = option_or (option_fault draft t) labels in
     let numbered = option_or (rank_fault s ranks blocks t) options in
     let sized = option_or (number_fault s draft.option t) numbered in
-    let behind_syntax = none_second (syntax_fault s t) sized h in
-    let behind_number = none_second (number_fault s draft.option t) numbered behind_syntax in
-    let behind_rank = none_second (rank_fault s ranks blocks t) options behind_number in
-    let behind_option = none_second (option_fault draft t) labels behind_rank in
-    let behind_label = none_second (label_fault ds subject t) last behind_option in
+    let behind_syntax = second_is_none (syntax_fault s t) sized h in
+    let behind_number = second_is_none (number_fault s draft.option t) numbered behind_syntax in
+    let behind_rank = second_is_none (rank_fault s ranks blocks t) options behind_number in
+    let behind_option = second_is_none (option_fault draft t) labels behind_rank in
+    let behind_label = second_is_none (label_fault ds subject t) last behind_option in
     record {
-      known = known_passes s t (none_first (syntax_fault s t) sized h);
-      within = number_passes s draft.option t (none_first (number_fault s draft.option t) numbered behind_syntax);
-      few = count_passes counts t (none_first (count_fault counts t) (unknown_fault ds us t) behind_label);
+      known = known_passes s t (first_is_none (syntax_fault s t) sized h);
+      within = number_passes s draft.option t (first_is_none (number_fault s draft.option t) numbered behind_syntax);
+      few = count_passes counts t (first_is_none (count_fault counts t) (unknown_fault ds us t) behind_label);
     }
 
 token_passes : (before : List Token) (t : Token) → token_fault before t ≡ None → Passes (state_of before) (draft_of before).option (counts_of before) t
@@ -439,52 +439,52 @@ same_le : (a b : ℕ) → a ≡ b → a ≤ b
 same_le a b e = omega arith
 
 module _ (before : List Token) (t : Token) (passes : Passes (state_of before) (draft_of before).option (counts_of before) t) (keeps : Keeps before) where
-  ops_more : op_count (plans_of (t ∷ before)) + length (ops_of (t ∷ before)) + acting (state_of (t ∷ before)) ≤ (counts_of (t ∷ before)).ops
+  ops_with_token : op_count (plans_of (t ∷ before)) + length (ops_of (t ∷ before)) + acting (state_of (t ∷ before)) ≤ (counts_of (t ∷ before)).ops
   unfolding op_count plans_of ops_of state_of counts_of
-  ops_more =
+  ops_with_token =
       let s = state_of before in let k = t.kind in let op = op_of (draft_of before) in let ops = ops_of before in
-      within_count (op_count (plans_with s k (rank_of before) (block_plan before) (plans_of before))) (op_count (plans_of before)) (length (ops_with s k op ops)) (length ops) (closing k (length (ended_ops s token.Close op ops))) (kept_ops s k) (acting (behind s k)) (acting s) (begun_ops k) (counts_of before).ops (counts_with k (counts_of before)).ops
+      within_count (op_count (plans_with s k (rank_of before) (block_plan before) (plans_of before))) (op_count (plans_of before)) (length (ops_with s k op ops)) (length ops) (closing k (length (ended_ops s token.Close op ops))) (kept_ops s k) (acting (state_after s k)) (acting s) (begun_ops k) (counts_of before).ops (counts_with k (counts_of before)).ops
       (plans_sum (λ (p : Plan). length p.ops) refl s k (rank_of before) (block_plan before) (plans_of before))
       (same_le (length (ops_with s k op ops) + closing k (length (ended_ops s token.Close op ops))) (length ops + kept_ops s k) (ops_length s k op ops))
-      (leb-true (kept_ops s k + acting (behind s k)) (acting s + begun_ops k) (ops_begun s k))
+      (leb-true (kept_ops s k + acting (state_after s k)) (acting s + begun_ops k) (ops_begun s k))
       (ops_counted (counts_of before) k)
       keeps.ops
 
-  deps_more : dep_count (plans_of (t ∷ before)) + length (deps_of (t ∷ before)) + depending (state_of (t ∷ before)) ≤ (counts_of (t ∷ before)).deps
+  deps_with_token : dep_count (plans_of (t ∷ before)) + length (deps_of (t ∷ before)) + depending (state_of (t ∷ before)) ≤ (counts_of (t ∷ before)).deps
   unfolding dep_count plans_of deps_of state_of counts_of
-  deps_more =
+  deps_with_token =
       let s = state_of before in let k = t.kind in let deps = deps_of before in
       let plan = block_plan before in
-      within_count (dep_count (plans_with s k (rank_of before) plan (plans_of before))) (dep_count (plans_of before)) (length (deps_with s k (head_of before) deps)) (length deps) (closing k (length deps)) (kept_deps s k) (depending (behind s k)) (depending s) (begun_deps k) (counts_of before).deps (counts_with k (counts_of before)).deps
+      within_count (dep_count (plans_with s k (rank_of before) plan (plans_of before))) (dep_count (plans_of before)) (length (deps_with s k (head_of before) deps)) (length deps) (closing k (length deps)) (kept_deps s k) (depending (state_after s k)) (depending s) (begun_deps k) (counts_of before).deps (counts_with k (counts_of before)).deps
       (subst (λ (n : ℕ). dep_count (plans_with s k (rank_of before) plan (plans_of before)) ≤ dep_count (plans_of before) + closing k n) (length-map deps (dep_by (defined_of before)))
       (plans_sum (λ (p : Plan). length p.deps) refl s k (rank_of before) plan (plans_of before)))
       (deps_length s k (head_of before) deps)
-      (leb-true (kept_deps s k + depending (behind s k)) (depending s + begun_deps k) (deps_begun s k))
+      (leb-true (kept_deps s k + depending (state_after s k)) (depending s + begun_deps k) (deps_begun s k))
       (deps_counted (counts_of before) k)
       keeps.deps
 
-  notes_more : note_count (plans_of (t ∷ before)) + length (notes_of (t ∷ before)) + noting (state_of (t ∷ before)) ≤ (counts_of (t ∷ before)).notes
+  notes_with_token : note_count (plans_of (t ∷ before)) + length (notes_of (t ∷ before)) + noting (state_of (t ∷ before)) ≤ (counts_of (t ∷ before)).notes
   unfolding note_count plans_of notes_of state_of counts_of
-  notes_more =
+  notes_with_token =
       let s = state_of before in let k = t.kind in let notes = notes_of before in
       let plan = block_plan before in
-      within_count (note_count (plans_with s k (rank_of before) plan (plans_of before))) (note_count (plans_of before)) (length (notes_with s k (head_of before) notes)) (length notes) (closing k (length notes)) (kept_notes s k) (noting (behind s k)) (noting s) (begun_notes k) (counts_of before).notes (counts_with k (counts_of before)).notes
+      within_count (note_count (plans_with s k (rank_of before) plan (plans_of before))) (note_count (plans_of before)) (length (notes_with s k (head_of before) notes)) (length notes) (closing k (length notes)) (kept_notes s k) (noting (state_after s k)) (noting s) (begun_notes k) (counts_of before).notes (counts_with k (counts_of before)).notes
       (subst (λ (n : ℕ). note_count (plans_with s k (rank_of before) plan (plans_of before)) ≤ note_count (plans_of before) + closing k n) (length-map notes (note_by (defined_of before)))
       (plans_sum (λ (p : Plan). length p.notes) refl s k (rank_of before) plan (plans_of before)))
       (notes_length s k (head_of before) notes)
-      (leb-true (kept_notes s k + noting (behind s k)) (noting s + begun_notes k) (notes_begun s k))
+      (leb-true (kept_notes s k + noting (state_after s k)) (noting s + begun_notes k) (notes_begun s k))
       (notes_counted (counts_of before) k)
       keeps.notes
 
-  keeps_more : Keeps (t ∷ before)
+  keeps_with_token : Keeps (t ∷ before)
   unfolding state_of draft_of ops_of counts_of plans_of
-  keeps_more =
+  keeps_with_token =
       let s = state_of before in let k = t.kind in let op = op_of (draft_of before) in
-      let value = λ (j : TokenKind). value_of s j (draft_of before) keeps.draft in
+      let value = λ (j : TokenKind). ended_action_has_value s j (draft_of before) keeps.draft in
       record {
-        ops = ops_more;
-        deps = deps_more;
-        notes = notes_more;
+        ops = ops_with_token;
+        deps = deps_with_token;
+        notes = notes_with_token;
         few = few_with k (counts_of before) passes.few keeps.few;
         ranks = ranks_fit s k (draft_of before).option (rank_of before) (block_plan before) (plans_of before) passes.within keeps.ranks;
         draft = draft_fits s k (draft_of before) passes.known passes.within keeps.draft;
@@ -497,11 +497,11 @@ keeps_all : (before tokens : List Token) → first_fault before tokens ≡ None 
 unfolding first_fault
 keeps_all before [] passed keeps = keeps
 keeps_all before (t ∷ tokens) passed keeps =
-    let here = token_passes before t (none_first (token_fault before t) (first_fault (t ∷ before) tokens) passed) in
-    let rest = none_second (token_fault before t) (first_fault (t ∷ before) tokens) passed in
+    let here = token_passes before t (first_is_none (token_fault before t) (first_fault (t ∷ before) tokens) passed) in
+    let rest = second_is_none (token_fault before t) (first_fault (t ∷ before) tokens) passed in
     let turned : reverse (t ∷ tokens) ++ before ≡ reverse tokens ++ t ∷ before =
     ap (λ l. l ++ before) (reverse-append (t ∷ []) tokens) ∙ append_assoc (reverse tokens) (t ∷ []) before in
-    subst Keeps (sym turned) (keeps_all (t ∷ before) tokens rest (keeps_more before t here keeps))
+    subst Keeps (sym turned) (keeps_all (t ∷ before) tokens rest (keeps_with_token before t here keeps))
 
 -- where the text may end
 last_fits : (o : Option ℕ) (s : State) (place : ℕ) (ps : List Plan) → last_fault o s place ≡ None → RanksFit s ps → (0 < length ps) × (length ps ≤ MAX_RANKS)
@@ -519,24 +519,24 @@ within_limits before keeps fits =
       values = All-from_recursion HaveValues (plans_of before) (All-weaker KeptValues HaveValues (λ p all. All-from_recursion HasValue p.ops all) (plans_of before) k.plans);
     }
 
-of_text : (text : List ℕ) → text_fault text ≡ None → AreWithinLimits (text_plans text)
+text_within_limits : (text : List ℕ) → text_fault text ≡ None → AreWithinLimits (text_plans text)
 unfolding text_fault text_plans
-of_text text passed =
+text_within_limits text passed =
     let tokens = (lexed text).0 in
     let last = last_fault (lexed text).1 (state_of (reverse tokens)) (length text) in
-    let keeps = subst Keeps (append-nil (reverse tokens)) (keeps_all [] tokens (none_first (first_fault [] tokens) last passed) nothing_kept) in
-    within_limits (reverse tokens) keeps (last_fits (lexed text).1 (state_of (reverse tokens)) (length text) (plans_of (reverse tokens)) (none_second (first_fault [] tokens) last passed) keeps.ranks)
+    let keeps = subst Keeps (append-nil (reverse tokens)) (keeps_all [] tokens (first_is_none (first_fault [] tokens) last passed) keeps_before_all) in
+    within_limits (reverse tokens) keeps (last_fits (lexed text).1 (state_of (reverse tokens)) (length text) (plans_of (reverse tokens)) (second_is_none (first_fault [] tokens) last passed) keeps.ranks)
 
-of_reading : (fault : Option TextFault) (said ps : List Plan) → (fault ≡ None → AreWithinLimits said) → reading fault said ≡ plans ps → AreWithinLimits ps
-of_reading None said ps h is = subst AreWithinLimits (same said ps is) (h refl)
+reading_within_limits : (fault : Option TextFault) (said ps : List Plan) → (fault ≡ None → AreWithinLimits said) → reading fault said ≡ plans ps → AreWithinLimits ps
+reading_within_limits None said ps h is = subst AreWithinLimits (same said ps is) (h refl)
   where
     same : (a b : List Plan) → plans a ≡ plans b → a ≡ b
     same a b e = cc
-of_reading (Some f) said ps h is = absurd (apart f ps is)
+reading_within_limits (Some f) said ps h is = absurd (apart f ps is)
   where
     apart : (f : TextFault) (b : List Plan) → faulty f ≡ plans b → ⊥
     apart f b e = cc
 
-pub keep_limits : (text : List ℕ) (ps : List Plan) → reads text ≡ plans ps → AreWithinLimits ps
+pub plans_within_limits : (text : List ℕ) (ps : List Plan) → reads text ≡ plans ps → AreWithinLimits ps
 unfolding reads
-keep_limits text ps is = of_reading (text_fault text) (text_plans text) ps (of_text text) is
+plans_within_limits text ps is = reading_within_limits (text_fault text) (text_plans text) ps (text_within_limits text) is

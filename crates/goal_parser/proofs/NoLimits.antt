@@ -26,88 +26,88 @@ use Rattle.goal_parser.specs.declared.faults.TextFault.{TextFault}
 use Rattle.goal_parser.specs.declared.faults.TextFault.TheVariants as fault
 use Rattle.goal_parser.specs.Reads.{first_fault as first_text_fault, last_fault, text_fault, text_plans, reading, reads, plans, IsFaultOf}
 use Rattle.goal_parser.specs.FaultInText.{IsLimitFault}
-use Rattle.goal_parser.proofs.LimitLaws.{keep_limits}
+use Rattle.goal_parser.proofs.LimitLaws.{plans_within_limits}
 
 -- the faults of tokens are no faults of plans
-abbrev IsOwn : Option TextFault → Type 0
-IsOwn None = ⊤
-IsOwn (Some f) = IsLimitFault f → ⊥
+abbrev IsNoLimitFault : Option TextFault → Type 0
+IsNoLimitFault None = ⊤
+IsNoLimitFault (Some f) = IsLimitFault f → ⊥
 
-own_either : (a b : Option TextFault) → IsOwn a → IsOwn b → IsOwn (option_or a b)
-own_either None b p q = q
-own_either (Some f) b p q = p
+option_or_no_limit : (a b : Option TextFault) → IsNoLimitFault a → IsNoLimitFault b → IsNoLimitFault (option_or a b)
+option_or_no_limit None b p q = q
+option_or_no_limit (Some f) b p q = p
 
-own_if : (b : Bool) (f : TextFault) → (IsLimitFault f → ⊥) → IsOwn (fault_if b f)
-own_if true f p = p
-own_if false f p = tt
+fault_if_no_limit : (b : Bool) (f : TextFault) → (IsLimitFault f → ⊥) → IsNoLimitFault (fault_if b f)
+fault_if_no_limit true f p = p
+fault_if_no_limit false f p = tt
 
-rank_own : (s : State) (ranks : ℕ) (blocks : List ℕ) (k : TokenKind) (at : ℕ) → IsOwn (rank_fault_of s ranks blocks k at)
-rank_own state.Block ranks blocks (token.Number n) at =
-    own_either (fault_if (not (nat_lt n ranks)) (fault.Rank at)) (fault_if (list_any (nat_eq n) blocks) (fault.Repeat at))
-    (own_if (not (nat_lt n ranks)) (fault.Rank at) (λ limit. limit))
-    (own_if (list_any (nat_eq n) blocks) (fault.Repeat at) (λ limit. limit))
-rank_own _ ranks blocks (token.Number n) at = tt
-rank_own s ranks blocks _ at = tt
+rank_fault_no_limit : (s : State) (ranks : ℕ) (blocks : List ℕ) (k : TokenKind) (at : ℕ) → IsNoLimitFault (rank_fault_of s ranks blocks k at)
+rank_fault_no_limit state.Block ranks blocks (token.Number n) at =
+    option_or_no_limit (fault_if (not (nat_lt n ranks)) (fault.Rank at)) (fault_if (list_any (nat_eq n) blocks) (fault.Repeat at))
+    (fault_if_no_limit (not (nat_lt n ranks)) (fault.Rank at) (λ limit. limit))
+    (fault_if_no_limit (list_any (nat_eq n) blocks) (fault.Repeat at) (λ limit. limit))
+rank_fault_no_limit _ ranks blocks (token.Number n) at = tt
+rank_fault_no_limit s ranks blocks _ at = tt
 
-label_own : (ds : List Definition) (subject : Option Mention) (k : TokenKind) → IsOwn (label_fault_of ds subject k)
-label_own ds None token.Colon = tt
-label_own ds (Some subject) token.Colon = own_if (is_defined ds subject.label) (fault.Repeat subject.at) (λ limit. limit)
-label_own ds subject _ = tt
+label_fault_no_limit : (ds : List Definition) (subject : Option Mention) (k : TokenKind) → IsNoLimitFault (label_fault_of ds subject k)
+label_fault_no_limit ds None token.Colon = tt
+label_fault_no_limit ds (Some subject) token.Colon = fault_if_no_limit (is_defined ds subject.label) (fault.Repeat subject.at) (λ limit. limit)
+label_fault_no_limit ds subject _ = tt
 
-unknown_own : (ds : List Definition) (us : List Mention) (k : TokenKind) → IsOwn (unknown_fault_of ds us k)
-unknown_own ds us token.Close = by (first_unknown ds us)
+unknown_fault_no_limit : (ds : List Definition) (us : List Mention) (k : TokenKind) → IsNoLimitFault (unknown_fault_of ds us k)
+unknown_fault_no_limit ds us token.Close = by (first_unknown ds us)
   where
-    by : (o : Option ℕ) → IsOwn (option_map fault.UnknownLabel o)
+    by : (o : Option ℕ) → IsNoLimitFault (option_map fault.UnknownLabel o)
     by None = tt
     by (Some at) = λ limit. limit
-unknown_own ds us _ = tt
+unknown_fault_no_limit ds us _ = tt
 
-by_own : (s : State) (draft : Draft) (ranks : ℕ) (blocks : List ℕ) (ds : List Definition) (subject : Option Mention) (counts : Counts) (us : List Mention) (t : Token)
-    → IsOwn (fault_by s draft ranks blocks ds subject counts us t)
+fault_by_no_limit : (s : State) (draft : Draft) (ranks : ℕ) (blocks : List ℕ) (ds : List Definition) (subject : Option Mention) (counts : Counts) (us : List Mention) (t : Token)
+    → IsNoLimitFault (fault_by s draft ranks blocks ds subject counts us t)
 unfolding fault_by syntax_fault number_fault rank_text_fault option_fault label_fault count_text_fault unknown_fault
-by_own s draft ranks blocks ds subject counts us t =
+fault_by_no_limit s draft ranks blocks ds subject counts us t =
     let last = option_or (count_text_fault counts t) (unknown_fault ds us t) in
     let labels = option_or (label_fault ds subject t) last in
     let options = option_or (option_fault draft t) labels in
     let numbered = option_or (rank_text_fault s ranks blocks t) options in
-    own_either (syntax_fault s t) (option_or (number_fault s draft.option t) numbered) (own_if (is_none (entry s t.kind)) (fault.Syntax t.start) (λ limit. limit))
-    (own_either (number_fault s draft.option t) numbered (own_if (not (is_within s draft.option t.kind)) (fault.Number t.start) (λ limit. limit))
-    (own_either (rank_text_fault s ranks blocks t) options (rank_own s ranks blocks t.kind t.start)
-    (own_either (option_fault draft t) labels (own_if (has_option t.kind draft) (fault.Repeat t.start) (λ limit. limit))
-    (own_either (label_fault ds subject t) last (label_own ds subject t.kind)
-    (own_either (count_text_fault counts t) (unknown_fault ds us t) (own_if (is_too_many t.kind counts) (fault.TooMany t.start) (λ limit. limit))
-    (unknown_own ds us t.kind))))))
+    option_or_no_limit (syntax_fault s t) (option_or (number_fault s draft.option t) numbered) (fault_if_no_limit (is_none (entry s t.kind)) (fault.Syntax t.start) (λ limit. limit))
+    (option_or_no_limit (number_fault s draft.option t) numbered (fault_if_no_limit (not (is_within s draft.option t.kind)) (fault.Number t.start) (λ limit. limit))
+    (option_or_no_limit (rank_text_fault s ranks blocks t) options (rank_fault_no_limit s ranks blocks t.kind t.start)
+    (option_or_no_limit (option_fault draft t) labels (fault_if_no_limit (has_option t.kind draft) (fault.Repeat t.start) (λ limit. limit))
+    (option_or_no_limit (label_fault ds subject t) last (label_fault_no_limit ds subject t.kind)
+    (option_or_no_limit (count_text_fault counts t) (unknown_fault ds us t) (fault_if_no_limit (is_too_many t.kind counts) (fault.TooMany t.start) (λ limit. limit))
+    (unknown_fault_no_limit ds us t.kind))))))
 
-first_own : (before tokens : List Token) → IsOwn (first_text_fault before tokens)
+first_fault_no_limit : (before tokens : List Token) → IsNoLimitFault (first_text_fault before tokens)
 unfolding first_text_fault token_fault
-first_own before [] = tt
-first_own before (t ∷ tokens) =
-    own_either (token_fault before t) (first_text_fault (t ∷ before) tokens)
-    (by_own (state_of before) (draft_of before) (ranks_of before) (blocks_of before) (defined_of before) (head_of before).subject (counts_of before) (used_of before) t)
-    (first_own (t ∷ before) tokens)
+first_fault_no_limit before [] = tt
+first_fault_no_limit before (t ∷ tokens) =
+    option_or_no_limit (token_fault before t) (first_text_fault (t ∷ before) tokens)
+    (fault_by_no_limit (state_of before) (draft_of before) (ranks_of before) (blocks_of before) (defined_of before) (head_of before).subject (counts_of before) (used_of before) t)
+    (first_fault_no_limit (t ∷ before) tokens)
 
-last_own : (o : Option ℕ) (s : State) (place : ℕ) → IsOwn (last_fault o s place)
-last_own None state.Top place = tt
-last_own None _ place = λ limit. limit
-last_own (Some at) s place = λ limit. limit
+last_fault_no_limit : (o : Option ℕ) (s : State) (place : ℕ) → IsNoLimitFault (last_fault o s place)
+last_fault_no_limit None state.Top place = tt
+last_fault_no_limit None _ place = λ limit. limit
+last_fault_no_limit (Some at) s place = λ limit. limit
 
-text_own : (text : List ℕ) → IsOwn (text_fault text)
+text_fault_no_limit : (text : List ℕ) → IsNoLimitFault (text_fault text)
 unfolding text_fault
-text_own text =
-    own_either (first_text_fault [] (lexed text).0) (last_fault (lexed text).1 (state_of (reverse (lexed text).0)) (length text))
-    (first_own [] (lexed text).0) (last_own (lexed text).1 (state_of (reverse (lexed text).0)) (length text))
+text_fault_no_limit text =
+    option_or_no_limit (first_text_fault [] (lexed text).0) (last_fault (lexed text).1 (state_of (reverse (lexed text).0)) (length text))
+    (first_fault_no_limit [] (lexed text).0) (last_fault_no_limit (lexed text).1 (state_of (reverse (lexed text).0)) (length text))
 
-of_reading : (told : Option TextFault) (said : List Plan) → IsOwn told → ((ps : List Plan) → reading told said ≡ plans ps → AreWithinLimits ps)
+reading_breaks_no_limit : (told : Option TextFault) (said : List Plan) → IsNoLimitFault told → ((ps : List Plan) → reading told said ≡ plans ps → AreWithinLimits ps)
     → (f : TextFault) → IsFaultOf (reading told said) f → IsLimitFault f → ⊥
-of_reading (Some first) said own within f same limit = own (subst IsLimitFault (sym same) limit)
-of_reading None said own within (fault.Plan rule) told limit = no_limit_rule said (within said refl) rule told limit
-of_reading None said own within (fault.Lex at) told limit = told
-of_reading None said own within _ told limit = told
+reading_breaks_no_limit (Some first) said own within f same limit = own (subst IsLimitFault (sym same) limit)
+reading_breaks_no_limit None said own within (fault.Plan rule) told limit = no_limit_rule said (within said refl) rule told limit
+reading_breaks_no_limit None said own within (fault.Lex at) told limit = told
+reading_breaks_no_limit None said own within _ told limit = told
 
-of_text : (text : List ℕ) (f : TextFault) → IsFaultOf (reads text) f → IsLimitFault f → ⊥
+text_breaks_no_limit : (text : List ℕ) (f : TextFault) → IsFaultOf (reads text) f → IsLimitFault f → ⊥
 unfolding reads
-of_text text = of_reading (text_fault text) (text_plans text) (text_own text) (keep_limits text)
+text_breaks_no_limit text = reading_breaks_no_limit (text_fault text) (text_plans text) (text_fault_no_limit text) (plans_within_limits text)
 
-pub no_limit : (text : List ℕ) (r : Result (List Plan) TextFault) → IfErr r (λ f. f ≢ fault.NoMemory → IsFaultOf (reads text) f) → IfErr r (λ f. IsLimitFault f → ⊥)
-no_limit text (Ok ps) told = tt
-no_limit text (Err f) told = λ limit. of_text text f (told (λ same. subst IsLimitFault same limit)) limit
+pub fault_is_no_limit : (text : List ℕ) (r : Result (List Plan) TextFault) → IfErr r (λ f. f ≢ fault.NoMemory → IsFaultOf (reads text) f) → IfErr r (λ f. IsLimitFault f → ⊥)
+fault_is_no_limit text (Ok ps) told = tt
+fault_is_no_limit text (Err f) told = λ limit. text_breaks_no_limit text f (told (λ same. subst IsLimitFault same limit)) limit

@@ -24,33 +24,33 @@ use Rattle.goal_parser.specs.Counts.{is_too_many}
 use Rattle.goal_parser.specs.Grammar.{IsNewRank}
 use Rattle.goal_parser.specs.Faults.{fault_if, number_fault, rank_fault, rank_fault_of, count_fault, syntax_fault, label_fault, fault_by, token_fault}
 
-pub none_first : {A : Type 0} (a b : Option A) → option_or a b ≡ None → a ≡ None
-none_first None b h = refl
-none_first (Some x) b h = cc
+pub first_is_none : {A : Type 0} (a b : Option A) → option_or a b ≡ None → a ≡ None
+first_is_none None b h = refl
+first_is_none (Some x) b h = cc
 
-pub none_second : {A : Type 0} (a b : Option A) → option_or a b ≡ None → b ≡ None
-none_second None b h = h
-none_second (Some x) b h = cc
+pub second_is_none : {A : Type 0} (a b : Option A) → option_or a b ≡ None → b ≡ None
+second_is_none None b h = h
+second_is_none (Some x) b h = cc
 
-pub not_so : (b : Bool) (f : TextFault) → fault_if b f ≡ None → b ≡ false
-not_so true f h = cc
-not_so false f h = refl
+pub no_fault_if_false : (b : Bool) (f : TextFault) → fault_if b f ≡ None → b ≡ false
+no_fault_if_false true f h = cc
+no_fault_if_false false f h = refl
 
-so : (b : Bool) (f : TextFault) → fault_if (not b) f ≡ None → b ≡ true
-so true f h = refl
-so false f h = cc
+no_fault_unless_true : (b : Bool) (f : TextFault) → fault_if (not b) f ≡ None → b ≡ true
+no_fault_unless_true true f h = refl
+no_fault_unless_true false f h = cc
 
 pub number_passes : (s : State) (option : OptionWord) (t : Token) → number_fault s option t ≡ None → is_within s option t.kind ≡ true
 unfolding number_fault
-number_passes s option t h = so (is_within s option t.kind) (Number t.start) h
+number_passes s option t h = no_fault_unless_true (is_within s option t.kind) (Number t.start) h
 
 pub count_passes : (counts : Counts) (t : Token) → count_fault counts t ≡ None → is_too_many t.kind counts ≡ false
 unfolding count_fault
-count_passes counts t h = not_so (is_too_many t.kind counts) (TooMany t.start) h
+count_passes counts t h = no_fault_if_false (is_too_many t.kind counts) (TooMany t.start) h
 
 new_rank : (s : State) (ranks : ℕ) (blocks : List ℕ) (k : TokenKind) (at : ℕ) → rank_fault_of s ranks blocks k at ≡ None → IsNewRank s blocks k
 new_rank state.Block ranks blocks (token.Number n) at h =
-    not_so (list_any (nat_eq n) blocks) (Repeat at) (none_second (fault_if (not (nat_lt n ranks)) (Rank at)) (fault_if (list_any (nat_eq n) blocks) (Repeat at)) h)
+    no_fault_if_false (list_any (nat_eq n) blocks) (Repeat at) (second_is_none (fault_if (not (nat_lt n ranks)) (Rank at)) (fault_if (list_any (nat_eq n) blocks) (Repeat at)) h)
 new_rank _ ranks blocks _ at h = tt
 
 pub rank_passes : (s : State) (ranks : ℕ) (blocks : List ℕ) (t : Token) → rank_fault s ranks blocks t ≡ None → IsNewRank s blocks t.kind

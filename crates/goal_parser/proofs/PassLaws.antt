@@ -28,48 +28,48 @@ abbrev Stood : List Token → Token → Type 0
 Stood cs t = (xs : List Token) × (ys : List Token) × (cs ≡ xs ++ t ∷ ys)
 
 -- a token of two lists, one after the other, is in the first or in the second after the whole first
-in_front : (before later hs cs : List Token) (t : Token) → before ++ t ∷ later ≡ hs ++ cs → ((more : List Token) × (hs ≡ before ++ t ∷ more)) ⊎ Stood cs t
-in_front [] later [] cs t e = inr ([], later, sym e)
-in_front [] later (h ∷ hs) cs t e =
+token_in_front_or_behind : (before later hs cs : List Token) (t : Token) → before ++ t ∷ later ≡ hs ++ cs → ((more : List Token) × (hs ≡ before ++ t ∷ more)) ⊎ Stood cs t
+token_in_front_or_behind [] later [] cs t e = inr ([], later, sym e)
+token_in_front_or_behind [] later (h ∷ hs) cs t e =
     let same : t ≡ h = cc in
     inl (hs, ap (λ (x : Token). x ∷ hs) (sym same))
-in_front (b ∷ bs) later [] cs t e = inr (b ∷ bs, later, sym e)
-in_front (b ∷ bs) later (h ∷ hs) cs t e =
+token_in_front_or_behind (b ∷ bs) later [] cs t e = inr (b ∷ bs, later, sym e)
+token_in_front_or_behind (b ∷ bs) later (h ∷ hs) cs t e =
     let same : b ≡ h = cc in
     let rest : bs ++ t ∷ later ≡ hs ++ cs = cc in
-    ⊎_elim (λ found. inl (found.0, ap (λ (x : Token). x ∷ hs) (sym same) ∙ ap (λ (l : List Token). b ∷ l) found.1)) (λ stood. inr stood) (in_front bs later hs cs t rest)
+    ⊎_elim (λ found. inl (found.0, ap (λ (x : Token). x ∷ hs) (sym same) ∙ ap (λ (l : List Token). b ∷ l) found.1)) (λ stood. inr stood) (token_in_front_or_behind bs later hs cs t rest)
 
-none_of : (a b : Option TextFault) → option_or a b ≡ None → a ≡ None
-none_of None b e = refl
-none_of (Some f) b e = e
+first_is_none : (a b : Option TextFault) → option_or a b ≡ None → a ≡ None
+first_is_none None b e = refl
+first_is_none (Some f) b e = e
 
-none_behind : (a b : Option TextFault) → option_or a b ≡ None → b ≡ None
-none_behind None b e = e
-none_behind (Some f) b e = cc
+second_is_none : (a b : Option TextFault) → option_or a b ≡ None → b ≡ None
+second_is_none None b e = e
+second_is_none (Some f) b e = cc
 
 -- a token among tokens that pass
 passes : (before more : List Token) (t : Token) → first_fault [] (before ++ t ∷ more) ≡ None → token_fault (reverse before) t ≡ None
 unfolding first_fault
 passes before more t passed =
-    let behind = none_behind (first_fault [] before) _ (sym (first_fault-append [] before (t ∷ more)) ∙ passed) in
-    ap (λ (l : List Token). token_fault l t) (sym (append-nil (reverse before))) ∙ none_of (token_fault (reverse before ++ []) t) _ behind
+    let behind = second_is_none (first_fault [] before) _ (sym (first_fault-append [] before (t ∷ more)) ∙ passed) in
+    ap (λ (l : List Token). token_fault l t) (sym (append-nil (reverse before))) ∙ first_is_none (token_fault (reverse before ++ []) t) _ behind
 
 -- nothing stands among no tokens
-nowhere : {A : Type 0} (xs ys : List Token) (t : Token) → [] ≡ xs ++ t ∷ ys → A
-nowhere [] ys t e = cc
-nowhere (x ∷ xs) ys t e = cc
+no_token_among_none : {A : Type 0} (xs ys : List Token) (t : Token) → [] ≡ xs ++ t ∷ ys → A
+no_token_among_none [] ys t e = cc
+no_token_among_none (x ∷ xs) ys t e = cc
 
 -- what a text's end closes ends there
-ends_there : (place : ℕ) (mode : Mode) (t : Token) → Stood (closing place mode) t → t.end ≡ place
-ends_there place (Run start bytes form) t ([], ys, e) = cc
-ends_there place (Run start bytes form) t (x ∷ xs, ys, e) =
+closed_token_ends_at_place : (place : ℕ) (mode : Mode) (t : Token) → Stood (closing place mode) t → t.end ≡ place
+closed_token_ends_at_place place (Run start bytes form) t ([], ys, e) = cc
+closed_token_ends_at_place place (Run start bytes form) t (x ∷ xs, ys, e) =
     let rest : [] ≡ xs ++ t ∷ ys = cc in
-    nowhere xs ys t rest
-ends_there place Between t (xs, ys, e) = nowhere xs ys t e
-ends_there place (Slash start) t (xs, ys, e) = nowhere xs ys t e
-ends_there place (LineComment start) t (xs, ys, e) = nowhere xs ys t e
-ends_there place (BlockComment start closes) t (xs, ys, e) = nowhere xs ys t e
-ends_there place (Failed at) t (xs, ys, e) = nowhere xs ys t e
+    no_token_among_none xs ys t rest
+closed_token_ends_at_place place Between t (xs, ys, e) = no_token_among_none xs ys t e
+closed_token_ends_at_place place (Slash start) t (xs, ys, e) = no_token_among_none xs ys t e
+closed_token_ends_at_place place (LineComment start) t (xs, ys, e) = no_token_among_none xs ys t e
+closed_token_ends_at_place place (BlockComment start closes) t (xs, ys, e) = no_token_among_none xs ys t e
+closed_token_ends_at_place place (Failed at) t (xs, ys, e) = no_token_among_none xs ys t e
 
 -- no word of this table is a sign
 abbrev NoSigns : List (List ℕ × TokenKind) → Type 0
@@ -100,19 +100,19 @@ no_sign_there place (Run start bytes form) t ([], ys, e) h =
     no_run_sign form bytes (subst IsSign (sym same) h)
 no_sign_there place (Run start bytes form) t (x ∷ xs, ys, e) h =
     let rest : [] ≡ xs ++ t ∷ ys = cc in
-    nowhere xs ys t rest
-no_sign_there place Between t (xs, ys, e) h = nowhere xs ys t e
-no_sign_there place (Slash start) t (xs, ys, e) h = nowhere xs ys t e
-no_sign_there place (LineComment start) t (xs, ys, e) h = nowhere xs ys t e
-no_sign_there place (BlockComment start closes) t (xs, ys, e) h = nowhere xs ys t e
-no_sign_there place (Failed at) t (xs, ys, e) h = nowhere xs ys t e
+    no_token_among_none xs ys t rest
+no_sign_there place Between t (xs, ys, e) h = no_token_among_none xs ys t e
+no_sign_there place (Slash start) t (xs, ys, e) h = no_token_among_none xs ys t e
+no_sign_there place (LineComment start) t (xs, ys, e) h = no_token_among_none xs ys t e
+no_sign_there place (BlockComment start closes) t (xs, ys, e) h = no_token_among_none xs ys t e
+no_sign_there place (Failed at) t (xs, ys, e) h = no_token_among_none xs ys t e
 
 pub passes_so_far : (r : TextReader) (text : List ℕ) → HasRead r text → PassesSoFar text
 passes_so_far r text read = record {
   tokens = λ before later t e inside.
       ⊎_elim (λ found. passes before found.0 t (sym (ap (first_fault []) found.1) ∙ read.stands.passed))
-      (λ stood. absurd (⊎_elim (λ early. let last = ends_there lexer.place lexer.mode t stood in let long = stands.place in omega (arith, last, long, early)) (λ sign. no_sign_there lexer.place lexer.mode t stood sign) inside))
-      (in_front before later (handed lexer text) (closing lexer.place lexer.mode) t (sym e ∙ ap (λ (p : List Token × Option ℕ). p.0) (finishes lexer.mode lexer.place lexer.ends_run text stands)));
+      (λ stood. absurd (⊎_elim (λ early. let last = closed_token_ends_at_place lexer.place lexer.mode t stood in let long = stands.place in omega (arith, last, long, early)) (λ sign. no_sign_there lexer.place lexer.mode t stood sign) inside))
+      (token_in_front_or_behind before later (handed lexer text) (closing lexer.place lexer.mode) t (sym e ∙ ap (λ (p : List Token × Option ℕ). p.0) (finishes lexer.mode lexer.place lexer.ends_run text stands)));
   bytes = λ at e. cut_off lexer text at stands e;
 }
   where

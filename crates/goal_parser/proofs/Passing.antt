@@ -32,7 +32,7 @@ use Rattle.goal_parser.specs.Items.{Definition, when_of, is_defined, defined_as,
 use Rattle.goal_parser.specs.Faults.{token_fault}
 use Rattle.goal_parser.specs.Reads.{first_fault}
 use Rattle.goal_parser.specs.Grammar.{plan_said, ops_in, deps_in, notes_in, Amount, plain, marked, Setting, tag, cpu, nic, Item, calc, send, recv, requires, irequires, moves, adds, Block, Written, number_or_any, amount_token, setting_tokens, label_tokens, cpu_tokens, item_tokens, block_tokens, text_tokens, amount, op_said, defined_before, defined_by, definitions, dep_said, note_said, used_by, is_tag, is_cpu, is_nic, AreGivenOnce, HasOptionsOnce, KeepsRules, AreRight, IsSettingWithin, IsOfSend, IsItemWithin, AreWithin}
-use Rattle.goal_parser.proofs.Seen.{Seen, seen_of, ops_now, step, fault_in, kinds_of, passes, passes_rank, room, passes_number, passes_upto, passes_u32, BeginsItem, at_word, at_close}
+use Rattle.goal_parser.proofs.Seen.{Seen, seen_of, ops_now, step, fault_in, kinds_of, passes_if_false, passes_rank, room_for_next, passes_number, passes_upto, passes_u32, BeginsItem, at_word, at_close}
 
 -- Tokens of these kinds, wherever they stand, fail no test, and behind them the text may end.
 pub data Passes : Seen → List TokenKind → Type 0 where
@@ -111,30 +111,30 @@ word_passes a s None kinds begins new few good =
     by : (a : Action) (st : State) → BeginsItem st
         → Passes (record (begun_at (record s { state = st }) None s.head a) { defined = s.defined }) kinds
         → Passes (record s { state = st }) (word a ∷ kinds)
-    by action.Calc state.Item begins good = next (λ x y. passes (nat_le MAX_OPS s.counts.ops) (fault.TooMany x) (room MAX_OPS s.counts.ops few)) (λ x y. good)
-    by action.Calc state.Calc2 begins good = next (λ x y. passes (nat_le MAX_OPS s.counts.ops) (fault.TooMany x) (room MAX_OPS s.counts.ops few)) (λ x y. good)
-    by action.Calc state.Send4 begins good = next (λ x y. passes (nat_le MAX_OPS s.counts.ops) (fault.TooMany x) (room MAX_OPS s.counts.ops few)) (λ x y. good)
-    by action.Calc state.Recv4 begins good = next (λ x y. passes (nat_le MAX_OPS s.counts.ops) (fault.TooMany x) (room MAX_OPS s.counts.ops few)) (λ x y. good)
+    by action.Calc state.Item begins good = next (λ x y. passes_if_false (nat_le MAX_OPS s.counts.ops) (fault.TooMany x) (room_for_next MAX_OPS s.counts.ops few)) (λ x y. good)
+    by action.Calc state.Calc2 begins good = next (λ x y. passes_if_false (nat_le MAX_OPS s.counts.ops) (fault.TooMany x) (room_for_next MAX_OPS s.counts.ops few)) (λ x y. good)
+    by action.Calc state.Send4 begins good = next (λ x y. passes_if_false (nat_le MAX_OPS s.counts.ops) (fault.TooMany x) (room_for_next MAX_OPS s.counts.ops few)) (λ x y. good)
+    by action.Calc state.Recv4 begins good = next (λ x y. passes_if_false (nat_le MAX_OPS s.counts.ops) (fault.TooMany x) (room_for_next MAX_OPS s.counts.ops few)) (λ x y. good)
     by action.Calc _ begins good = absurd begins
-    by action.Send state.Item begins good = next (λ x y. passes (nat_le MAX_OPS s.counts.ops) (fault.TooMany x) (room MAX_OPS s.counts.ops few)) (λ x y. good)
-    by action.Send state.Calc2 begins good = next (λ x y. passes (nat_le MAX_OPS s.counts.ops) (fault.TooMany x) (room MAX_OPS s.counts.ops few)) (λ x y. good)
-    by action.Send state.Send4 begins good = next (λ x y. passes (nat_le MAX_OPS s.counts.ops) (fault.TooMany x) (room MAX_OPS s.counts.ops few)) (λ x y. good)
-    by action.Send state.Recv4 begins good = next (λ x y. passes (nat_le MAX_OPS s.counts.ops) (fault.TooMany x) (room MAX_OPS s.counts.ops few)) (λ x y. good)
+    by action.Send state.Item begins good = next (λ x y. passes_if_false (nat_le MAX_OPS s.counts.ops) (fault.TooMany x) (room_for_next MAX_OPS s.counts.ops few)) (λ x y. good)
+    by action.Send state.Calc2 begins good = next (λ x y. passes_if_false (nat_le MAX_OPS s.counts.ops) (fault.TooMany x) (room_for_next MAX_OPS s.counts.ops few)) (λ x y. good)
+    by action.Send state.Send4 begins good = next (λ x y. passes_if_false (nat_le MAX_OPS s.counts.ops) (fault.TooMany x) (room_for_next MAX_OPS s.counts.ops few)) (λ x y. good)
+    by action.Send state.Recv4 begins good = next (λ x y. passes_if_false (nat_le MAX_OPS s.counts.ops) (fault.TooMany x) (room_for_next MAX_OPS s.counts.ops few)) (λ x y. good)
     by action.Send _ begins good = absurd begins
-    by action.Recv state.Item begins good = next (λ x y. passes (nat_le MAX_OPS s.counts.ops) (fault.TooMany x) (room MAX_OPS s.counts.ops few)) (λ x y. good)
-    by action.Recv state.Calc2 begins good = next (λ x y. passes (nat_le MAX_OPS s.counts.ops) (fault.TooMany x) (room MAX_OPS s.counts.ops few)) (λ x y. good)
-    by action.Recv state.Send4 begins good = next (λ x y. passes (nat_le MAX_OPS s.counts.ops) (fault.TooMany x) (room MAX_OPS s.counts.ops few)) (λ x y. good)
-    by action.Recv state.Recv4 begins good = next (λ x y. passes (nat_le MAX_OPS s.counts.ops) (fault.TooMany x) (room MAX_OPS s.counts.ops few)) (λ x y. good)
+    by action.Recv state.Item begins good = next (λ x y. passes_if_false (nat_le MAX_OPS s.counts.ops) (fault.TooMany x) (room_for_next MAX_OPS s.counts.ops few)) (λ x y. good)
+    by action.Recv state.Calc2 begins good = next (λ x y. passes_if_false (nat_le MAX_OPS s.counts.ops) (fault.TooMany x) (room_for_next MAX_OPS s.counts.ops few)) (λ x y. good)
+    by action.Recv state.Send4 begins good = next (λ x y. passes_if_false (nat_le MAX_OPS s.counts.ops) (fault.TooMany x) (room_for_next MAX_OPS s.counts.ops few)) (λ x y. good)
+    by action.Recv state.Recv4 begins good = next (λ x y. passes_if_false (nat_le MAX_OPS s.counts.ops) (fault.TooMany x) (room_for_next MAX_OPS s.counts.ops few)) (λ x y. good)
     by action.Recv _ begins good = absurd begins
 word_passes a s (Some label) kinds begins new few good =
     label_passes s label (token.Colon ∷ word a ∷ kinds) begins (λ at.
-    next (λ x y. passes (is_defined s.defined label) (fault.Repeat at) new) (λ x y. behind a at (good (record s.head { subject = Some (record { label = label; at = at }) }))))
+    next (λ x y. passes_if_false (is_defined s.defined label) (fault.Repeat at) new) (λ x y. behind a at (good (record s.head { subject = Some (record { label = label; at = at }) }))))
   where
     behind : (a : Action) (at : ℕ) → Passes (begun_at s (Some label) (record s.head { subject = Some (record { label = label; at = at }) }) a) kinds
         → Passes (record (at_word s label at) { state = state.Action; defined = s.defined ++ record { label = label; op = length (ops_now s) } ∷ [] }) (word a ∷ kinds)
-    behind action.Calc at good = next (λ x y. passes (nat_le MAX_OPS s.counts.ops) (fault.TooMany x) (room MAX_OPS s.counts.ops few)) (λ x y. good)
-    behind action.Send at good = next (λ x y. passes (nat_le MAX_OPS s.counts.ops) (fault.TooMany x) (room MAX_OPS s.counts.ops few)) (λ x y. good)
-    behind action.Recv at good = next (λ x y. passes (nat_le MAX_OPS s.counts.ops) (fault.TooMany x) (room MAX_OPS s.counts.ops few)) (λ x y. good)
+    behind action.Calc at good = next (λ x y. passes_if_false (nat_le MAX_OPS s.counts.ops) (fault.TooMany x) (room_for_next MAX_OPS s.counts.ops few)) (λ x y. good)
+    behind action.Send at good = next (λ x y. passes_if_false (nat_le MAX_OPS s.counts.ops) (fault.TooMany x) (room_for_next MAX_OPS s.counts.ops few)) (λ x y. good)
+    behind action.Recv at good = next (λ x y. passes_if_false (nat_le MAX_OPS s.counts.ops) (fault.TooMany x) (room_for_next MAX_OPS s.counts.ops few)) (λ x y. good)
 
 -- no option of these was given before, or stands twice
 abbrev Fresh : (tags cpus nics : Bool) → List Setting → Type 0
@@ -175,15 +175,15 @@ unfolding step fault_in
 send_settings [] s kinds within sends new good = good s.draft
 send_settings (tag None ∷ settings) s kinds within sends new good = absurd (let h = sends.0 in cc)
 send_settings (tag (Some n) ∷ settings) s kinds within sends new good =
-    next (λ a b. passes s.draft.has_tag (fault.Repeat a) new.0) (λ a b.
+    next (λ a b. passes_if_false s.draft.has_tag (fault.Repeat a) new.0) (λ a b.
     next (λ c d. passes_u32 n (fault.Number c) within.0) (λ c d.
     send_settings settings (record s { draft = record s.draft { has_tag = true; option = option.Tag; tag = Some n } }) kinds within.1 sends.1 new.1 good))
 send_settings (cpu n ∷ settings) s kinds within sends new good =
-    next (λ a b. passes s.draft.has_cpu (fault.Repeat a) new.0) (λ a b.
+    next (λ a b. passes_if_false s.draft.has_cpu (fault.Repeat a) new.0) (λ a b.
     next (λ c d. passes_upto n 255 (fault.Number c) within.0) (λ c d.
     send_settings settings (record s { draft = record s.draft { has_cpu = true; option = option.Cpu; cpu = n } }) kinds within.1 sends.1 new.1 good))
 send_settings (nic n ∷ settings) s kinds within sends new good =
-    next (λ a b. passes s.draft.has_nic (fault.Repeat a) new.0) (λ a b.
+    next (λ a b. passes_if_false s.draft.has_nic (fault.Repeat a) new.0) (λ a b.
     next (λ c d. passes_upto n 255 (fault.Number c) within.0) (λ c d.
     send_settings settings (record s { draft = record s.draft { has_nic = true; option = option.Nic; nic = n } }) kinds within.1 sends.1 new.1 good))
 
@@ -195,19 +195,19 @@ recv_settings : (settings : List Setting) (s : Seen) (kinds : List TokenKind) �
 unfolding step fault_in
 recv_settings [] s kinds within new good = good s.draft
 recv_settings (tag None ∷ settings) s kinds within new good =
-    next (λ a b. passes s.draft.has_tag (fault.Repeat a) new.0) (λ a b.
+    next (λ a b. passes_if_false s.draft.has_tag (fault.Repeat a) new.0) (λ a b.
     next (λ c d. refl) (λ c d.
     recv_settings settings (record s { draft = record s.draft { has_tag = true; option = option.Tag; tag = None } }) kinds within.1 new.1 good))
 recv_settings (tag (Some n) ∷ settings) s kinds within new good =
-    next (λ a b. passes s.draft.has_tag (fault.Repeat a) new.0) (λ a b.
+    next (λ a b. passes_if_false s.draft.has_tag (fault.Repeat a) new.0) (λ a b.
     next (λ c d. passes_u32 n (fault.Number c) within.0) (λ c d.
     recv_settings settings (record s { draft = record s.draft { has_tag = true; option = option.Tag; tag = Some n } }) kinds within.1 new.1 good))
 recv_settings (cpu n ∷ settings) s kinds within new good =
-    next (λ a b. passes s.draft.has_cpu (fault.Repeat a) new.0) (λ a b.
+    next (λ a b. passes_if_false s.draft.has_cpu (fault.Repeat a) new.0) (λ a b.
     next (λ c d. passes_upto n 255 (fault.Number c) within.0) (λ c d.
     recv_settings settings (record s { draft = record s.draft { has_cpu = true; option = option.Cpu; cpu = n } }) kinds within.1 new.1 good))
 recv_settings (nic n ∷ settings) s kinds within new good =
-    next (λ a b. passes s.draft.has_nic (fault.Repeat a) new.0) (λ a b.
+    next (λ a b. passes_if_false s.draft.has_nic (fault.Repeat a) new.0) (λ a b.
     next (λ c d. passes_upto n 255 (fault.Number c) within.0) (λ c d.
     recv_settings settings (record s { draft = record s.draft { has_nic = true; option = option.Nic; nic = n } }) kinds within.1 new.1 good))
 
@@ -415,7 +415,7 @@ requires_passes : (later earlier : List ℕ) (s : Seen) (kinds : List TokenKind)
 unfolding step fault_in
 requires_passes later earlier s kinds begins few good =
     label_passes s later (token.Requires ∷ token.Label earlier ∷ kinds) begins (λ at.
-    next (λ a b. passes (nat_le MAX_DEPS s.counts.deps) (fault.TooMany a) (room MAX_DEPS s.counts.deps few)) (λ a b.
+    next (λ a b. passes_if_false (nat_le MAX_DEPS s.counts.deps) (fault.TooMany a) (room_for_next MAX_DEPS s.counts.deps few)) (λ a b.
     next (λ c d. refl) (λ c d. good at c)))
 
 irequires_passes : (later earlier : List ℕ) (s : Seen) (kinds : List TokenKind) → BeginsItem s.state → s.counts.deps < MAX_DEPS
@@ -423,7 +423,7 @@ irequires_passes : (later earlier : List ℕ) (s : Seen) (kinds : List TokenKind
 unfolding step fault_in
 irequires_passes later earlier s kinds begins few good =
     label_passes s later (token.Irequires ∷ token.Label earlier ∷ kinds) begins (λ at.
-    next (λ a b. passes (nat_le MAX_DEPS s.counts.deps) (fault.TooMany a) (room MAX_DEPS s.counts.deps few)) (λ a b.
+    next (λ a b. passes_if_false (nat_le MAX_DEPS s.counts.deps) (fault.TooMany a) (room_for_next MAX_DEPS s.counts.deps few)) (λ a b.
     next (λ c d. refl) (λ c d. good at c)))
 
 moves_passes : (label : List ℕ) (first last : ℕ) (s : Seen) (kinds : List TokenKind) → BeginsItem s.state → s.counts.notes < MAX_NOTES → first < 2 ^ 32 → last < 2 ^ 32
@@ -431,7 +431,7 @@ moves_passes : (label : List ℕ) (first last : ℕ) (s : Seen) (kinds : List To
 unfolding step fault_in
 moves_passes label first last s kinds begins few first_fits last_fits good =
     label_passes s label (token.Moves ∷ token.Number first ∷ token.To ∷ token.Number last ∷ kinds) begins (λ at.
-    next (λ a b. passes (nat_le MAX_NOTES s.counts.notes) (fault.TooMany a) (room MAX_NOTES s.counts.notes few)) (λ a b.
+    next (λ a b. passes_if_false (nat_le MAX_NOTES s.counts.notes) (fault.TooMany a) (room_for_next MAX_NOTES s.counts.notes few)) (λ a b.
     next (λ c d. passes_u32 first (fault.Number c) first_fits) (λ c d.
     next (λ e f. refl) (λ e f.
     next (λ g h. passes_u32 last (fault.Number g) last_fits) (λ g h. good at)))))
@@ -441,7 +441,7 @@ adds_passes : (label : List ℕ) (from to : ℕ) (s : Seen) (kinds : List TokenK
 unfolding step fault_in
 adds_passes label from to s kinds begins few from_fits to_fits good =
     label_passes s label (token.Adds ∷ token.Number from ∷ token.To ∷ token.Number to ∷ kinds) begins (λ at.
-    next (λ a b. passes (nat_le MAX_NOTES s.counts.notes) (fault.TooMany a) (room MAX_NOTES s.counts.notes few)) (λ a b.
+    next (λ a b. passes_if_false (nat_le MAX_NOTES s.counts.notes) (fault.TooMany a) (room_for_next MAX_NOTES s.counts.notes few)) (λ a b.
     next (λ c d. passes_u32 from (fault.Number c) from_fits) (λ c d.
     next (λ e f. refl) (λ e f.
     next (λ g h. passes_u32 to (fault.Number g) to_fits) (λ g h. good at)))))

@@ -16,13 +16,13 @@ use Rattle.goal_parser.specs.Grammar.{Written, text_tokens, AreSaid, AreRight, A
 use Rattle.goal_parser.proofs.Seen.{seen_of, kinds_of}
 use Rattle.goal_parser.proofs.Passing.{Passes, passing_tokens, text_passes}
 use Rattle.goal_parser.proofs.ReaderLaws.{reads_plans}
-use Rattle.goal_parser.proofs.GrammarLaws.{say_plans}
-use Rattle.goal_parser.proofs.OneReading.{one_reading}
+use Rattle.goal_parser.proofs.GrammarLaws.{plans_are_said}
+use Rattle.goal_parser.proofs.OneReading.{text_tokens_injective}
 
 -- they have no fault
-no_fault : (text : List ℕ) (w : Written) → (lexed text).1 ≡ None → kinds_of (lexed text).0 ≡ text_tokens w → AreRight w → AreWithin w → text_fault text ≡ None
+written_has_no_fault : (text : List ℕ) (w : Written) → (lexed text).1 ≡ None → kinds_of (lexed text).0 ≡ text_tokens w → AreRight w → AreWithin w → text_fault text ≡ None
 unfolding text_fault
-no_fault text w whole spelled right within =
+written_has_no_fault text w whole spelled right within =
     let tokens : List Token = (lexed text).0 in
     let passed = passing_tokens [] tokens (subst (λ (ks : List TokenKind). Passes (seen_of []) ks) (sym spelled) (text_passes w right within)) in
     let top : state_of (reverse tokens) ≡ state.Top = subst (λ (l : List Token). state_of l ≡ state.Top) (append-nil (reverse tokens)) passed.1 in
@@ -31,8 +31,8 @@ no_fault text w whole spelled right within =
     ∙ ap (λ (s : State). last_fault None s (length text)) top
 
 -- plans that are said by the same sentences are the same
-said_alike : (w : Written) (ps qs : List Plan) → AreSaid w ps → AreSaid w qs → ps ≡ qs
-said_alike w ps qs one other =
+said_plans_unique : (w : Written) (ps qs : List Plan) → AreSaid w ps → AreSaid w qs → ps ≡ qs
+said_plans_unique w ps qs one other =
     let long = one.ranks in
     let also = other.ranks in
     ext_get_or empty_plan ps qs (omega arith) (λ i below. let inside : i < w.ranks = omega arith in one.each i inside ∙ sym (other.each i inside))
@@ -40,7 +40,7 @@ said_alike w ps qs one other =
 pub read_as_written : (text : List ℕ) (w : Written) (ps : List Plan) → (lexed text).1 ≡ None → kinds_of (lexed text).0 ≡ text_tokens w → AreRight w → AreWithin w
     → AreSaid w ps → reads text ≡ plans ps
 read_as_written text w ps whole spelled right within said =
-    let read : reads text ≡ plans (text_plans text) = reads_plans text (text_plans text) (no_fault text w whole spelled right within) refl in
-    let written : IsWritten (lexed text).0 (text_plans text) = say_plans text (text_plans text) read in
-    let same : written.written ≡ w = one_reading written.written w (sym written.spelled ∙ spelled) in
-    read ∙ ap plans (said_alike w (text_plans text) ps (subst (λ (v : Written). AreSaid v (text_plans text)) same written.said) said)
+    let read : reads text ≡ plans (text_plans text) = reads_plans text (text_plans text) (written_has_no_fault text w whole spelled right within) refl in
+    let written : IsWritten (lexed text).0 (text_plans text) = plans_are_said text (text_plans text) read in
+    let same : written.written ≡ w = text_tokens_injective written.written w (sym written.spelled ∙ spelled) in
+    read ∙ ap plans (said_plans_unique w (text_plans text) ps (subst (λ (v : Written). AreSaid v (text_plans text)) same written.said) said)

@@ -109,12 +109,12 @@ passes_upto n high f below = passes_number 0 n high f (omega arith) below
 pub passes_u32 : (n : ℕ) (f : TextFault) → n < 2 ^ 32 → option_or (fault_if (not (nat_le 0 n && nat_le n (2 ^ 32 - 1))) f) None ≡ None
 passes_u32 n f below = passes_upto n (2 ^ 32 - 1) f (omega arith)
 
-pub passes : (b : Bool) (f : TextFault) → b ≡ false → option_or (fault_if b f) None ≡ None
-passes b f h = ap (λ (c : Bool). option_or (fault_if c f) None) h
+pub passes_if_false : (b : Bool) (f : TextFault) → b ≡ false → option_or (fault_if b f) None ≡ None
+passes_if_false b f h = ap (λ (c : Bool). option_or (fault_if c f) None) h
 
 -- there is room for one more
-pub room : (limit n : ℕ) → n < limit → nat_le limit n ≡ false
-room limit n h = grind (arith, nat_tests)
+pub room_for_next : (limit n : ℕ) → n < limit → nat_le limit n ≡ false
+room_for_next limit n h = grind (arith, nat_tests)
 
 -- the number of a rank
 pub passes_rank : (n ranks : ℕ) (blocks : List ℕ) (at : ℕ) → n < ranks → n < 2 ^ 32 → list_any (nat_eq n) blocks ≡ false

@@ -91,8 +91,8 @@ module _ (x : List ℕ) (v : LabelInfo) where
       by true q h rest = subst (λ b. is_some (if b then first_by test es else Some e.1.at) ≡ true) (sym (ap test (exact e.0 q) ∙ fails)) refl
       by false q h rest = at_test (test e.0) (rest h)
 
-exact : (x q : List ℕ) → bytes_eq x q ≡ true → q ≡ x
-exact x q h = sym ((bytes_eq-Decides x q).0 h)
+bytes_eq_exact : (x q : List ℕ) → bytes_eq x q ≡ true → q ≡ x
+bytes_eq_exact x q h = sym ((bytes_eq-Decides x q).0 h)
 
 -- labels by their slots
 
@@ -144,15 +144,15 @@ lookup-put (e ∷ es) x v q = by (bytes_eq x e.0) refl (lookup-put es x v q)
     by : (b : Bool) → bytes_eq x e.0 ≡ b → lookup (bytes_eq q) (put es x v) ≡ cond (bytes_eq x q) (Some v) (lookup (bytes_eq q) es)
         → lookup (bytes_eq q) (if b then (e.0, v) ∷ es else e ∷ put es x v) ≡ cond (bytes_eq x q) (Some v) (cond (bytes_eq q e.0) (Some e.1) (lookup (bytes_eq q) es))
     by true h rest =
-        let same : bytes_eq q e.0 ≡ bytes_eq x q = ap (bytes_eq q) (exact x e.0 h) ∙ nat_list_eq_equiv.symm q x in
+        let same : bytes_eq q e.0 ≡ bytes_eq x q = ap (bytes_eq q) (bytes_eq_exact x e.0 h) ∙ nat_list_eq_equiv.symm q x in
         ap (λ b. cond b (Some v) (lookup (bytes_eq q) es)) same ∙ twice (bytes_eq x q) (lookup (bytes_eq q) es)
         ∙ ap (λ b. cond (bytes_eq x q) (Some v) (cond b (Some e.1) (lookup (bytes_eq q) es))) (sym same)
     by false h rest =
         ap (cond (bytes_eq q e.0) (Some e.1)) rest
-        ∙ after (bytes_eq x q) (bytes_eq q e.0) (lookup (bytes_eq q) es) (λ one two. false≢true (sym h ∙ ap (λ k. bytes_eq k e.0) (sym (exact x q one)) ∙ two))
+        ∙ after (bytes_eq x q) (bytes_eq q e.0) (lookup (bytes_eq q) es) (λ one two. false≢true (sym h ∙ ap (λ k. bytes_eq k e.0) (sym (bytes_eq_exact x q one)) ∙ two))
 
-pub updated : (es fs : Entries) (x : List ℕ) (v : LabelInfo) → fs ≡ put es x v → (q : List ℕ) → lookup (bytes_eq q) fs ≡ cond (bytes_eq x q) (Some v) (lookup (bytes_eq q) es)
-updated es fs x v same q = ap (lookup (bytes_eq q)) same ∙ lookup-put es x v q
+pub lookup_after_put : (es fs : Entries) (x : List ℕ) (v : LabelInfo) → fs ≡ put es x v → (q : List ℕ) → lookup (bytes_eq q) fs ≡ cond (bytes_eq x q) (Some v) (lookup (bytes_eq q) es)
+lookup_after_put es fs x v same q = ap (lookup (bytes_eq q)) same ∙ lookup-put es x v q
 
 -- what the slots know
 
@@ -174,11 +174,11 @@ Keeps-again es ds us u s there k = record { numbers = k.numbers; firsts = λ tes
     by : (test : List ℕ → Bool) (b : Bool) → test u.label ≡ b → first_by test es ≡ first_outside test us → first_by test es ≡ option_or (first_outside test us) (if b then None else Some u.at)
     by test true q h = h ∙ sym (option_or-none (first_outside test us))
     by test false q h =
-        let some : is_some (first_outside test us) ≡ true = subst (λ o. is_some o ≡ true) h (first_by-some u.label s test es s (exact u.label) there q) in
+        let some : is_some (first_outside test us) ≡ true = subst (λ o. is_some o ≡ true) h (first_by-some u.label s test es s (bytes_eq_exact u.label) there q) in
         h ∙ sym (option_or-some (first_outside test us) (Some u.at) some)
 
-none_outside : (ds : List Definition) (x : List ℕ) → is_defined ds x ≡ false → defined_as ds x ≡ None
-none_outside ds x h = by (defined_as ds x) h
+undefined_has_none : (ds : List Definition) (x : List ℕ) → is_defined ds x ≡ false → defined_as ds x ≡ None
+undefined_has_none ds x h = by (defined_as ds x) h
   where
     by : (o : Option ℕ) → is_some o ≡ false → o ≡ None
     by None h = refl
@@ -198,21 +198,21 @@ Keeps-used es fs ds us u none is_put updated k = record {
 }
   where
     by : (q : List ℕ) (b : Bool) → bytes_eq u.label q ≡ b → op_in (cond b (Some (record { op = None; at = u.at })) (lookup (bytes_eq q) es)) ≡ defined_as ds q
-    by q true h = subst (λ z. None ≡ defined_as ds z) (sym (exact u.label q h)) (sym (ap op_in none) ∙ k.numbers u.label)
+    by q true h = subst (λ z. None ≡ defined_as ds z) (sym (bytes_eq_exact u.label q h)) (sym (ap op_in none) ∙ k.numbers u.label)
     by q false h = k.numbers q
 
-defined_more : (ds : List Definition) (d : Definition) (q : List ℕ) → is_defined ds q ≡ true → is_defined (ds ++ d ∷ []) q ≡ true
-defined_more ds d q h = ap is_some (defined_as-append ds d q) ∙ by (defined_as ds q) (if bytes_eq q d.label then Some d.op else None) h
+stays_defined : (ds : List Definition) (d : Definition) (q : List ℕ) → is_defined ds q ≡ true → is_defined (ds ++ d ∷ []) q ≡ true
+stays_defined ds d q h = ap is_some (defined_as-append ds d q) ∙ by (defined_as ds q) (if bytes_eq q d.label then Some d.op else None) h
   where
     by : (a b : Option ℕ) → is_some a ≡ true → is_some (option_or a b) ≡ true
     by None b h = cc
     by (Some n) b h = refl
 
-own_label : (x : List ℕ) → bytes_eq x x ≡ true
-own_label x = nat_list_eq_equiv.refl x
+bytes_eq_itself : (x : List ℕ) → bytes_eq x x ≡ true
+bytes_eq_itself x = nat_list_eq_equiv.refl x
 
-defined_now : (ds : List Definition) (x : List ℕ) (op : ℕ) → is_defined (ds ++ record { label = x; op = op } ∷ []) x ≡ true
-defined_now ds x op = ap is_some (defined_as-append ds (record { label = x; op = op }) x) ∙ ap (λ b. is_some (option_or (defined_as ds x) (if b then Some op else None))) (own_label x) ∙ by (defined_as ds x)
+defined_with_newest : (ds : List Definition) (x : List ℕ) (op : ℕ) → is_defined (ds ++ record { label = x; op = op } ∷ []) x ≡ true
+defined_with_newest ds x op = ap is_some (defined_as-append ds (record { label = x; op = op }) x) ∙ ap (λ b. is_some (option_or (defined_as ds x) (if b then Some op else None))) (bytes_eq_itself x) ∙ by (defined_as ds x)
   where
     by : (a : Option ℕ) → is_some (option_or a (Some op)) ≡ true
     by None = refl
@@ -226,14 +226,14 @@ unfolding op_by
 Keeps-defined es fs ds us x op place is_put updated k fresh = record {
   numbers = λ q. ap op_in (updated q) ∙ by q (bytes_eq x q) refl ∙ sym (defined_as-append ds (record { label = x; op = op }) q);
   firsts = λ test all. ap (first_by test) is_put
-      ∙ firsts test (lookup (bytes_eq x) es) refl (all x (defined_now ds x op))
-      ∙ k.firsts test (λ q h. all q (defined_more ds (record { label = x; op = op }) q h));
+      ∙ firsts test (lookup (bytes_eq x) es) refl (all x (defined_with_newest ds x op))
+      ∙ k.firsts test (λ q h. all q (stays_defined ds (record { label = x; op = op }) q h));
 }
   where
     by : (q : List ℕ) (b : Bool) → bytes_eq x q ≡ b → op_in (cond b (Some (record { op = Some op; at = place })) (lookup (bytes_eq q) es)) ≡ option_or (defined_as ds q) (if bytes_eq q x then Some op else None)
     by q true h =
-        let same = exact x q h in
-        sym (ap (λ o. option_or o (if bytes_eq q x then Some op else None)) (ap (defined_as ds) same ∙ none_outside ds x fresh)
+        let same = bytes_eq_exact x q h in
+        sym (ap (λ o. option_or o (if bytes_eq q x then Some op else None)) (ap (defined_as ds) same ∙ undefined_has_none ds x fresh)
         ∙ ap (λ b. if b then Some op else None) (nat_list_eq_equiv.symm q x ∙ h))
     by q false h =
         k.numbers q ∙ sym (ap (λ b. option_or (defined_as ds q) (if b then Some op else None)) (nat_list_eq_equiv.symm q x ∙ h) ∙ option_or-none (defined_as ds q))
@@ -245,7 +245,7 @@ Keeps-defined es fs ds us x op place is_put updated k fresh = record {
         ∙ ap (λ b. option_or (first_by test es) (if b then None else Some place)) passes
         ∙ option_or-none (first_by test es)
     firsts test (Some s) h passes =
-        first_by-present x (record { op = Some op; at = place }) test es s (exact x) h passes
+        first_by-present x (record { op = Some op; at = place }) test es s (bytes_eq_exact x) h passes
 
 -- what was known of a label that is defined now
 pub defined_before : (es : Entries) (ds : List Definition) (us : List Mention) (x : List ℕ) (o : Option LabelInfo) → Keeps es ds us → o ≡ lookup (bytes_eq x) es → is_defined ds x ≡ is_some (op_in o)
@@ -276,9 +276,9 @@ first_by-more test es i e before at passes =
     ∙ ap (λ o. option_or o None) before
 
 -- the slot of an entry says whether its label is defined
-pub slot_tells : (es : Entries) (ds : List Definition) (us : List Mention) (k : List ℕ) (s : LabelInfo) → Keeps es ds us → lookup (bytes_eq k) es ≡ Some s → is_defined ds k ≡ is_some s.op
+pub slot_says_defined : (es : Entries) (ds : List Definition) (us : List Mention) (k : List ℕ) (s : LabelInfo) → Keeps es ds us → lookup (bytes_eq k) es ≡ Some s → is_defined ds k ≡ is_some s.op
 unfolding op_by
-slot_tells es ds us k s keeps h = ap is_some (sym (keeps.numbers k) ∙ ap op_in h)
+slot_says_defined es ds us k s keeps h = ap is_some (sym (keeps.numbers k) ∙ ap op_in h)
 
 pub IsFrontDefined : Entries → ℕ → Type 0
 IsFrontDefined es i = (ds : List Definition) (us : List Mention) → Keeps es ds us → first_by (is_defined ds) (take i es) ≡ None
@@ -290,12 +290,12 @@ front_none es ds us k = refl
 pub front_more : (es : Entries) (i : ℕ) (k : List ℕ) (s : LabelInfo) → IsFrontDefined es i → slice_get es i ≡ Some (k, s) → lookup (bytes_eq k) es ≡ Some s → is_some s.op ≡ true → IsFrontDefined es (i + 1)
 unfolding IsFrontDefined
 front_more es i k s front at found defined =
-    λ ds us keeps. first_by-more (is_defined ds) es i (k, s) (front ds us keeps) at (slot_tells es ds us k s keeps found ∙ defined)
+    λ ds us keeps. first_by-more (is_defined ds) es i (k, s) (front ds us keeps) at (slot_says_defined es ds us k s keeps found ∙ defined)
 
 pub front_found : (es : Entries) (i : ℕ) (k : List ℕ) (s : LabelInfo) → IsFrontDefined es i → slice_get es i ≡ Some (k, s) → lookup (bytes_eq k) es ≡ Some s → is_some s.op ≡ false → (ds : List Definition) (us : List Mention) → Keeps es ds us → Some s.at ≡ first_unknown ds us
 unfolding IsFrontDefined
 front_found es i k s front at found undefined ds us keeps =
-    sym (first_by-found (is_defined ds) es i (k, s) (front ds us keeps) at (slot_tells es ds us k s keeps found ∙ undefined))
+    sym (first_by-found (is_defined ds) es i (k, s) (front ds us keeps) at (slot_says_defined es ds us k s keeps found ∙ undefined))
     ∙ keeps.firsts (is_defined ds) (λ q h. h)
 
 pub front_all : (es : Entries) (i : ℕ) → IsFrontDefined es i → length es ≤ i → (ds : List Definition) (us : List Mention) → Keeps es ds us → None ≡ first_unknown ds us

@@ -2,7 +2,7 @@ use Rattle.std.proofs.Common.{◌≡◌, ◌∙◌, sym, ap, Bool, false, true, 
 use Rattle.goal_parser.specs.Items.{is_defined}
 use Rattle.goal_parser.specs.Faults.{fault_if}
 use Rattle.goal_parser.specs.declared.faults.TextFault.TheVariants.{Repeat}
-use Rattle.goal_parser.proofs.SlotLaws.{Keeps-defined, Grows-put, defined_before, updated}
+use Rattle.goal_parser.proofs.SlotLaws.{Keeps-defined, Grows-put, defined_before, lookup_after_put}
 use Rattle.goal_parser.proofs.labels.Labels.define.Goals as goal
 
 pub returns-in-None-clause-ok : goal.returns-in-None-clause-ok
@@ -13,7 +13,7 @@ returns-in-None-clause-ok c = λ ds us keeps.
     let before = c.in_ok-before.before in
     let fresh : is_defined ds label ≡ false = defined_before es ds us label before keeps (search (rules)) ∙ ap (λ (o : Option ℕ). is_some o) (sym c.op_in.ensures ∙ c.in-None.is) in (
       ap (λ (b : Bool). fault_if b (Repeat at)) fresh,
-      Keeps-defined es c.insert.new.self ds us label c.args.op at c.in_ok-before.ensures.entries (updated es c.insert.new.self label (record { op = Some c.args.op; at = at }) c.in_ok-before.ensures.entries) keeps fresh,
+      Keeps-defined es c.insert.new.self ds us label c.args.op at c.in_ok-before.ensures.entries (lookup_after_put es c.insert.new.self label (record { op = Some c.args.op; at = at }) c.in_ok-before.ensures.entries) keeps fresh,
     )
 
 pub returns-in-None-clause-grows : goal.returns-in-None-clause-grows
