@@ -1,4 +1,4 @@
-use Rattle.std.proofs.Common.{◌≡◌, ◌*◌, ◌≤◌, All, take}
+use Rattle.std.proofs.Common.{◌+◌, ◌≡◌, ◌*◌, ◌≤◌, All, take}
 use Rattle.std.specs.List.{sum_by}
 use Rattle.goal_limits.specs.Limits.{slot_limit}
 use Rattle.goal_blocks.specs.Certification.{NamesLowSlots, moved_count}
