@@ -1,6 +1,7 @@
 -- Labels with their infos, in the order of their first appearance.
 use Rattle.std.specs.Prelude.{◌≡◌, ℕ, ◌+◌, ◌<◌, ◌≤◌, Bool, false, List, [], ◌∷◌, Some, length, take, drop, map, slice_get, bytes_eq, if◌then◌else◌}
 use Rattle.std.specs.Option.{option_map_or}
+use Rattle.goal_limits.specs.Limits.{run_limit}
 use Rattle.goal_labels.specs.declared.label_map.LabelInfo.{LabelInfo}
 use Rattle.goal_labels.specs.declared.label_map.LabelEntry.{LabelEntry}
 
@@ -42,7 +43,7 @@ entries_of bytes entries = map (λ e. (label_of bytes e, e.info)) entries
 pub record IsHeld (bytes : List ℕ) (entry : LabelEntry) : Type 0 where
   pub within : entry.from + entry.len ≤ length bytes
   pub some : 0 < entry.len
-  pub short : entry.len ≤ 64
+  pub short : entry.len ≤ run_limit
 
 abbrev pub AreHeld : List ℕ → List LabelEntry → Type 0
 AreHeld bytes entries = (i : ℕ) (entry : LabelEntry) → slice_get entries i ≡ Some entry → IsHeld bytes entry

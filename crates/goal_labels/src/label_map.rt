@@ -1,6 +1,7 @@
 //! A map from labels to what is known of them, in the order of their first appearance.
 ghost use Rattle.std.specs.Prelude.{◌≡◌, ℕ, ◌^◌, ◌<◌, ◌≤◌, true, List, [], ◌∷◌, ◌++◌, Some, None, length, slice_get, bytes_eq, IfSome, IfNone, IfOk, OnOk};
 ghost use Rattle.std.specs.Map.{lookup};
+ghost use Rattle.goal_limits.specs.Limits.{run_limit};
 ghost use Rattle.goal_labels.specs.Entries.{Entries, put, is_at, label_of, entries_of, IsAt, IsAbsent, IsHeld, AreUnique, AreHeld};
 ghost use Rattle.goal_labels.specs.Numbers.{number_of, AreFew};
 ghost use Rattle.goal_labels.specs.Ordered.{label_cmp, AreAscending, AreBefore};
@@ -213,7 +214,7 @@ fn find(
     label: &[u8],
 ) -> Option<usize>
     requires some { 0 < length label.now }
-    requires short { length label.now ≤ 64 }
+    requires short { length label.now ≤ run_limit }
     requires held { AreHeld bytes.now entries.now }
     requires map { IsMap (entries_of bytes.now entries.now) first ascending numbers.now }
     ensures found { IfSome result (IsAt (entries_of bytes.now entries.now) label.now) }
@@ -237,7 +238,7 @@ fn hold(
     info: LabelInfo,
 ) -> Result<(), AllocError>
     requires some { 0 < length label.now }
-    requires short { length label.now ≤ 64 }
+    requires short { length label.now ≤ run_limit }
     requires held { AreHeld bytes.old.items entries.old.items }
     ensures entries { OnOk result (entries_of bytes.new.items entries.new.items ≡ entries_of bytes.old.items entries.old.items ++ (label.now, info) ∷ []) }
     ensures held { OnOk result (AreHeld bytes.new.items entries.new.items) }
@@ -301,7 +302,7 @@ fn append(
     after_all: bool,
 ) -> Result<(), AllocError>
     requires some { 0 < length label.now }
-    requires short { length label.now ≤ 64 }
+    requires short { length label.now ≤ run_limit }
     requires held { AreHeld bytes.old.items entries.old.items }
     requires map { IsMap (entries_of bytes.old.items entries.old.items) first.old ascending.old numbers.old }
     requires absent { IsAbsent (entries_of bytes.old.items entries.old.items) label.now }
@@ -391,7 +392,7 @@ impl LabelMap {
     #[inline(never)]
     fn find(&self, label: &[u8]) -> Option<usize>
         requires some { 0 < length label.now }
-        requires short { length label.now ≤ 64 }
+        requires short { length label.now ≤ run_limit }
         ensures found { IfSome result (IsAt self.now label.now) }
         ensures absent { IfNone result (IsAbsent self.now label.now) }
         ensures unique { AreUnique self.now }
@@ -437,7 +438,7 @@ impl LabelMap {
     #[inline(always)]
     fn add(&mut self, label: &[u8], info: LabelInfo, after_all: bool) -> Result<(), AllocError>
         requires some { 0 < length label.now }
-        requires short { length label.now ≤ 64 }
+        requires short { length label.now ≤ run_limit }
         requires absent { IsAbsent self.old label.now }
         requires before { after_all ≡ true → AreBefore self.old 0 label.now }
         ensures { OnOk result (self.new ≡ self.old ++ (label.now, info) ∷ []) }
@@ -468,7 +469,7 @@ impl LabelMap {
     /// map may lose its labels.
     pub fn insert(&mut self, label: &[u8], info: LabelInfo) -> Result<Option<LabelInfo>, AllocError>
         requires some { 0 < length label.now }
-        requires short { length label.now ≤ 64 }
+        requires short { length label.now ≤ run_limit }
         ensures old { IfOk result (λ old. old ≡ lookup (bytes_eq label.now) self.old) }
         ensures entries { OnOk result (self.new ≡ put self.old label.now info) }
     {
@@ -493,7 +494,7 @@ impl LabelMap {
     #[inline(never)]
     fn number_anywhere(&mut self, label: &[u8], info: LabelInfo) -> Result<usize, AllocError>
         requires some { 0 < length label.now }
-        requires short { length label.now ≤ 64 }
+        requires short { length label.now ≤ run_limit }
         ensures old { OnOk result ((there : LabelInfo) → lookup (bytes_eq label.now) self.old ≡ Some there → self.new ≡ self.old) }
         ensures new { OnOk result (lookup (bytes_eq label.now) self.old ≡ None → self.new ≡ put self.old label.now info) }
         ensures number { IfOk result (IsAt self.new label.now) }
@@ -511,7 +512,7 @@ impl LabelMap {
     /// lose its labels.
     pub fn number(&mut self, label: &[u8], info: LabelInfo) -> Result<usize, AllocError>
         requires some { 0 < length label.now }
-        requires short { length label.now ≤ 64 }
+        requires short { length label.now ≤ run_limit }
         ensures old { OnOk result ((there : LabelInfo) → lookup (bytes_eq label.now) self.old ≡ Some there → self.new ≡ self.old) }
         ensures new { OnOk result (lookup (bytes_eq label.now) self.old ≡ None → self.new ≡ put self.old label.now info) }
         ensures number { IfOk result (IsAt self.new label.now) }

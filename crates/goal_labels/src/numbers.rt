@@ -1,5 +1,6 @@
 //! Numbers of labels.
 ghost use Rattle.std.specs.Prelude.{◌≡◌, ℕ, ◌<◌, ◌≤◌, List, Some, None, length, bytes_eq, if◌then◌else◌, OnOk};
+ghost use Rattle.goal_limits.specs.Limits.{run_limit};
 ghost use Rattle.goal_labels.specs.Numbers.{number_of, AreFew};
 
 use crate::sorted::Sorted;
@@ -45,7 +46,7 @@ impl LabelNumbers {
     /// Returns the number of a label of 1 to 64 bytes, if it has one.
     pub fn get(&self, label: &[u8]) -> Option<usize>
         requires some { 0 < length label.now }
-        requires short { length label.now ≤ 64 }
+        requires short { length label.now ≤ run_limit }
         ensures { result ≡ number_of self.now label.now }
     {
         if let Some(number) = self.hashed.get(&Label::of(label)) {
@@ -60,7 +61,7 @@ impl LabelNumbers {
     /// Gives a number to a label of 1 to 64 bytes that has none. `Err` means out of memory.
     pub fn insert(&mut self, label: &[u8], number: usize) -> Result<(), AllocError>
         requires some { 0 < length label.now }
-        requires short { length label.now ≤ 64 }
+        requires short { length label.now ≤ run_limit }
         requires absent { number_of self.old label.now ≡ None }
         ensures numbered { OnOk result ((other : List ℕ) → number_of self.new other ≡ if bytes_eq label.now other then Some number else number_of self.old other) }
         ensures few { OnOk result (AreFew self.old → AreFew self.new) }

@@ -3,6 +3,7 @@ ghost use Rattle.std.specs.Prelude.{◌≡◌, ◌<◌, ◌≤◌, length, nat_e
 ghost use Rattle.std.specs.Ordering.{nat_cmp};
 ghost use Rattle.std.specs.Cmp.Lexicographic.{pointwise, slice_cmp, nat_list_eq_equiv, nat_list_cmp_total, texts_ties, texts_po};
 ghost use Rattle.std.specs.Cmp.{partial_equiv_from_equiv};
+ghost use Rattle.goal_limits.specs.Limits.{run_limit};
 
 use goal_lexer::Label;
 use std::cmp::Ordering;
@@ -28,7 +29,7 @@ impl Sorted {
     /// Returns the label of these 1 to 64 bytes, as one that is compared by its bytes.
     pub fn of(label: &[u8]) -> Sorted
         requires some { 0 < length label.now }
-        requires short { length label.now ≤ 64 }
+        requires short { length label.now ≤ run_limit }
         ensures { result ≡ label.now }
     {
         Sorted {

@@ -1,10 +1,7 @@
 -- Classes of bytes.
 use Rattle.std.specs.Prelude.{ℕ, Bool, ◌||◌, ◌==◌}
 use Rattle.std.specs.Char.{is_ascii_alphabetic, is_ascii_digit}
-
--- a space, a tab, a carriage return or a line feed
-abbrev pub is_blank : ℕ → Bool
-is_blank c = c == 32 || c == 9 || c == 13 || c == 10
+pub use Rattle.goal_limits.specs.Bytes.{is_blank}
 
 -- a letter or `_`
 abbrev pub begins_word : ℕ → Bool

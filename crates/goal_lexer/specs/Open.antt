@@ -1,5 +1,6 @@
 -- The text that a lexer has taken, as whole pieces followed by what is open.
 use Rattle.std.specs.Prelude.{◌≡◌, ℕ, ◌≤◌, ◌⊎◌, Bool, true, false, not, List, [], ◌∷◌, ◌++◌, length, ◌==◌}
+use Rattle.goal_limits.specs.Limits.{run_limit}
 use Rattle.goal_lexer.specs.declared.mode.Form.{Form}
 use Rattle.goal_lexer.specs.declared.mode.Mode.{Mode}
 use Rattle.goal_lexer.specs.declared.mode.Mode.TheVariants.{Between, Run, Slash, LineComment, BlockComment, Failed}
@@ -18,7 +19,7 @@ ends_in_star (c ∷ d ∷ cs) = ends_in_star (d ∷ cs)
 -- the beginning of a line comment; or that of a block comment without `*/`, which may end in `*`.
 abbrev pub IsOpen : Mode → ℕ → List ℕ → Type 0
 IsOpen Between place bytes = bytes ≡ []
-IsOpen (Run start kept form) place bytes = (start ≡ place) × (kept ≡ bytes) × HasForm form bytes × (length bytes ≤ 64)
+IsOpen (Run start kept form) place bytes = (start ≡ place) × (kept ≡ bytes) × HasForm form bytes × (length bytes ≤ run_limit)
 IsOpen (Slash start) place bytes = (start ≡ place) × (bytes ≡ slash ∷ [])
 IsOpen (LineComment start) place bytes =
     (start ≡ place) × ((inside : List ℕ) × (bytes ≡ slash ∷ slash ∷ inside) × Each (λ c. not (c == line_feed)) inside)

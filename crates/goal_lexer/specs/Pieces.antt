@@ -1,5 +1,6 @@
 -- A text cut into pieces: tokens, blanks and comments, one after another.
 use Rattle.std.specs.Prelude.{◌≡◌, ◌≢◌, ℕ, ◌+◌, ◌≤◌, Bool, true, false, ◌&&◌, ◌||◌, not, List, [], ◌∷◌, ◌++◌, length, Option, Some, None, IsSome, if◌then◌else◌, ◌==◌, ⊤}
+use Rattle.goal_limits.specs.Limits.{run_limit}
 use Rattle.goal_lexer.specs.declared.tokens.Token.{Token}
 use Rattle.goal_lexer.specs.declared.tokens.TokenKind.{TokenKind}
 use Rattle.goal_lexer.specs.declared.tokens.TokenKind.TheVariants.{Open, Close, Colon}
@@ -71,7 +72,7 @@ abbrev pub IsRight : Piece → List ℕ → Type 0
 IsRight (blank c) after = is_blank c ≡ true
 IsRight (line_comment inside) after = Each (λ c. not (c == line_feed)) inside × EndsLine after
 IsRight (block_comment inside) after = has_close inside ≡ false
-IsRight (run form bytes) after = HasForm form bytes × (length bytes ≤ 64) × (begins_run after ≡ false)
+IsRight (run form bytes) after = HasForm form bytes × (length bytes ≤ run_limit) × (begins_run after ≡ false)
 IsRight (sign c) after = IsSome (sign_kind c)
 
 -- the bytes of the pieces, one after another

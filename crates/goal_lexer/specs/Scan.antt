@@ -1,5 +1,6 @@
 -- The tokens of a text, by one pass over its bytes.
 use Rattle.std.specs.Prelude.{ℕ, ◌+◌, false, ◌&&◌, List, [], ◌∷◌, ◌++◌, length, Option, Some, None, if◌then◌else◌, nat_lt, ◌==◌}
+use Rattle.goal_limits.specs.Limits.{run_limit}
 use Rattle.goal_lexer.specs.declared.tokens.Token.{Token}
 use Rattle.goal_lexer.specs.declared.tokens.TokenKind.{TokenKind}
 use Rattle.goal_lexer.specs.declared.tokens.TokenKind.TheVariants.{Open, Close, Colon}
@@ -44,7 +45,7 @@ form_with Sized c = None
 -- a run of this form, or a fault at its first byte if it has no form or more than 64 bytes
 abbrev pub run_or_fault : ℕ → List ℕ → Option Form → Mode
 run_or_fault start bytes None = Failed start
-run_or_fault start bytes (Some form) = if nat_lt 64 (length bytes) then Failed start else Run start bytes form
+run_or_fault start bytes (Some form) = if nat_lt run_limit (length bytes) then Failed start else Run start bytes form
 
 -- the tokens that end at this place, if no run byte follows
 abbrev pub closing : ℕ → Mode → List Token

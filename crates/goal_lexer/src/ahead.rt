@@ -3,14 +3,15 @@
 //! These functions look at tokens without taking them: a caller that finds what it expects takes all of it by one
 //! [`crate::Lexer::go_on`]. They may miss a token that is there; [`crate::Lexer::next_token_into`] takes any token.
 ghost use Rattle.std.specs.Prelude.{◌≡◌, ℕ, ◌+◌, ◌-◌, ◌<◌, ◌≤◌, true, false, [], ◌∷◌, length, take, drop, bytes_eq};
+ghost use Rattle.goal_limits.specs.Limits.{run_limit};
 ghost use Rattle.goal_lexer.specs.Ahead.{AreBlanks, is_word, IsAhead};
 ghost use Rattle.goal_lexer.specs.Words.{word_kind};
 
-use crate::bytes::{ends_reserved, is_blank, is_digit, is_run_byte};
-use crate::labels::MOST_RUN_BYTES;
+use crate::bytes::{ends_reserved, is_digit, is_run_byte};
 use crate::numbers::{Leading, leading_digits};
 use crate::stretches::{count_blanks, count_run};
 use crate::tokens::TokenKind;
+use goal_limits::{MAX_RUN_BYTES, is_blank};
 
 /// A number or a size at the front of a piece.
 #[derive(Clone, Copy, Debug, PartialEq, Eq)]
@@ -86,7 +87,7 @@ fn begins_with(rest: &[u8], word: &[u8]) -> bool
 pub fn word_ahead(rest: &[u8], blanks: usize, word: &[u8]) -> usize
     requires blanks { AreBlanks rest.now blanks }
     requires word { is_word word.now ≡ true }
-    requires short { length word.now ≤ 64 }
+    requires short { length word.now ≤ run_limit }
     ensures within { result ≤ length rest.now }
     ensures ahead { 0 < result → (place : ℕ) → IsAhead place rest.now result true (record { kind = word_kind word.now; start = place + blanks; end = place + result } ∷ []) }
 {
@@ -256,7 +257,7 @@ pub fn label_ahead(rest: &[u8], blanks: usize) -> usize
 {
     let run = &rest[blanks..];
     let count = count_run(run);
-    if count == 0 || count >= run.len() || count > MOST_RUN_BYTES {
+    if count == 0 || count >= run.len() || count > MAX_RUN_BYTES {
         return 0;
     }
     // a run byte above `9` is a letter or `_`

@@ -1,6 +1,6 @@
 //! Classes of bytes.
 ghost use Rattle.std.specs.Prelude.{◌≡◌};
-ghost use Rattle.goal_lexer.specs.Bytes.{is_blank, begins_word, is_digit, is_run_byte};
+ghost use Rattle.goal_lexer.specs.Bytes.{begins_word, is_digit, is_run_byte};
 ghost use Rattle.goal_lexer.specs.Reserved.{ends_reserved};
 
 /// The run bytes among all bytes: an `x` at each.
@@ -13,13 +13,6 @@ const RUN_BYTES: [u8; 256] = *b"\
 ................................\
 ................................\
 ................................";
-
-/// Returns whether the byte is a space, a tab, a carriage return or a line feed.
-pub(crate) fn is_blank(byte: u8) -> bool
-    ensures { result ≡ is_blank byte }
-{
-    byte == b' ' || byte == b'\t' || byte == b'\r' || byte == b'\n'
-}
 
 /// Returns whether the byte is a letter or `_`.
 pub(crate) fn begins_word(byte: u8) -> bool

@@ -2,30 +2,30 @@
 ghost use Rattle.std.specs.Prelude.{◌≡◌, ℕ, ◌<◌, ◌≤◌, List, [], ◌∷◌, ◌++◌, length, nat_eq};
 ghost use Rattle.std.specs.Cmp.Lexicographic.{pointwise, nat_list_eq_equiv};
 ghost use Rattle.std.specs.Cmp.{partial_equiv_from_equiv};
+ghost use Rattle.goal_limits.specs.Limits.{run_limit};
 ghost use Rattle.goal_lexer.specs.Hashing.{one_write, one_write_alike};
 
+use goal_limits::MAX_RUN_BYTES;
 use std::hash::{Hash, Hasher};
 use std::marker::Model;
-
-/// The most bytes of a run, which is a label, a reserved word, a number or a size.
-pub const MOST_RUN_BYTES: usize = 64;
 
 /// A label of 1 to 64 bytes, stored in place. Contracts see the list of its bytes.
 #[derive(Clone, Copy, Debug)]
 pub struct Label {
-    bytes: [u8; MOST_RUN_BYTES],
+    bytes: [u8; MAX_RUN_BYTES],
     len: usize,
 }
 
 impl Model for Label {
     ghost use Rattle.std.specs.Prelude.{ℕ, List, ◌≡◌, ◌<◌, ◌≤◌, take, length};
+    ghost use Rattle.goal_limits.specs.Limits.{run_limit};
     ghost use Rattle.goal_lexer.specs.Padding.{padded, length_taken};
 
     ghost Value = { List ℕ };
 
     ghost view = { λ l. take l.len l.bytes };
 
-    ghost invariant = { λ l. (0 < l.len) × (l.len ≤ 64) × (padded (take l.len l.bytes) ≡ l.bytes) };
+    ghost invariant = { λ l. (0 < l.len) × (l.len ≤ run_limit) × (padded (take l.len l.bytes) ≡ l.bytes) };
 
     ghost inverse = { λ bs. record { bytes = padded bs; len = length bs } };
 
@@ -37,7 +37,7 @@ impl Label {
     pub(crate) fn of_byte(byte: u8) -> Label
         ensures { result ≡ byte ∷ [] }
     {
-        let mut bytes = [0; MOST_RUN_BYTES];
+        let mut bytes = [0; MAX_RUN_BYTES];
         bytes[0] = byte;
         Label { bytes, len: 1 }
     }
@@ -45,7 +45,7 @@ impl Label {
     /// Creates the label of these 1 to 64 bytes.
     pub fn of(text: &[u8]) -> Label
         requires some { 0 < length text.now }
-        requires most { length text.now ≤ 64 }
+        requires most { length text.now ≤ run_limit }
         ensures { result ≡ text.now }
     {
         let mut label = Label::of_byte(0);
@@ -57,17 +57,17 @@ impl Label {
     #[inline(always)]
     pub fn write(&mut self, text: &[u8])
         requires some { 0 < length text.now }
-        requires most { length text.now ≤ 64 }
+        requires most { length text.now ≤ run_limit }
         ensures { self.new ≡ text.now }
     {
-        self.bytes = [0; MOST_RUN_BYTES];
+        self.bytes = [0; MAX_RUN_BYTES];
         self.bytes[..text.len()].copy_from_slice(text);
         self.len = text.len();
     }
 
     /// Appends a byte.
     pub(crate) fn push(&mut self, byte: u8)
-        requires { length self.old < 64 }
+        requires { length self.old < run_limit }
         ensures { self.new ≡ self.old ++ byte ∷ [] }
     {
         self.bytes[self.len] = byte;
@@ -78,7 +78,7 @@ impl Label {
     pub(crate) fn len(&self) -> usize
         ensures value { result ≡ length self.now }
         ensures above { 0 < result }
-        ensures most { result ≤ 64 }
+        ensures most { result ≤ run_limit }
     {
         self.len
     }
@@ -87,7 +87,7 @@ impl Label {
     pub fn as_bytes(&self) -> &[u8]
         ensures bytes { result.now ≡ self.now }
         ensures some { 0 < length result.now }
-        ensures most { length result.now ≤ 64 }
+        ensures most { length result.now ≤ run_limit }
     {
         &self.bytes[..self.len]
     }

@@ -25,7 +25,7 @@ pub use ahead::{
     Amount, begin_alike, begins_with_colon, blanks_ahead, label_ahead, long_number_ahead,
     long_size_ahead, number_ahead, size_ahead, spaced_word_ahead, word_ahead,
 };
-pub use labels::{Label, MOST_RUN_BYTES};
+pub use labels::Label;
 pub use laws::{laws_of_lexers, laws_of_tokens};
 pub use lexing::Lexer;
 pub use tokens::{LexFault, Lexed, Taken, Token, TokenKind};

@@ -6,13 +6,14 @@ ghost use Rattle.goal_lexer.specs.Steps.{StepsTo, StopsAt};
 ghost use Rattle.goal_lexer.specs.Scan.{form_with};
 ghost use Rattle.goal_lexer.specs.Pieces.{sign_kind};
 
-use crate::bytes::{begins_word, is_blank, is_digit, is_run_byte};
-use crate::labels::{Label, MOST_RUN_BYTES};
+use crate::bytes::{begins_word, is_digit, is_run_byte};
+use crate::labels::Label;
 use crate::mode::{Form, Mode};
 use crate::stretches::{count_blanks, take_stretch};
 use crate::tokens::{Token, TokenKind};
 use crate::whole::whole_run;
 use crate::words::run_kind;
+use goal_limits::{MAX_RUN_BYTES, is_blank};
 
 /// What one byte ended.
 pub(crate) enum ByteEnd {
@@ -119,7 +120,7 @@ fn take_in_run(mode: &mut Mode, place: u64, byte: u8, token: &mut Token) -> Byte
         return ByteEnd::Run;
     }
     match form_with(*form, byte) {
-        Some(longer) if bytes.len() < MOST_RUN_BYTES => {
+        Some(longer) if bytes.len() < MAX_RUN_BYTES => {
             bytes.push(byte);
             *form = longer;
             ByteEnd::Nothing

@@ -1,13 +1,15 @@
 //! Stretches of bytes that end no token.
 ghost use Rattle.std.specs.Prelude.{◌≡◌, ℕ, ◌+◌, ◌<◌, ◌≤◌, ◌++◌, [], true, false, length, take, slice_index, ◌==◌};
 ghost use Rattle.std.specs.List.{list_all};
+ghost use Rattle.goal_limits.specs.Limits.{run_limit};
 ghost use Rattle.goal_lexer.specs.Bytes.{is_blank, is_digit, is_run_byte, star, line_feed};
 ghost use Rattle.goal_lexer.specs.Scan.{scan};
 ghost use Rattle.goal_lexer.specs.Sound.{IsSound};
 
-use crate::bytes::{is_blank, is_digit, is_run_byte};
-use crate::labels::{Label, MOST_RUN_BYTES};
+use crate::bytes::{is_digit, is_run_byte};
+use crate::labels::Label;
 use crate::mode::{Form, Mode};
+use goal_limits::{MAX_RUN_BYTES, is_blank};
 
 /// Returns a number of blanks at the front.
 pub(crate) fn count_blanks(bytes: &[u8]) -> usize
@@ -53,10 +55,10 @@ fn extend_word(word: &mut Label, bytes: &[u8]) -> usize
     ensures within { result ≤ length bytes.now }
     ensures each { (k : ℕ) → k < result → is_run_byte (slice_index bytes.now k) ≡ true }
     ensures word { word.new ≡ word.old ++ take result bytes.now }
-    ensures most { 0 < result → length word.new ≤ 64 }
+    ensures most { 0 < result → length word.new ≤ run_limit }
 {
     let mut taken = 0;
-    while taken < bytes.len() && word.len() < MOST_RUN_BYTES && is_run_byte(bytes[taken]) {
+    while taken < bytes.len() && word.len() < MAX_RUN_BYTES && is_run_byte(bytes[taken]) {
         word.push(bytes[taken]);
         taken += 1;
     }
@@ -68,10 +70,10 @@ fn extend_digits(digits: &mut Label, bytes: &[u8]) -> usize
     ensures within { result ≤ length bytes.now }
     ensures each { (k : ℕ) → k < result → is_digit (slice_index bytes.now k) ≡ true }
     ensures digits { digits.new ≡ digits.old ++ take result bytes.now }
-    ensures most { 0 < result → length digits.new ≤ 64 }
+    ensures most { 0 < result → length digits.new ≤ run_limit }
 {
     let mut taken = 0;
-    while taken < bytes.len() && digits.len() < MOST_RUN_BYTES && is_digit(bytes[taken]) {
+    while taken < bytes.len() && digits.len() < MAX_RUN_BYTES && is_digit(bytes[taken]) {
         digits.push(bytes[taken]);
         taken += 1;
     }

@@ -3,11 +3,11 @@ ghost use Rattle.std.specs.Prelude.{◌+◌, ◌<◌, ◌^◌, length, IfSome};
 ghost use Rattle.goal_lexer.specs.Whole.{IsWholeRun};
 
 use crate::bytes::{begins_word, is_digit, is_run_byte};
-use crate::labels::MOST_RUN_BYTES;
 use crate::numbers::{Leading, leading_digits};
 use crate::stretches::count_run;
 use crate::tokens::{Token, TokenKind};
 use crate::words::word_kind;
+use goal_limits::MAX_RUN_BYTES;
 
 /// Returns the length of the word at the front of a piece, if it ends inside the piece, and writes its token.
 #[inline(always)]
@@ -16,7 +16,7 @@ fn whole_word(place: u64, piece: &[u8], token: &mut Token) -> Option<usize>
     ensures { IfSome result (λ count. IsWholeRun place piece.now count token.new) }
 {
     let count = count_run(piece);
-    if count == 0 || count == piece.len() || count > MOST_RUN_BYTES {
+    if count == 0 || count == piece.len() || count > MAX_RUN_BYTES {
         return None;
     }
     if !begins_word(piece[0]) {

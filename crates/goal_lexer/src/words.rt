@@ -1,5 +1,6 @@
 //! The token of a run.
 ghost use Rattle.std.specs.Prelude.{◌≡◌, ◌<◌, ◌≤◌, length, bytes_eq};
+ghost use Rattle.goal_limits.specs.Limits.{run_limit};
 ghost use Rattle.goal_lexer.specs.Words.{word_kind, kind_among, reserved_words};
 ghost use Rattle.goal_lexer.specs.Reserved.{words_of_length};
 ghost use Rattle.goal_lexer.specs.Runs.{run_kind};
@@ -165,7 +166,7 @@ fn kind_of_nine(word: &[u8], kind: &mut TokenKind)
 #[inline(always)]
 pub(crate) fn word_kind(word: &[u8], kind: &mut TokenKind)
     requires some { 0 < length word.now }
-    requires most { length word.now ≤ 64 }
+    requires most { length word.now ≤ run_limit }
     ensures { kind.new ≡ word_kind word.now }
 {
     match word.len() {
@@ -182,7 +183,7 @@ pub(crate) fn word_kind(word: &[u8], kind: &mut TokenKind)
 /// Writes the token of a whole run of this form.
 pub(crate) fn run_kind(run: &[u8], form: Form, kind: &mut TokenKind)
     requires some { 0 < length run.now }
-    requires most { length run.now ≤ 64 }
+    requires most { length run.now ≤ run_limit }
     ensures { kind.new ≡ run_kind form run.now }
 {
     match form {

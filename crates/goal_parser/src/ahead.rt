@@ -4,6 +4,7 @@
 //! mostly follow it. It takes no token that may go on after the piece, no comment, and none that is rare: those are left
 //! to `step` (reader.rt). Which token is looked for is only a hint: the parser tests each.
 ghost use Rattle.std.specs.Prelude.{◌≡◌, ◌≢◌, ◌+◌, ◌<◌, ◌≤◌, ◌^◌, true, false, [], ◌∷◌, length, take, drop, OnOk, IfOk, IfErr};
+ghost use Rattle.goal_limits.specs.Limits.{run_limit};
 ghost use Rattle.goal_lexer.specs.declared.tokens.Token.{Token};
 ghost use Rattle.goal_lexer.specs.Ahead.{AreBlanks, is_word, IsAhead};
 ghost use Rattle.goal_lexer.specs.Stands.{begins_run};
@@ -98,7 +99,7 @@ impl Reader {
         requires ready { MayGoOn self.old.lexer self.old.place rest.now }
         requires blanks { AreBlanks rest.now blanks }
         requires word { is_word word.now ≡ true }
-        requires short { length word.now ≤ 64 }
+        requires short { length word.now ≤ run_limit }
         requires kind { word_kind word.now ≡ kind }
         requires group { IsAction kind }
         ensures ahead { IfOk result (λ n. GoesAhead self.old rest.now self.new n) }
@@ -129,7 +130,7 @@ impl Reader {
         requires ready { MayGoOn self.old.lexer self.old.place rest.now }
         requires blanks { AreBlanks rest.now blanks }
         requires word { is_word word.now ≡ true }
-        requires short { length word.now ≤ 64 }
+        requires short { length word.now ≤ run_limit }
         requires kind { word_kind word.now ≡ kind }
         requires group { IsVerb kind }
         ensures ahead { IfOk result (λ n. GoesAhead self.old rest.now self.new n) }
@@ -766,7 +767,7 @@ impl Reader {
         requires ready { MayGoOn self.old.lexer self.old.place rest.now }
         requires blanks { AreBlanks rest.now blanks }
         requires word { is_word word.now ≡ true }
-        requires short { length word.now ≤ 64 }
+        requires short { length word.now ≤ run_limit }
         requires kind { word_kind word.now ≡ kind }
         requires group { IsVerb kind }
         ensures ahead { IfOk result (λ n. GoesAhead self.old rest.now self.new n) }
@@ -794,7 +795,7 @@ impl Reader {
         requires ready { MayGoOn self.old.lexer self.old.place rest.now }
         requires blanks { AreBlanks rest.now blanks }
         requires word { is_word word.now ≡ true }
-        requires short { length word.now ≤ 64 }
+        requires short { length word.now ≤ run_limit }
         requires kind { word_kind word.now ≡ kind }
         requires group { IsVerb kind }
         ensures ahead { IfOk result (λ n. GoesAhead self.old rest.now self.new n) }

@@ -1,5 +1,6 @@
 //! The label and the verb at the beginning of an item.
 ghost use Rattle.std.specs.Prelude.{◌≡◌, ◌<◌, ◌≤◌, Some, length};
+ghost use Rattle.goal_limits.specs.Limits.{run_limit};
 ghost use Rattle.goal_parser.specs.Items.{low_head, verb_head};
 ghost use Rattle.goal_parser.specs.Taken.{IsWithin};
 
@@ -55,7 +56,7 @@ impl ItemHead {
     #[inline(always)]
     pub fn begin(&mut self, label: &[u8], at: u64)
         requires some { 0 < length label.now }
-        requires short { length label.now ≤ 64 }
+        requires short { length label.now ≤ run_limit }
         ensures { self.new ≡ record self.old { subject = Some (record { label = label.now; at = at }) } }
     {
         match &mut self.subject {

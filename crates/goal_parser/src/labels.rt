@@ -1,5 +1,6 @@
 //! The labels of a block.
 ghost use Rattle.std.specs.Prelude.{◌≡◌, ◌≢◌, ◌<◌, ◌≤◌, List, [], ◌∷◌, ◌++◌, Some, None, IfOk, IfErr, OnOk, length};
+ghost use Rattle.goal_limits.specs.Limits.{run_limit};
 ghost use Rattle.goal_parser.specs.Items.{Definition, first_unknown};
 ghost use Rattle.goal_parser.specs.declared.head.Mention.{Mention};
 ghost use Rattle.goal_parser.specs.Faults.{defined_fault};
@@ -53,7 +54,7 @@ impl Labels {
     /// `Repeat` if the label is already defined, or `NoMemory`.
     pub fn define(&mut self, label: &[u8], at: u64, op: u32) -> Result<(), TokenFault>
         requires some { 0 < length label.now }
-        requires short { length label.now ≤ 64 }
+        requires short { length label.now ≤ run_limit }
         ensures ok { OnOk result ((ds : List Definition) (us : List Mention) → Keeps self.old.slots ds us →
             (defined_fault ds (Some (record { label = label.now; at = at })) ≡ None) × Keeps self.new.slots (ds ++ record { label = label.now; op = op } ∷ []) us) }
         ensures grows { OnOk result (Grows self.old.slots self.new.slots) }
@@ -70,7 +71,7 @@ impl Labels {
     /// Returns the index of a label that is used at this place; it has a slot from now on.
     fn place(&mut self, label: &[u8], at: u64) -> Result<usize, AllocError>
         requires some { 0 < length label.now }
-        requires short { length label.now ≤ 64 }
+        requires short { length label.now ≤ run_limit }
         ensures kept { OnOk result ((ds : List Definition) (us : List Mention) → Keeps self.old.slots ds us →
             Keeps self.new.slots ds (us ++ record { label = label.now; at = at } ∷ [])) }
         ensures grows { OnOk result (Grows self.old.slots self.new.slots) }
@@ -84,7 +85,7 @@ impl Labels {
     /// Returns the slot of a label that is used at this place. `Err` means out of memory.
     pub fn mention(&mut self, label: &[u8], at: u64) -> Result<u32, AllocError>
         requires some { 0 < length label.now }
-        requires short { length label.now ≤ 64 }
+        requires short { length label.now ≤ run_limit }
         ensures kept { OnOk result ((ds : List Definition) (us : List Mention) → Keeps self.old.slots ds us →
             Keeps self.new.slots ds (us ++ record { label = label.now; at = at } ∷ [])) }
         ensures grows { OnOk result (Grows self.old.slots self.new.slots) }

@@ -1,5 +1,6 @@
 //! The labels of a block, and the dependencies and notes that name them.
 ghost use Rattle.std.specs.Prelude.{◌≡◌, ◌≢◌, ◌<◌, ◌≤◌, List, [], length, IfErr, OnOk, map, Some, None};
+ghost use Rattle.goal_limits.specs.Limits.{run_limit};
 ghost use Rattle.goal_parser.specs.declared.head.Mention.{Mention};
 ghost use Rattle.goal_parser.specs.Items.{Definition, NamedDep, NamedNote, define, dep_ended, note_ended, dep_uses, note_uses, when_of, note_as};
 ghost use Rattle.goal_parser.specs.Slots.{Keeps, NamesHold, dep_at, note_at};
@@ -98,7 +99,7 @@ impl Names {
     #[inline(always)]
     pub fn end_dep(&mut self, head: &ItemHead, label: &[u8], at: u64) -> Result<(), AllocError>
         requires some { 0 < length label.now }
-        requires short { length label.now ≤ 64 }
+        requires short { length label.now ≤ run_limit }
         ensures { OnOk result ((ds : List Definition) (us : List Mention) (deps : List NamedDep) (notes : List NamedNote) → NamesHold self.old ds us deps notes →
             NamesHold self.new ds (dep_uses State.Label head.now.subject (record { label = label.now; at = at }) us) (dep_ended State.Label head.now.subject head.now.verb label.now deps) notes) }
     {

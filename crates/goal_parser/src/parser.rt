@@ -3,6 +3,7 @@
 //! `take` takes any token. Most tokens come from `take_ahead` (ahead.rt), which finds them where they are in a piece;
 //! each of its calls is inlined for the kind that it found.
 ghost use Rattle.std.specs.Prelude.{◌≡◌, ◌≢◌, ℕ, ◌<◌, ◌≤◌, true, List, [], ◌∷◌, length, None, Some, OnOk, IfOk, IfErr};
+ghost use Rattle.goal_limits.specs.Limits.{run_limit};
 ghost use Rattle.goal_parser.specs.Numbers.{number_within};
 ghost use Rattle.goal_lexer.specs.declared.tokens.Token.{Token};
 ghost use Rattle.goal_parser.specs.Sentence.{entry};
@@ -178,7 +179,7 @@ impl Parser {
     #[inline(always)]
     pub fn take_label(&mut self, label: &[u8], at: u64) -> Result<(), TokenFault>
         requires some { 0 < length label.now }
-        requires short { length label.now ≤ 64 }
+        requires short { length label.now ≤ run_limit }
         ensures ok { (end : ℕ) → OnOk result (Takes self.old (record { kind = TokenKind.Label label.now; start = at; end = end }) self.new) }
         ensures fault { (end : ℕ) → IfErr result (λ f. f ≢ TokenFault.NoMemory → Refuses self.old (record { kind = TokenKind.Label label.now; start = at; end = end }) f) }
     {
