@@ -1,4 +1,4 @@
-"""Certifying the segments of a collective one by one, by exchanging the numbers of slots. Nothing of it is proved."""
+"""Certifies the segments of a collective one by one, by exchanging slot numbers. Nothing of it is proved."""
 from __future__ import annotations
 
 import re
@@ -11,20 +11,20 @@ from common.order import order_of, senders_of
 
 NOTE = re.compile(r"^(l\d+) (moves|adds) (\d+) to (\d+)$", re.MULTILINE)
 SLOT = re.compile(r"slot (\d+)$")
-# What `certify` says of one segment alone: all its other faults are those of all. And where it does not judge.
+# Faults that concern one segment alone (all others concern all segments); faults with which `certify` does not judge.
 OF_ONE = ("weight", "wrong")
 UNDECIDED = ("too large", "weight")
-# A slot that holds what began in several segments.
+# The segment of a slot that holds data of several segments.
 SEVERAL = -1
 
 
 def width_of(kind: str, ranks: int) -> int:
-    """How many slots the collective has."""
+    """The number of slots of the collective."""
     return {"allgather": ranks, "gather": ranks, "scatter": ranks, "reduce_scatter": ranks, "alltoall": 2 * ranks}.get(kind, 1)
 
 
 def begins_at(kind: str, ranks: int, root: int, rank: int) -> Iterator[int]:
-    """The slots of a collective that hold something at the start, at this rank."""
+    """The slots of the collective that hold data on this rank at the start."""
     if kind in ("bcast", "scatter") and rank != root:
         return iter(())
     if kind in ("allgather", "gather"):
@@ -33,7 +33,7 @@ def begins_at(kind: str, ranks: int, root: int, rank: int) -> Iterator[int]:
 
 
 def wanted_at(kind: str, ranks: int, root: int, rank: int) -> Iterator[int]:
-    """The slots that it wants something of at the end, at this rank."""
+    """The slots whose contents on this rank the collective prescribes at the end."""
     if kind in ("reduce", "gather") and rank != root:
         return iter(())
     if kind in ("scatter", "reduce_scatter"):
@@ -44,7 +44,7 @@ def wanted_at(kind: str, ranks: int, root: int, rank: int) -> Iterator[int]:
 
 
 def exchange(slot: int, block: int, width: int) -> int:
-    """The slot's number after the exchange of the first `width` slots with those of the block."""
+    """The new number of a slot when the first `width` slots are exchanged with those of the block."""
     first = block * width
     if slot < width:
         return slot + first
@@ -55,7 +55,7 @@ def exchange(slot: int, block: int, width: int) -> int:
 
 def exchanged(text: str, block: int, width: int) -> str:
     """The canonical text with these slots exchanged in all notes. A note that moves a range of slots is split where the
-    exchange cuts it."""
+    exchange divides the range."""
     first = block * width
     cuts = (width, first, first + width)
 
@@ -73,7 +73,7 @@ def exchanged(text: str, block: int, width: int) -> str:
 
 @dataclass(frozen=True)
 class Use:
-    """What makes a slot one of a segment: an operation that reads what it holds at the start, or leaves something in it."""
+    """Why a slot belongs to a segment: an operation reads its data of the start, or leaves data in it at the end."""
 
     slot: int
     key: Key
@@ -84,8 +84,8 @@ class Use:
 
 
 def uses_of(schedule: Schedule, order: List[Key]) -> Dict[int, Use]:
-    """The slots that are no passing ones, each with a use. A passing slot has at each rank where it is used only what was
-    put into it there, and all that was put into it last is read again."""
+    """The slots that belong to segments, each with a use that shows it. All other slots only pass data on: on each rank
+    every read is of data that the schedule put there, and the data that was put there last is read again."""
     uses: Dict[int, Use] = {}
     last: Dict[Tuple[int, int], Optional[Use]] = {}
 
@@ -112,8 +112,8 @@ def uses_of(schedule: Schedule, order: List[Key]) -> Dict[int, Use]:
 
 
 class Segments:
-    """A schedule whose collective works on blocks of slots, each as the collective does on the first. `fault` is what is wrong
-    with all segments alike, if anything is; only where nothing is, the other parts are there."""
+    """A schedule of a collective on blocks of slots, each treated as the collective treats the first. `fault` is a
+    fault of all segments, or None; the other attributes exist only if it is None."""
 
     def __init__(self, goal: str, kind: str, text: str, root: int = 0) -> None:
         self.goal, self.kind, self.text, self.root = goal, kind, text, root
@@ -130,16 +130,16 @@ class Segments:
             self._verdicts: Dict[int, Optional[str]] = {0: fault}
 
     def count(self) -> int:
-        """How many segments there are: all up to the first without a slot that is no passing one."""
+        """The number of segments: they end before the first block without a slot that belongs to a segment."""
         used = {slot // self.width for slot in self.uses}
         return next(block for block in range(1, len(used) + 2) if block not in used)
 
     def left_out(self, count: int) -> Optional[Use]:
-        """The first slot that is no passing one, and in none of so many segments."""
+        """The use of the first slot that belongs to a segment but lies after the first `count` segments, or None."""
         return next((use for slot, use in sorted(self.uses.items()) if slot >= count * self.width), None)
 
     def stretches(self, count: int) -> List[range]:
-        """The segments one by one, and those that no note touches together."""
+        """The segments, each alone; neighbouring segments that no note touches are one range."""
         found: List[range] = []
         for block in range(count):
             alike = block not in self._touched and found and found[-1][0] not in self._touched
@@ -147,22 +147,22 @@ class Segments:
         return found
 
     def verdicts(self, count: int) -> Iterator[Tuple[range, Optional[str]]]:
-        """For each stretch of segments what is wrong with its first one, in the schedule's own numbers, or None where it is
-        certified: by itself, and where all begin at once, for what gets into it from the others."""
+        """For each range of segments the fault of its first one, in the slot numbers of the schedule, or None if it is
+        certified: alone, and with no data from another segment when all run at once."""
         mixed = self.mixed(count) if count > 1 else {}
         for blocks in self.stretches(count):
             yield blocks, self.verdict(blocks[0]) or mixed.get(blocks[0])
 
     def verdict(self, block: int) -> Optional[str]:
-        """What is wrong with the segment by itself."""
+        """The fault of a segment alone, or None."""
         if block not in self._verdicts:
             self._verdicts[block] = self._certify(exchanged(self.text, block, self.width))
         fault = self._verdicts[block]
         return fault and SLOT.sub(lambda found: f"slot {exchange(int(found[1]), block, self.width)}", fault)
 
     def mixed(self, count: int) -> Dict[int, str]:
-        """By segment, the first of its slots that gets what begins in another one, where all have their values at once. (A
-        barrier has no values: it wants to have heard of all, and may hear of more.)"""
+        """For each segment, the first of its slots that gets data of another segment when all run at once. (A barrier
+        moves no data: each rank must hear of all ranks, and may hear more.)"""
         held = self._held_at_end(count)
         found: Dict[int, str] = {}
         for rank in range(self.ranks if self.kind != "barrier" else 0):
@@ -174,8 +174,8 @@ class Segments:
         return found
 
     def _held_at_end(self, count: int) -> Dict[Tuple[int, int], int]:
-        """For each rank and slot that holds something at the end, the segment in which that began. One order shows it, since
-        nothing races."""
+        """For each rank and slot that holds data at the end, the segment in which the data began. Any order of
+        execution gives the same, since there are no races."""
         held = {(rank, block * self.width + slot): block for rank in range(self.ranks) for block in range(count)
                 for slot in begins_at(self.kind, self.ranks, self.root, rank)}
         senders, sent = senders_of(self.schedule), {}
@@ -193,13 +193,13 @@ class Segments:
         return held
 
     def _certify(self, text: str) -> Optional[str]:
-        """The fault that the program finds, or None."""
+        """The fault that `goal certify` finds, or None."""
         answer = program.expect(program.call(self.goal, self.words, text), program.DONE, program.NOT_CERTIFIED)
         return None if answer.status == program.DONE else answer.out.strip().replace("not certified: ", "", 1)
 
 
 def put(held: Dict[Tuple[int, int], int], place: Tuple[int, int], block: Optional[int]) -> None:
-    """Puts what began in a segment into a slot, or nothing."""
+    """Puts data of a segment into a slot, or empties it for None."""
     if block is None:
         held.pop(place, None)
     else:

@@ -1,1 +1,1 @@
-"""Schedules of collectives beyond those of `goal gen`, as the field knows them. Nothing of it is proved."""
+"""Schedules of collectives by published algorithms, in addition to those of `goal gen`. Nothing of it is proved."""

@@ -1,4 +1,4 @@
-"""The plan that words ask for, as in `tools/schedule`: an algorithm, ranks, bytes and options. It is not proved."""
+"""The plan that command-line arguments ask for: an algorithm, ranks, bytes and options. Nothing of it is proved."""
 import argparse
 from typing import Callable, Tuple
 
@@ -13,7 +13,7 @@ OPTIONS = {"root": "--root", "segments": "--segments", "node": "--node", "sum_ps
 
 
 def algorithm_of(word: str) -> Tuple[str, Callable[[Wish], Plan], Tuple[str, ...]]:
-    """The algorithm of a word: its name, what makes its plan, and its options."""
+    """The algorithm of this name: the name, the function that makes its plan, and the options that it takes."""
     if own.is_own(word):
         return (word, *own.own_algorithm(word))
     for algorithm in ALGORITHMS:
@@ -24,23 +24,27 @@ def algorithm_of(word: str) -> Tuple[str, Callable[[Wish], Plan], Tuple[str, ...
 
 
 def add_words(parser: argparse.ArgumentParser) -> None:
-    """The words that ask for a plan."""
-    parser.add_argument("--list", action="version", version=printed(), help="print the table of the algorithms and end")
-    parser.add_argument("algorithm", metavar="ALGORITHM", type=algorithm_of, help="one of those below")
-    parser.add_argument("ranks", metavar="RANKS", type=command.number(1, MOST_RANKS, "ranks"), help="1 to 65536")
+    """Adds the arguments that ask for a plan."""
+    parser.add_argument("--list", action="version", version=printed(),
+                        help="print a table of the algorithms, with their options and sources, and exit")
+    parser.add_argument("algorithm", metavar="ALGORITHM", type=algorithm_of, help="one of the algorithms below")
+    parser.add_argument("ranks", metavar="RANKS", type=command.number(1, MOST_RANKS, "ranks"),
+                        help="the number of ranks, 1 to 65536")
     size = command.size(0, MOST_BYTES)
-    parser.add_argument("size", metavar="BYTES", type=size, help="0 to 2^40-1, as 4096, 4K or 16M")
-    parser.add_argument("--root", metavar="Z", type=command.number(0, MOST_RANKS - 1, "a rank"), help="the root (0)")
+    parser.add_argument("size", metavar="BYTES", type=size,
+                        help="a size, see below: 0 to 2^40-1, written as 4096, 4K or 16M")
+    parser.add_argument("--root", metavar="Z", type=command.number(0, MOST_RANKS - 1, "a rank"),
+                        help="the rank of the root (0)")
     parser.add_argument("--segments", type=command.number(1, MOST_RANKS, "segments"), metavar="K",
                         help="cut the vector, or each block of the ring, into K segments (1)")
     node = command.number(1, MOST_RANKS, "ranks")
-    parser.add_argument("--node", type=node, metavar="N", help="so many ranks a node (1)")
+    parser.add_argument("--node", type=node, metavar="N", help="ranks per node (1)")
     parser.add_argument("--sum-ps", type=command.number(0, 10**9, "ps per byte"), metavar="PS",
-                        help="picoseconds a byte that a sum costs, rounded up to whole ns for each sum (0)")
+                        help="the cost of a sum in ps per byte, rounded up to whole ns for each sum (0)")
 
 
 def plan_of(given: argparse.Namespace) -> Plan:
-    """The plan that the words ask for."""
+    """The plan that the arguments ask for."""
     algorithm, make, taken = given.algorithm
     options = {name: getattr(given, name) for name in OPTIONS if getattr(given, name) is not None}
     for name in options:

@@ -1,4 +1,4 @@
-"""The algorithms: each makes the plan of its schedule from the wishes of the user. Nothing of it is proved."""
+"""The algorithms. Each makes a plan from the parameters that the user asks for. Nothing of it is proved."""
 from dataclasses import dataclass
 from typing import List, Sequence
 
@@ -38,7 +38,7 @@ class Wish:
 
 
 def one_by_one(count: int) -> List[List[int]]:
-    """The slots 0 up to count - 1, each for itself."""
+    """The slots 0 to count - 1, each in its own list."""
     return [[slot] for slot in range(count)]
 
 
@@ -68,7 +68,7 @@ def allreduce_ring(wish: Wish) -> Plan:
 
 
 def ring_allreduce(plan: Plan, members: Sequence[int], segments: int) -> None:
-    """An allreduce around a ring, each block of the vector in so many segments."""
+    """An allreduce around a ring, with each block of the vector in `segments` segments."""
     blocks = [range(place * segments, (place + 1) * segments) for place in range(len(members))]
     rings.reduce_scatter(plan, members, blocks)
     rings.allgather(plan, members, blocks, shift=1)
@@ -102,7 +102,7 @@ def allreduce_reduce_bcast(wish: Wish) -> Plan:
 
 
 def allreduce_two_level(wish: Wish) -> Plan:
-    """Each node sums up at its first rank, these sum up around a ring, and each node broadcasts."""
+    """Each node reduces to its first rank, these ranks reduce around a ring, and each node broadcasts."""
     nodes = wish.nodes()
     plan = wish.cut_plan(len(nodes))
     vector = [range(len(nodes))]
@@ -115,9 +115,9 @@ def allreduce_two_level(wish: Wish) -> Plan:
 
 
 def allreduce_hierarchical(wish: Wish) -> Plan:
-    """The ranks of a node divide the sum of its vectors among them; each part is summed up between the nodes, by one rank of each;
-    and the ranks of a node hand the sums to one another. By halving and doubling where ranks or nodes are a power of two, else
-    around a ring."""
+    """A reduce-scatter within each node, an allreduce of each part among the nodes by one rank of each, and an
+    allgather within each node. By halving and doubling if the number of ranks or nodes is a power of two, else around
+    a ring."""
     nodes = wish.nodes()
     count, width = len(nodes[0]), len(nodes)
     plan = wish.cut_plan(count * width)
@@ -154,7 +154,8 @@ def allgather_bruck(wish: Wish) -> Plan:
 
 
 def allgather_neighbour(wish: Wish) -> Plan:
-    """Two neighbours exchange their items; then each rank hands on, to its left and right in turn, the two that came last."""
+    """Neighbours exchange their items. Then each rank sends the last two items that it got, to its left and right in
+    turn."""
     if wish.ranks % 2:
         raise Fault("allgather-neighbour needs an even number of ranks")
     plan = wish.item_plan(wish.ranks)
@@ -168,7 +169,7 @@ def allgather_neighbour(wish: Wish) -> Plan:
 
 
 def alltoall_bruck(wish: Wish) -> Plan:
-    """An item for the rank that is d ahead goes by the binary digits of d, with all others that have the same digit."""
+    """An item for the rank that is d ahead takes a step for each binary digit 1 of d, with all others of that digit."""
     ranks = wish.ranks
     plan = alltoall_plan(wish)
     where = [[(rank + ahead) % ranks for ahead in range(ranks)] for rank in range(ranks)]
@@ -203,7 +204,7 @@ def alltoall_pairwise(wish: Wish) -> Plan:
 
 
 def alltoall_plan(wish: Wish) -> Plan:
-    """A plan where each rank has copied the item for itself."""
+    """A plan in which each rank has copied the item that it keeps."""
     plan = wish.item_plan(2 * wish.ranks)
     for rank in range(wish.ranks):
         plan.add(rank, [(rank, wish.ranks + rank)])

@@ -1,4 +1,4 @@
-"""How much each algorithm makes, from the wishes of the user, so that too much is refused before it is made. Nothing of it is
+"""Counts what an algorithm would make, so that a plan that is too large is refused before it is made. Nothing of it is
 proved."""
 from dataclasses import dataclass
 from typing import TYPE_CHECKING
@@ -10,13 +10,14 @@ from common.command import Fault
 if TYPE_CHECKING:
     from algorithms.collectives import Wish
 
-# Of so many slots, the messages of a plan take some gigabytes to make.
+# Making the messages of a plan with this many slots takes some gigabytes.
 MOST_SLOTS = 1 << 26
 
 
 @dataclass(frozen=True)
 class Counts:
-    """The messages and the calcs of a plan; how many notes `adds` and how many slots in messages it has, or a few more."""
+    """The numbers of messages, calcs, `adds` notes and slots in messages of a plan; the last two may be a little too
+    high."""
 
     messages: int
     calcs: int = 0
@@ -28,7 +29,7 @@ class Counts:
         return 2 * self.messages + self.calcs
 
     def check(self) -> None:
-        """Refuses what a schedule has no room for."""
+        """Refuses a plan that exceeds the limits of a schedule."""
         for count, most, what in ((self.operations, MOST_OPERATIONS, "operations"), (2 * self.messages + self.adds, MOST_NOTES, "notes"),
                                   (2 * self.slots, MOST_SLOTS, "slots in messages")):
             if count > most:
@@ -36,7 +37,7 @@ class Counts:
 
 
 def rounds(count: int) -> int:
-    """How often 1 doubles until it is no less than the count."""
+    """The binary logarithm of the count, rounded up."""
     return (count - 1).bit_length()
 
 
@@ -84,7 +85,7 @@ def hierarchical(wish: "Wish") -> Counts:
 
 
 def part(members: int, pieces: int) -> int:
-    """The messages of a half of an allreduce among so many members: by halving, or else around a ring."""
+    """The messages of one half of an allreduce among `members` members: by halving, or else around a ring."""
     is_halved = power(members) == members and pieces % members == 0
     return members * (rounds(members) if is_halved else members - 1)
 
@@ -98,7 +99,7 @@ def neighbour(wish: "Wish") -> Counts:
 
 
 def alltoall_bruck(wish: "Wish") -> Counts:
-    """An item is sent once for each binary digit 1 of how far it goes."""
+    """An item is sent once for each binary digit 1 of its distance."""
     ranks = wish.ranks
     digits = sum(bin(ahead).count("1") for ahead in range(ranks))
     return Counts(ranks * rounds(ranks), ranks, ranks, ranks * digits)

@@ -48,12 +48,12 @@ def own_algorithm(word: str) -> Tuple[Callable[[Wish], Plan], Tuple[str, ...]]:
 
 
 def loaded(path: str, source: str) -> types.ModuleType:
-    """The module of a file. Its folder is searched for what it imports, and nothing is kept there."""
+    """Imports a file as a module. Its folder is searched for imports, and no compiled file is written there."""
     module = types.ModuleType(os.path.splitext(os.path.basename(path))[0])
     module.__file__ = path
     sys.path.append(os.path.dirname(os.path.abspath(path)))
     sys.dont_write_bytecode = True
-    # (data classes and the like look for their module by its name)
+    # (data classes, for example, look up their module by name)
     sys.modules.setdefault(module.__name__, module)
     exec(compile(source, path, "exec"), module.__dict__)
     return module
@@ -77,7 +77,8 @@ def options_of(path: str, name: str, function: Callable[..., Any]) -> Tuple[str,
 
 @contextlib.contextmanager
 def faults_of(path: str) -> Iterator[None]:
-    """Reports what goes wrong in a file with the last line of it that was reached. What it prints goes to standard error."""
+    """Reports an error in a file with the last line of the file that was reached. What the file prints goes to
+    standard error."""
     try:
         with contextlib.redirect_stdout(sys.stderr):
             yield

@@ -7,12 +7,12 @@ from algorithms.plan import Message, Plan
 
 
 def power(count: int) -> int:
-    """The greatest power of two that is no more than the count."""
+    """The greatest power of two that is at most the count."""
     return 1 << (count.bit_length() - 1)
 
 
 def aligned(place: int, length: int) -> range:
-    """The stretch of `length` places that has this place, where places are cut into such stretches from 0 on."""
+    """The block of `length` places with this place, where blocks begin at the multiples of `length`."""
     first = place - place % length
     return range(first, first + length)
 

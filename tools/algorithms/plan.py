@@ -78,7 +78,7 @@ def runs(slots: Sequence[int]) -> List[Tuple[int, int]]:
 
 
 class Rank:
-    """The operations of one rank so far, and what they did to its slots."""
+    """The operations of one rank so far, and the last uses of its slots."""
 
     def __init__(self, own: int) -> None:
         self.operations: List[str] = []
@@ -115,7 +115,7 @@ class Rank:
         return len(self.needs[number])
 
     def last_of(self, before: Set[int]) -> List[int]:
-        """Those of these operations that no other of them requires, directly or through more."""
+        """Those of these operations that no other of them requires, directly or indirectly."""
         if len(before) < 2:
             return list(before)
         kept: List[int] = []
@@ -198,14 +198,14 @@ class Plan:
         self._calc(rank, cost, cpu, slots, slots, [])
 
     def spare(self, rank: int, count: int) -> range:
-        """`count` slots of the rank that nothing uses yet."""
+        """`count` unused slots of the rank."""
         check("a rank", rank, len(self.ranks) - 1)
         here = self.ranks[rank]
         here.spare += count
         return range(here.spare - count, here.spare)
 
     def end_step(self) -> None:
-        """A step ends: each rank goes on only after the end of all that it did in it."""
+        """Ends a step: each rank continues only after the end of all its operations of the step."""
         for rank in self.ranks:
             if len(rank.operations) > rank.step:
                 rank.step_before = range(rank.step, len(rank.operations))
@@ -219,7 +219,7 @@ class Plan:
                 yield "\n".join([f"rank {number} {{", *rank.lines(), "}\n"])
 
     def _check(self, message: Message) -> None:
-        """The message is one between ranks that are there, of slots that may be."""
+        """Refuses a message between ranks that do not exist, or of slots that cannot exist."""
         most = len(self.ranks) - 1
         check("a rank", message.source, most)
         check("a rank", message.target, most)
@@ -264,7 +264,7 @@ class Plan:
             self._refuse()
 
     def _refuse(self) -> None:
-        """Says which limit is passed."""
+        """Raises the error for an exceeded limit."""
         for count, most, what in ((self.operations, MOST_OPERATIONS, "operations"), (self.needs, MOST_NEEDS, "dependencies"),
                                   (self.notes, MOST_NOTES, "notes")):
             if count > most:
@@ -272,7 +272,7 @@ class Plan:
 
 
 def check(what: str, number: object, most: int, least: int = 0) -> int:
-    """The number, where it is a whole one within these limits."""
+    """The number; refused unless it is an integer within these limits."""
     if not isinstance(number, int):
         raise Fault(f"{what} is {number!r}: give a whole number")
     if not least <= number <= most:

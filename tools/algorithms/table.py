@@ -29,7 +29,7 @@ class Algorithm:
     source: str
 
     def make(self, wish: Wish) -> Plan:
-        """The plan, if a schedule has room for it."""
+        """The plan; refused if it exceeds the limits of a schedule."""
         self.counts(wish).check()
         return self.plan(wish)
 
@@ -88,7 +88,7 @@ ALGORITHMS = [
 
 
 def printed() -> str:
-    """The table as docs/COLLECTIVES.md has it."""
+    """The table in the form of docs/COLLECTIVES.md."""
     lines = ["| algorithm | ranks | options | steps | messages | bytes in all | described in |", "|---|---|---|---|---|---|---|"]
     for one in ALGORITHMS:
         options = " ".join(f"`--{option.replace('_', '-')}`" for option in one.options)

@@ -10,7 +10,7 @@ Tree = List[Tuple[int, int]]
 
 
 def chain(count: int) -> Tree:
-    """Each to the next."""
+    """A chain: each place sends to the next."""
     return [(place, place + 1) for place in range(count - 1)]
 
 
@@ -20,7 +20,7 @@ def binary(count: int) -> Tree:
 
 
 def binomial(count: int) -> Tree:
-    """A binomial tree: in each round the distance is half of that before, and who has the value sends it so far."""
+    """A binomial tree: in each round the distance halves, and each place with the value sends it over that distance."""
     edges: Tree = []
     for distance in reversed(powers(count)):
         edges += [(parent, parent + distance) for parent in range(0, count - distance, 2 * distance)]
@@ -52,19 +52,19 @@ def reduce(plan: Plan, members: Sequence[int], tree: Tree, messages: Sequence[Se
 
 
 def part(child: int, count: int) -> range:
-    """The places in the part of the binomial tree that hangs on this child of it."""
+    """The places in the subtree of the binomial tree below this child."""
     return range(child, min(child + (child & -child), count))
 
 
 def scatter(plan: Plan, members: Sequence[int], slot_of: Callable[[int], int]) -> None:
-    """The root's slot for each place goes down the binomial tree, with all that lie behind it."""
+    """The root's slot for each place goes down the binomial tree, with the slots of the subtree of that place."""
     for parent, child in binomial(len(members)):
         slots = [slot_of(place) for place in part(child, len(members))]
         plan.exchange([Message(members[parent], members[child], slots)])
 
 
 def gather(plan: Plan, members: Sequence[int], slot_of: Callable[[int], int]) -> None:
-    """The slot of each place goes up the binomial tree to the root, with all that have come from below."""
+    """The slot of each place goes up the binomial tree to the root, with the slots of its subtree."""
     for parent, child in reversed(binomial(len(members))):
         slots = [slot_of(place) for place in part(child, len(members))]
         plan.exchange([Message(members[child], members[parent], slots)])

@@ -8,7 +8,7 @@ from typing import Container, Dict, Iterable, List, Optional, Set, Tuple
 # an operation by its rank and its number there
 Key = Tuple[int, int]
 BLOCK = re.compile(r"^rank (\d+) \{$", re.MULTILINE)
-# what each line of an operation has once, and no other line
+# the text that each line of an operation has once, and no other line
 AFTER_LABEL = ": "
 # the second word of a note
 NOTES = ("moves", "adds")
@@ -16,7 +16,7 @@ NOTES = ("moves", "adds")
 
 @dataclass
 class Op:
-    """An operation: `size` in nanoseconds of a calc, in bytes else; `peer` and `tag` are text, maybe `any`."""
+    """An operation. `size` is in ns for a calc, else in bytes; `peer` and `tag` are text, which may be `any`."""
 
     kind: str
     size: int
@@ -34,7 +34,7 @@ class Op:
         return [slot for first, last in self.notes for slot in range(first, last + 1)]
 
     def touched(self) -> Set[int]:
-        """All slots that it reads or sets."""
+        """All slots that the operation reads or sets."""
         return {slot for note in self.notes for slot in note} if self.kind == "calc" else set(self.moved())
 
 
@@ -48,14 +48,14 @@ class Schedule:
 
 
 def operation_counts(text: str) -> Dict[int, int]:
-    """How many operations each rank has, of a canonical text; those that have none are left out."""
+    """The number of operations of each rank in a canonical text; ranks without operations are left out."""
     blocks = [(int(found[1]), found.end()) for found in BLOCK.finditer(text)]
     ends = [start for _, start in blocks[1:]] + [len(text)]
     return {rank: text.count(AFTER_LABEL, start, end) for (rank, start), end in zip(blocks, ends)}
 
 
 def rank_count(text: str) -> int:
-    """How many ranks there are, of a canonical text."""
+    """The number of ranks in a canonical text."""
     return int(text.split(None, 2)[1])
 
 

@@ -1,4 +1,4 @@
-"""What each action of a run waits for, and how long that takes, by docs/EVENT_RULES.md. Nothing of it is proved.
+"""The causes of each action of a run, and their times, by docs/EVENT_RULES.md. Nothing of it is proved.
 
 A printed run has the start and the end of each operation. With the costs of the messages, the times of all actions follow,
 and what each of them keeps busy. `Causes` lets the actions of a run happen again in their order, and sees that each happens
@@ -25,7 +25,8 @@ NEED_END, NEED_START, MESSAGE, REQUEST, RECEIVE, BYTES, CPU, NIC, LAST = (
 
 @dataclass(frozen=True)
 class Part:
-    """A part of a span of time: `count` times a parameter, or so many bytes at G or O, or one calc; of which class of messages."""
+    """A part of a span of time: `count` times a parameter, `count` bytes at G or O, or one calc; and the class of
+    messages."""
 
     name: str
     count: int
@@ -53,7 +54,7 @@ def gap(costs: Parameters, size: int) -> Parts:
 
 
 def flight(costs: Parameters, size: int) -> Parts:
-    """How long a message is on its way. Where G and O take the same time, it is said to be that of G."""
+    """How long a message is on its way. If G and O take the same time, the part is that of G."""
     greater = max((per_byte("G", costs, size), per_byte("O", costs, size)), key=lambda part: part.nanos)
     return Part("o", 1, costs.o, costs), greater, latency(costs)
 
@@ -68,7 +69,8 @@ def nanos_of(parts: Parts) -> int:
 
 @dataclass(frozen=True)
 class Cause:
-    """What an action waits for: the action that brings it, the time when it is there, and what takes the time from that action."""
+    """A cause of an action: the action before it, the time of the cause, and the parts of the time since that
+    action."""
 
     kind: str
     action: Action
@@ -77,7 +79,7 @@ class Cause:
 
 
 class Causes:
-    """The actions of a whole run with their causes. The stories are those of all its operations."""
+    """The actions of a whole run with their causes. `stories` has all its operations."""
 
     def __init__(self, schedule: Schedule, stories: Dict[Key, Story], costs: Costs) -> None:
         self.schedule, self.stories, self.costs = schedule, stories, costs
@@ -93,7 +95,7 @@ class Causes:
         self._run()
 
     def _run(self) -> None:
-        """Lets all actions happen: of those that may, the one with the least time, class, rank and number."""
+        """Replays all actions: of the possible ones, the one with the least time, class, rank and number is next."""
         heap = [self._at(self.first(key)) for key, missing in self._missing.items() if not missing]
         heapify(heap)
         while heap:
@@ -119,7 +121,7 @@ class Causes:
         return POST if self.schedule.ops[key].kind == "recv" else BEGIN, key
 
     def _happen(self, action: Action) -> None:
-        """An action holds its cpu and its side of a NIC from now on."""
+        """Records that an action now holds its cpu and its side of a NIC."""
         self._happened.add(action)
         kind, (rank, _) = action
         op = self.schedule.ops[action[1]]
@@ -133,7 +135,7 @@ class Causes:
             self._holders[side] = action
 
     def _then(self, action: Action) -> Iterator[Action]:
-        """The actions that may happen now that this one has."""
+        """The actions that become possible by this one."""
         kind, key = action
         if kind in (BEGIN, POST):
             yield from self._freed(key, False)
@@ -192,12 +194,12 @@ class Causes:
         return 1 if action[0] == BEGIN and not self.is_eager(action[1]) else self.stories[action[1]].bytes
 
     def on_cpu(self, action: Action) -> Parts:
-        """What keeps its cpu busy."""
+        """The parts of the time for which an action holds its cpu."""
         op = self.schedule.ops[action[1]]
         return (Part("calc", 1, op.size),) if op.kind == "calc" else overhead(self.message(action[1]), self.held(action))
 
     def on_nic(self, action: Action) -> Parts:
-        """What keeps its side of a NIC busy."""
+        """The parts of the time for which an action holds its side of a NIC."""
         return gap(self.message(action[1]), self.held(action))
 
     def _way_in(self, send: Key) -> Parts:
@@ -205,7 +207,7 @@ class Causes:
         return flight(self.message(send), self.held((BEGIN, send)))
 
     def of(self, action: Action) -> List[Cause]:
-        """All that an action waits for. It happens at the greatest of these times, at 0 where there is none."""
+        """All causes of an action. It happens at the greatest of their times, or at 0 without a cause."""
         kind, key = action
         if kind == END:
             return [self._after(LAST, self.last(key), self.on_cpu(self.last(key)))]
@@ -234,14 +236,14 @@ class Causes:
         return self._after(NEED_END, last, self.on_cpu(last)) if by_end else self._after(NEED_START, self.first(key), ())
 
     def _clearance(self, send: Key) -> List[Cause]:
-        """A large send hands over its bytes once its request has met the receive, and the clearance is back."""
+        """The causes of Data: the RTS of the send and its receive are paired, and the CTS is back."""
         taken, back = self.stories[send].timed.partner, latency(self.message(send))
         if taken is None:
             raise misfit(send)
         return [self._after(REQUEST, (BEGIN, send), (*self._way_in(send), back)), self._after(RECEIVE, (POST, taken), (back,))]
 
     def _delivery(self, receive: Key) -> List[Cause]:
-        """A receive takes a message that has arrived."""
+        """The causes of Serve: the message has arrived."""
         sent = self.stories[receive].timed.partner
         if sent is None:
             raise misfit(receive)

@@ -9,15 +9,15 @@ from common.causes import BYTES, END, MESSAGE, REQUEST, Action, Cause, Causes, P
 from common.command import Fault
 from common.parameters import Parameters
 
-# The longest period of steps that repeat, and how often they must come to be folded.
+# The longest period of repeated steps, and the least number of repetitions that are folded.
 LONGEST_PERIOD, LEAST_TIMES = 8, 3
 NAMES = ("L", "o", "g", "G", "O", "calc")
 
 
 @dataclass
 class Step:
-    """An action with its time and what it waited for last, if anything. `also` are causes of the same time by other ways; `slack` is how much
-    earlier the next of its causes was there."""
+    """An action with its time and its last cause, if it has one. `also` has other causes of the same time; `slack` is
+    how many ns earlier the next cause was there."""
 
     action: Action
     time: int
@@ -27,11 +27,11 @@ class Step:
 
     @property
     def took(self) -> int:
-        """How long it took from the action that it waited for."""
+        """The ns since the action that is its cause."""
         return sum(part.nanos for part in self.cause.parts) if self.cause else 0
 
     def is_unique(self) -> bool:
-        """Whether there is one cause, and one rate that makes its message take its time."""
+        """Whether there is only one cause, and its time depends on only one of the rates G and O."""
         return not self.also and not (self.cause and any(is_tied(self.cause, part) for part in self.cause.parts))
 
 
@@ -67,7 +67,7 @@ def chain_to(causes: Causes, action: Action) -> List[Step]:
 
 
 def last_end(causes: Causes) -> Optional[Key]:
-    """The operation that ends last, the least of several, or none where nothing ends."""
+    """The operation that ends last, the least of several; None if none ends."""
     ends = [(-story.timed.end, key) for key, story in causes.stories.items() if story.timed.end is not None]
     return min(ends)[1] if ends else None
 
@@ -78,7 +78,7 @@ def end_of(key: Key) -> Action:
 
 @dataclass(frozen=True)
 class Share:
-    """What a parameter takes of a chain, `count` times, or so many bytes of it; of which class of messages."""
+    """The share of a parameter in a chain: its ns, its count of times or bytes, and the class of messages."""
 
     name: str
     costs: Optional[Parameters]
@@ -87,7 +87,7 @@ class Share:
 
 
 def shares_of(steps: List[Step]) -> List[Share]:
-    """What each parameter takes of a chain. They add up to its time."""
+    """The share of each parameter in a chain. The shares add up to its time."""
     sums: Dict[Tuple[str, Optional[Parameters]], Tuple[int, int]] = {}
     for step in steps:
         for part in step.cause.parts if step.cause else ():
@@ -101,7 +101,7 @@ def shares_of(steps: List[Step]) -> List[Share]:
 
 @dataclass
 class Fold:
-    """Steps that come several times after one another: the first time they are there, and then how often more."""
+    """Steps that repeat: those of the first time, and how many more times they follow."""
 
     steps: List[Step]
     more: int = 0
@@ -110,7 +110,7 @@ class Fold:
 
 
 def folded(causes: Causes, steps: List[Step]) -> Iterator[Fold]:
-    """The steps in order, runs of the same kind folded: those shown, and how many more of these there are."""
+    """The steps in order, with repeated steps of the same kind folded."""
     kinds = [(step.action[0], causes.schedule.ops[step.action[1]].kind, step.cause.kind if step.cause else "") for step in steps]
     at = 0
     while at < len(steps):
@@ -122,7 +122,7 @@ def folded(causes: Causes, steps: List[Step]) -> Iterator[Fold]:
 
 
 def longest_run(kinds: List[Tuple[int, str, str]], at: int) -> Tuple[int, int]:
-    """The period of the steps that repeat from here on and how often they come, of those the ones that cover most."""
+    """The period of the steps that repeat from here on, and how often: the choice that covers most steps."""
     best = 1, 1
     for period in range(1, LONGEST_PERIOD + 1):
         end = at + period

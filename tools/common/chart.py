@@ -24,7 +24,7 @@ class Curve:
     refused: Set[float] = field(default_factory=set)
 
     def steps(self) -> List[Tuple[Tuple[float, float], Tuple[float, float]]]:
-        """The neighbouring points of which one is large and the other is not."""
+        """The pairs of neighbouring points of which only one has rendezvous messages."""
         pairs = zip(self.points, self.points[1:])
         return [((x, y), (to_x, to_y)) for (x, y), (to_x, to_y) in pairs
                 if y is not None and to_y is not None and (x in self.large) != (to_x in self.large)]
@@ -57,7 +57,7 @@ class Axis:
         return 0, rounded_up(max(values))
 
     def labels(self, ticks: Sequence[float]) -> Tuple[List[str], str]:
-        """What stands at the ticks, and what the axis is called."""
+        """The labels of the ticks, and the title of the axis."""
         units = {"size": SIZE_UNITS, "time": TIME_UNITS}.get(self.unit)
         if units and (self.is_log or self.unit == "size"):
             return [in_unit(tick, units) for tick in ticks], self.name
@@ -173,7 +173,7 @@ def draw_legend(drawing: Drawing, curves: List[Curve], x: float) -> None:
 
 
 def names_of(curves: List[Curve]) -> List[str]:
-    """What the legend calls the curves: of one that lies on another it names that."""
+    """The names in the legend: a curve that equals another one also has the name of that."""
     names = []
     for number, curve in enumerate(curves):
         same = [other.name for other in curves[:number] if other.points == curve.points]

@@ -14,14 +14,14 @@ FAULT = 2
 WRITE_FAULT = 5
 INTERRUPTED, TERMINATED = 130, 143
 STANDARD_INPUT = "/dev/stdin"
-# What may follow a number of bytes, and what it stands for.
+# The suffixes of a number of bytes, and their factors.
 FACTORS = {"": 1, "K": 1024, "M": 1024**2}
-# How the name of a tool begins that `./install` has put beside others.
+# The prefix of the names of installed tools.
 INSTALLED = "goal-"
 
 
 class Fault(Exception):
-    """What is wrong with what the user gave, in one line."""
+    """An error of the user, described in one line."""
 
 
 class Terminated(BaseException):
@@ -29,7 +29,7 @@ class Terminated(BaseException):
 
 
 def end_when_asked() -> None:
-    """Lets a signal that asks this program to end raise `Terminated`, so that it leaves nothing behind."""
+    """Makes a terminating signal raise `Terminated`, so that temporary files are removed."""
 
     def end(number: int, _: object) -> None:
         signal.signal(number, signal.SIG_IGN)
@@ -41,23 +41,23 @@ def end_when_asked() -> None:
 
 
 class Parser(argparse.ArgumentParser):
-    """A parser of words that raises a Fault where they are wrong. Options are given in full."""
+    """A parser of arguments that raises a Fault if they are wrong. Options cannot be abbreviated."""
 
     def error(self, message: str) -> NoReturn:
         raise Fault(f"{message} (--help tells more)")
 
     def format_help(self) -> str:
-        """The help, with the names that tools and program have where they are called: as installed they are goal-NAME and goal."""
+        """The help, with the names under which tools and program are called: installed ones are goal-NAME and goal."""
         told = super().format_help()
         return told.replace("tools/", INSTALLED).replace("./goal ", "goal ") if self.prog.startswith(INSTALLED) else told
 
     def _print_message(self, message: str, file: Optional[IO[str]] = None) -> None:
-        """Writes the help: where that fails it is a fault, as with all other output."""
+        """Writes the help. A failure is an error, as for all other output."""
         (file or sys.stdout).write(message)
 
 
 def parser(description: Optional[str], epilog: Optional[str] = None) -> Parser:
-    """A parser for the tool with this description, both texts printed as they are written."""
+    """A parser for a tool with this description and epilog, which are printed without reflowing."""
     how = argparse.RawDescriptionHelpFormatter
     return Parser(description=description, epilog=epilog, formatter_class=how, allow_abbrev=False)
 
@@ -115,8 +115,8 @@ def standard_input() -> bytes:
 
 
 def run(main: Callable[[], int]) -> NoReturn:
-    """Ends the program with the status that `main` returns, and tells its Fault. A reader of the output that has gone is
-    no fault of the user: no line, and the status of a fault of writing."""
+    """Runs `main`, reports its Fault, and ends the program with its status. If the reader of the output has gone, there
+    is no message, and the status is that of a failed write."""
     hold_streams()
     try:
         status = ended(main)
@@ -131,7 +131,7 @@ def run(main: Callable[[], int]) -> NoReturn:
 
 
 def ended(main: Callable[[], int]) -> int:
-    """The status of `main`, whose faults are told."""
+    """The status of `main`. Its faults are reported."""
     try:
         return main()
     except Fault as fault:
@@ -149,7 +149,7 @@ def ended(main: Callable[[], int]) -> int:
 
 
 def tell(line: str) -> None:
-    """Says a line on standard error, if that can be."""
+    """Writes a line on standard error; ignores failures."""
     try:
         print(f"{os.path.basename(sys.argv[0])}: {line}", file=sys.stderr, flush=True)
     except OSError:
@@ -157,12 +157,13 @@ def tell(line: str) -> None:
 
 
 def hold_streams() -> None:
-    """Sees that no file takes the place of a standard stream that is closed, and that any name can be told."""
+    """Reserves the numbers of closed standard streams, so that no file gets them, and lets messages have any file
+    name."""
     for stream in range(3):
         try:
             os.fstat(stream)
         except OSError:
-            # (what is written to it fails, as it must)
+            # (writing to it fails, as to a closed stream)
             os.open(os.devnull, os.O_WRONLY if stream == 0 else os.O_RDONLY)
     if sys.stdout is None:
         sys.stdout = open(1, "w", encoding="utf-8", closefd=False)

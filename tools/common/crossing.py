@@ -57,8 +57,8 @@ class Crossing:
         return bool(self.found[x][0].finish < self.found[x][1].finish)  # type: ignore[operator]
 
     def crossings(self, values: Sequence[int]) -> Iterator[Tuple[int, int]]:
-        """By halving, two neighbouring numbers for each two neighbouring values between which the faster one changes.
-        """
+        """For each two neighbouring values between which the faster one changes, the two successive numbers where it
+        does."""
         self.run(values)
         for low, high in zip(values, values[1:]):
             before = self.is_first_ahead(low)
@@ -70,7 +70,7 @@ class Crossing:
             yield low, high
 
     def faster(self, x: int) -> str:
-        """Which is faster at a value, as the begin of a sentence."""
+        """A phrase with the faster algorithm at a value, to begin a sentence."""
         one, other = self.found[x]
         if one.finish == other.finish:
             return f"{self.names[0]} and {self.names[1]} take the same time"

@@ -46,7 +46,7 @@ def cards_of(text: str) -> Cards:
 
 @dataclass
 class Cluster:
-    """A machine, and what is said of the cards of its nodes, if anything."""
+    """A machine, and the cards of its nodes if the description has them."""
 
     machine: Machine
     cards: Optional[Cards] = None
@@ -112,7 +112,7 @@ def lines_of(machine: Machine) -> Iterator[str]:
 
 @dataclass
 class Division:
-    """Things told apart by where they belong: ranks by their nodes, nodes by their groups."""
+    """An assignment of things to places: of ranks to nodes, or of nodes to groups."""
 
     thing: str
     place: str
@@ -138,7 +138,7 @@ class Division:
             self.add(range(first + place, end, count) if cyclic else range(first + place * size, first + (place + 1) * size))
 
     def check(self, count: int) -> None:
-        """Each of `count` things has a place."""
+        """Refuses the assignment unless each of `count` things has a place."""
         for one in range(count):
             if one not in self.of:
                 raise Fault(f"{self.thing} {one} is in no {self.place}")
@@ -221,7 +221,7 @@ class Description:
             self.pairs[pair] = words[3]
 
     def check(self) -> None:
-        """All that must be told is told, once, and of things that are there."""
+        """Refuses a description that is incomplete, says something twice, or names something that does not exist."""
         for what in ("inside", "between", *(["across"] if self.groups.places else [])):
             if what not in self.named:
                 raise Fault(f"the line `{what} NAME` is missing")
@@ -332,7 +332,7 @@ def read(name: str, text: str, scale: int = 1) -> Cluster:
 
 
 def is_description(text: str) -> bool:
-    """Whether a text does not begin as MACHINE does."""
+    """Whether a text is a description: it does not begin as a MACHINE."""
     return text.split(None, 1)[:1] != ["classes"]
 
 

@@ -31,7 +31,7 @@ class Explainer:
         self.schedule, self.shown, self.places = schedule, shown, places
 
     def lines(self, fault: str, segments: int) -> Iterator[str]:
-        """What a fault means, where the schedule has so many segments."""
+        """The lines that explain a fault of a schedule with `segments` segments."""
         slot, pair, one = WITH_SLOT.match(fault), OF_PAIR.match(fault), OF_ONE.match(fault)
         if slot:
             yield from self._of_slot(slot[1], (int(slot[2]), int(slot[3])), segments)
@@ -56,7 +56,7 @@ class Explainer:
             yield from self._stalled(key)
 
     def _stalled(self, key: Key) -> Iterator[str]:
-        """Follows what it waits for where each message waits for its receive."""
+        """Follows what an operation waits for if each message waits for its receive."""
         run = read_run(program.call(self.goal, ["sim", "/dev/stdin", "--S", "0"], self.shown).out.splitlines())
         yield "it never ends where all messages wait for their receives (`sim --S 0`):"
         yield from (f"  {line}" for line in waits_of(run, key, self._told))
@@ -76,7 +76,7 @@ class Explainer:
         return self.places.label(*key) or f"(operation {key[1]})"
 
     def _verdict_with(self, first: Key, then: Key) -> str:
-        """What certify says where the one waits for the end of the other."""
+        """The verdict of `goal certify` if `then` waits for the end of `first`."""
         block = re.compile(rf"(^rank {first[0]} \{{$.*?)(^\}}$)", re.MULTILINE | re.DOTALL)
         text = block.sub(rf"\1l{then[1] + 1} requires l{first[1] + 1}\n\2", self.shown, count=1)
         root = ["--root", str(self.root)] if self.kind in program.ROOTED else []
@@ -144,13 +144,13 @@ def use_of(op: Op, slot: int) -> str:
 
 
 def named(items: List[Contribution]) -> str:
-    """Contributions in words, the first of many."""
+    """Contributions in words; of many only the first."""
     said = ", ".join(f"item {number} of rank {rank}" for rank, number in items[:MOST_NAMED])
     return said + (f" and {len(items) - MOST_NAMED} more" if len(items) > MOST_NAMED else "")
 
 
 def waits_of(run: Run, key: Key, told: Callable[[Key], str]) -> Iterator[str]:
-    """What a stuck operation waits for, on to what is alone or comes round."""
+    """What a stuck operation waits for, followed to an operation that is alone or to a cycle."""
     seen: Dict[Key, None] = {}
     while key in run.reasons and key not in seen:
         seen[key] = None

@@ -15,7 +15,7 @@ Pattern = Tuple[str, str]
 
 @dataclass
 class Finding:
-    """What is wrong: in words, the operations that it is about, and more operations with what they are to it."""
+    """A finding: a text, the operations that it is about, and related operations with a text each."""
 
     what: str
     keys: List[Key]
@@ -28,8 +28,8 @@ def fits(pattern: Pattern, channel: Pattern) -> bool:
 
 
 class Matching:
-    """The most messages that receives can take, by the ranks and tags of both. Sends and receives of one rank and one tag are
-    alike here, whatever their order."""
+    """A greatest matching of sends and receives by ranks and tags. Sends and receives with the same ranks and tag are
+    interchangeable here, whatever their order."""
 
     def __init__(self, schedule: Schedule) -> None:
         self.ops = schedule.ops
@@ -99,7 +99,8 @@ class Flow:
         self.taken[channel][pattern] += count
 
     def move(self, pattern: Pattern) -> bool:
-        """Finds one more message for a pattern, from which others may turn to other messages; whether there is one."""
+        """Finds another message for a pattern; other patterns may have to switch to other messages. Whether there is
+        one."""
         came_by: Dict[Pattern, Tuple[Pattern, Optional[Pattern]]] = {}
         ahead: deque[Tuple[Pattern, Optional[Pattern]]] = deque([(pattern, None)])
         while ahead:
@@ -124,7 +125,7 @@ class Flow:
 
 
 class Nearest:
-    """For an operation that is left over, the nearest at the other side that is left over too."""
+    """For an unmatched operation, the most similar unmatched operation of the other side."""
 
     def __init__(self, ops: Dict[Key, Op], keys: Iterable[Key]) -> None:
         self.ops = ops
@@ -178,8 +179,8 @@ def too_small(matching: Matching) -> Iterator[Finding]:
 
 
 def rings(ops: Dict[Key, Op], pairs: Iterable[Tuple[Key, Key]], most_eager: int) -> Iterator[List[Key]]:
-    """Operations that wait for one another in a ring, from each knot of such rings a shortest one. A message over the greatest
-    eager size waits for its receive."""
+    """Cycles of operations that wait for one another: of each knot a shortest one. A message over the greatest eager
+    size waits for its receive."""
     place = {key: 2 * number for number, key in enumerate(ops)}
     keys = list(ops)
     # (an operation has two places, its start and its end; an edge leads to what must come before)

@@ -1,4 +1,4 @@
-"""The grid of a sweep: its axes from the words of the command line, and its points. Nothing of it is proved."""
+"""The grid of a sweep: its axes, from the command line, and its points. Nothing of it is proved."""
 from __future__ import annotations
 
 import itertools
@@ -29,9 +29,9 @@ AXES = ("schedule",) + MADE_BY + ("machine",) + ON_MACHINES + PARAMETERS
 UNITS = {"size": "size", "S": "size", "L": "ns", "o": "ns", "g": "ns", "G": "ns per byte", "O": "ns per byte",
          "sum-ps": "ps per byte"}  # fmt: skip
 MOST_POINTS = 100000
-# Of these, `gen` makes messages of one size for any number of slots; what is taken in their place.
+# KINDs whose messages in `gen` have one size for any number of slots, and the algorithms to use instead.
 ONE_SIZE = {"gather": "gather-tree", "scatter": "scatter-tree"}
-# What is taken where it is not given.
+# The defaults of axes that are not given.
 TAKEN = {"root": "0", "segments": "1", "node": "1", "sum-ps": "0", **{name: str(DEFAULTS[name]) for name in PARAMETERS}}
 # The least and the greatest value of the axes that make schedules.
 LIMITED: Dict[str, Tuple[int, Optional[int], str]] = {
@@ -70,7 +70,7 @@ def range_of(axis: str, text: str) -> List[Decimal]:
 
 
 def rate_of(number: Decimal, part: str) -> str:
-    """Nanoseconds a byte, to the picosecond, or to as many decimals as the value or the range has that gives them."""
+    """A rate in ns per byte, with three decimals or as many as its value or range has."""
     given = part.split("x")[0] if ".." in part else part
     decimals = max(DECIMALS, *(len(found) for found in re.findall(r"(?<!\.)\.(\d+)", given)), 0)
     rounded = f"{number:.{decimals}f}"
@@ -102,7 +102,7 @@ def check_limits(axis: str, numbers: Iterable[Decimal]) -> None:
 
 
 def axes_of(words: Iterable[str]) -> Axes:
-    """The axes that the words tell, in their order."""
+    """The axes of the arguments AXIS=VALUES, in their order."""
     axes: Axes = {}
     for word in words:
         axis, equals, text = word.partition("=")
@@ -151,7 +151,7 @@ def check_machines(axes: Axes) -> None:
 
 
 def note_on_cards(axes: Axes, scale: int) -> None:
-    """Says so where nothing is said of cards, and ranks are on one node. Times are `scale` times as long."""
+    """Prints a note if several ranks are on one node and no cards are given. Times are `scale` times as long."""
     for name in axes.get("machine", ()) if "cards" not in axes else ():
         cluster = read_cluster(name, scale)
         if cluster.cards is None and cluster.has_neighbours():
@@ -193,7 +193,7 @@ def with_defaults(axes: Axes) -> Axes:
 
 
 def note_on_defaults(axes: Axes, taken: Axes) -> None:
-    """Names the parameters that were not given, with what they come to."""
+    """Prints the parameters that were not given, with their defaults."""
     told = []
     for name in taken:
         if name not in axes:

@@ -1,4 +1,4 @@
-"""The run of a schedule with its stories, as `timeline` and `trace` are asked for it. Nothing of it is proved."""
+"""Loads a run of a schedule with the stories of its operations, for `timeline` and `trace`. Nothing of it is proved."""
 import argparse
 import errno
 import os
@@ -22,7 +22,7 @@ MOST_TIME = 2**63 - 1
 
 @dataclass
 class Loaded:
-    """What is drawn: the run, its stories by key, and the window that they lie in."""
+    """The run to draw, the stories of its operations by key, and the window in which they lie."""
 
     name: str
     run: Run
@@ -37,35 +37,41 @@ class Loaded:
         return ranks
 
     def messages(self) -> List[Tuple[Story, Story]]:
-        """The sends whose receives are in it too, each with its receive."""
+        """The sends whose receives are loaded too, each with its receive."""
         sends = (story for story in self.stories.values() if story.op.kind == "send" and story.stuck_from is None)
         pairs = ((story, self.stories.get(story.timed.partner) if story.timed.partner else None) for story in sends)
         return [(story, taken) for story, taken in pairs if taken and taken.busy]
 
     def is_stuck(self) -> bool:
-        """Whether something in it is stuck."""
+        """Whether an operation is stuck."""
         return any(story.never or story.stuck_from is not None for story in self.stories.values())
 
     def last_moment(self) -> int:
-        """The last end; where something is stuck, a while after the last that happens, so that it shows."""
+        """The last end; if operations are stuck, a time after the last action, so that they are visible."""
         if not self.is_stuck():
             return self.run.finish
         return max((span[1] for it in self.stories.values() for span in it.busy), default=0) * 5 // 4
 
 
 def add_run_words(parser: argparse.ArgumentParser, limit: int) -> None:
-    """The words that say which run, and what of it."""
+    """Adds the arguments that choose a run, and a part of it."""
     time = command.number(0, MOST_TIME, "ns")
-    parser.add_argument("name", metavar="NAME", help="the schedule, a text or a compiled file (- is standard input, as of the two below)")
-    parser.add_argument("--run", metavar="FILE", help="a run of it that is printed already, in place of a new one")
-    parser.add_argument("--machine", metavar="MACHINE", help="run it on this machine: MACHINE of `goal nodes`, or a description (tools/fold)")
-    parser.add_argument("-o", "--out", metavar="FILE", help="write to FILE, not to standard output")
+    parser.add_argument("name", metavar="NAME",
+                        help="the schedule: a text or a compiled file (- is standard input, also for --run and "
+                             "--machine)")
+    parser.add_argument("--run", metavar="FILE", help="use this printed run of the schedule instead of running it")
+    parser.add_argument("--machine", metavar="MACHINE",
+                        help="run it on this machine: a MACHINE of `goal nodes`, or a description (tools/machine, "
+                             "tools/fold)")
+    parser.add_argument("-o", "--out", metavar="FILE", help="write to FILE instead of standard output")
     window = parser.add_argument_group("a part of the run")
-    window.add_argument("--ranks", metavar="A-B", help="these ranks alone, as 0-7 or 0,4-5,9")
-    window.add_argument("--from", metavar="T", dest="since", type=time, default=0, help="from this time on, in ns")
-    window.add_argument("--to", metavar="T", dest="until", type=time, help="up to this time, in ns")
+    window.add_argument("--ranks", metavar="A-B", help="only these ranks, as 0-7 or 0,4-5,9")
+    window.add_argument("--from", metavar="T", dest="since", type=time, default=0, help="only from this time on, in ns")
+    window.add_argument("--to", metavar="T", dest="until", type=time, help="only up to this time, in ns")
     count = command.number(0, MOST_TIME, "operations")
-    window.add_argument("--limit", metavar="N", type=count, default=limit, help="at most so many operations; all of the ranks count where no time is chosen (%(default)s)")
+    window.add_argument("--limit", metavar="N", type=count, default=limit,
+                        help="refuse a part of the run with more than N operations; without a time, all of the ranks "
+                             "count (%(default)s)")
     add_options(parser)
     program.add_option(parser)
 
@@ -87,7 +93,7 @@ def ranks_of(text: Optional[str], count: int) -> Dict[int, None]:
 
 
 def load(arguments: argparse.Namespace) -> Loaded:
-    """The run that the words ask for."""
+    """The run that the arguments ask for."""
     try:
         options = given_options(arguments)
         check_words(arguments, options)
@@ -100,7 +106,7 @@ def load(arguments: argparse.Namespace) -> Loaded:
             counts = operation_counts(shown)
             check_limit(arguments, sum(counts.get(rank, 0) for rank in window.ranks))
         run = read_run(run_lines(arguments, options, name, text), window.ranks)
-        # (what ends in the window is seen there: so many runs are refused before their stories are made)
+        # (operations that end in the window are in it, so most runs over the limit are refused before stories are made)
         check_limit(arguments, sum(it.end is not None and window.meets(it.end, it.end) for it in run.timed.values()), " or more")
         stories = stories_of(read_canonical(shown.splitlines(), window.ranks, with_notes=False), run, costs, window)
     except ValueError as why:
@@ -110,14 +116,14 @@ def load(arguments: argparse.Namespace) -> Loaded:
 
 
 def check_words(arguments: argparse.Namespace, options: Dict[str, int]) -> None:
-    """What can be wrong with the words, before anything is read."""
+    """Refuses wrong arguments, before any file is read."""
     if arguments.until is not None and arguments.until <= arguments.since:
         raise Fault(f"--to {arguments.until} is not after --from {arguments.since}")
     check_sources(arguments, options)
 
 
 def check_sources(arguments: argparse.Namespace, options: Dict[str, int]) -> None:
-    """What can be wrong with the names of files, and with parameters beside them."""
+    """Refuses --machine with parameters, and more than one file that is standard input."""
     if arguments.machine is not None and options:
         raise Fault("--machine has its own parameters: leave out --L, --o, --g, --G, --Gp, --O, --Op and --S")
     files = [name for name in (arguments.name, arguments.run, arguments.machine) if name is not None]
@@ -126,24 +132,24 @@ def check_sources(arguments: argparse.Namespace, options: Dict[str, int]) -> Non
 
 
 def is_whole(arguments: argparse.Namespace) -> bool:
-    """Whether all times are looked at."""
+    """Whether the whole time of the run is chosen."""
     return arguments.since == 0 and arguments.until is None
 
 
 def check_limit(arguments: argparse.Namespace, seen: int, more: str = "") -> None:
-    """Keeps the limit, where so many operations are to be seen, or `more`."""
+    """Refuses `seen` operations if they are more than the limit. `more` is added to the number in the message."""
     if seen > arguments.limit:
         raise Fault(f"{seen} operations{more}, and the limit is {arguments.limit}: choose some by --ranks, --from and --to, or raise --limit")
 
 
 def check_machine(costs: Costs, ranks: int) -> None:
-    """The machine, if there is one, has as many ranks as the schedule."""
+    """Refuses a machine with another number of ranks than the schedule."""
     if isinstance(costs, Machine) and len(costs.nodes) != ranks:
         raise Fault(f"the machine has {len(costs.nodes)} ranks, and the schedule has {ranks}")
 
 
 def labels_of(name: str) -> Dict[Key, str]:
-    """The labels of the operations in the text of a schedule; none of a compiled file, nor those that `goal show` gives."""
+    """The labels in the text of a schedule, except those that `goal show` would give; none of a compiled file."""
     text = command.read_file(name)
     if text.startswith(COMPILED):
         return {}
@@ -152,7 +158,7 @@ def labels_of(name: str) -> Dict[Key, str]:
 
 
 def schedule_of(name: str, goal: str) -> Tuple[str, Optional[str]]:
-    """The name of a schedule for the program, and the text that is to be its standard input, if any."""
+    """The name of a schedule for the program, and the text for its standard input, if any."""
     if command.source(name) != command.STANDARD_INPUT:
         return name, None
     text = command.read_file(name)
@@ -180,7 +186,7 @@ def canonical_of(arguments: argparse.Namespace, text: Optional[str], name: str) 
 
 
 def run_lines(arguments: argparse.Namespace, options: Dict[str, int], name: str, text: Optional[str]) -> List[str]:
-    """The printed run: the one that is given, or a new one."""
+    """The lines of the printed run: the given one, or a new one."""
     if arguments.run is not None:
         return text_of(arguments.run).splitlines()
     if arguments.machine is not None:
@@ -189,7 +195,7 @@ def run_lines(arguments: argparse.Namespace, options: Dict[str, int], name: str,
 
 
 def machine_lines(arguments: argparse.Namespace, name: str, text: Optional[str]) -> List[str]:
-    """The printed run on a machine, which a description may have with cards that ranks share."""
+    """The lines of the printed run on a machine. In a description, ranks may share cards."""
     machine = text_of(arguments.machine)
     if is_description(machine):
         return folding.run_lines(program.chosen(arguments.goal), name, text, cluster_of(arguments.machine, machine))
@@ -199,14 +205,14 @@ def machine_lines(arguments: argparse.Namespace, name: str, text: Optional[str])
 
 
 def costs_of(arguments: argparse.Namespace, options: Dict[str, int]) -> Costs:
-    """What messages cost in the run."""
+    """The costs of messages in the run."""
     if arguments.machine is None:
         return Alike(parameters_of(options))
     return cluster_of(arguments.machine, text_of(arguments.machine)).machine
 
 
 def check_out(path: Optional[str]) -> None:
-    """Refuses a file that can not be written, before any work. It makes none."""
+    """Refuses an output file that cannot be written, before any work. It creates no file."""
     if path is not None:
         folder = os.path.dirname(path) or "."
         if os.path.isdir(path):
@@ -216,7 +222,7 @@ def check_out(path: Optional[str]) -> None:
 
 
 def write_out(text: str, path: Optional[str]) -> None:
-    """Writes a tool's text to a file, or to standard output."""
+    """Writes the output of a tool to a file, or to standard output."""
     if path is None:
         sys.stdout.write(text)
         return

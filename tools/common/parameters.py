@@ -1,7 +1,7 @@
 """The parameters of a run, as the options of goal, and what a message costs with them. Nothing of it is proved.
 
-A rate, G or O, may be one number of nanoseconds a byte with up to three decimals, 0.080 for 80 ps: goal takes it in two
-options, G and Gp.
+A rate, G or O, may be one number of ns per byte with up to three decimals, as 0.080 for 80 ps. goal itself takes it in
+two options: G in whole ns, and Gp in ps.
 """
 import argparse
 import re
@@ -12,27 +12,27 @@ from typing import Dict, Iterable, List, Protocol, Tuple
 from common.command import FACTORS
 
 DEFAULTS = {"L": 2500, "o": 1500, "g": 1000, "G": 6, "Gp": 0, "O": 0, "Op": 0, "S": 65535}
-# The greatest value of each: goal takes no greater one.
+# The greatest value of each that goal takes.
 LIMITS = {"L": 2**40 - 1, "o": 2**40 - 1, "g": 2**40 - 1, "G": 2**20 - 1, "Gp": 999, "O": 2**20 - 1, "Op": 999, "S": 2**40 - 1}
 MEANINGS = {
     "L": "latency, ns",
-    "o": "overhead a message, ns",
-    "g": "gap a message, ns",
-    "G": "gap a byte, ns, as 6 or 0.080",
-    "Gp": "picoseconds besides G",
-    "O": "overhead a byte, ns, as 0 or 0.100",
-    "Op": "picoseconds besides O",
-    "S": "greatest eager size, bytes",
+    "o": "overhead per message, ns",
+    "g": "gap per message, ns",
+    "G": "gap per byte, ns, as 6 or 0.080",
+    "Gp": "gap per byte, ps, added to a whole number for G",
+    "O": "overhead per byte, ns, as 0 or 0.100",
+    "Op": "overhead per byte, ps, added to a whole number for O",
+    "S": "greatest eager size, bytes; a message over it waits for its receive",
 }
 UNITS = {"L": "ns", "o": "ns", "g": "ns", "G": "ns per byte", "Gp": "ps per byte", "O": "ns per byte", "Op": "ps per byte", "S": "bytes"}
 # The parameters that goal splits into nanoseconds and picoseconds, and the name of the second part.
 RATES = {"G": "Gp", "O": "Op"}
-# The decimals of a rate in ns that goal takes, and those that are taken with scaled times.
+# The most decimals of a rate in ns that goal takes, and the most with scaled times.
 DECIMALS, MOST_DECIMALS = 3, 6
 
 
 def scale_for(rates: Iterable[str]) -> int:
-    """By what times are multiplied, a power of ten, so that each of these rates is a whole number of picoseconds."""
+    """The least power of ten that makes each of these rates a whole number of ps, if all times are multiplied by it."""
     decimals = [len(rate.partition(".")[2].rstrip("0")) for rate in rates]
     scale: int = 10 ** max(0, max(decimals, default=0) - DECIMALS)
     return scale
@@ -57,7 +57,7 @@ def scaled_options(name: str, text: str, scale: int) -> Dict[str, int]:
 
 
 def scaled_defaults(scale: int) -> Dict[str, int]:
-    """The parameters that goal takes where none is given, with times `scale` times as long."""
+    """The default parameters of goal, with all times multiplied by `scale`."""
     return {name: value * (scale if name != "S" else 1) for name, value in DEFAULTS.items()}
 
 
@@ -86,14 +86,14 @@ def words_of(options: Dict[str, int]) -> List[str]:
 
 
 def add_options(parser: argparse.ArgumentParser) -> None:
-    """The eight options of goal for a run."""
+    """Adds the eight options of goal for a run."""
     group = parser.add_argument_group("parameters, as those of `goal sim`")
     for name, meaning in MEANINGS.items():
         group.add_argument(f"--{name}", metavar="N", dest=f"parameter_{name}", help=f"{meaning} ({DEFAULTS[name]})")
 
 
 def given_options(arguments: argparse.Namespace) -> Dict[str, int]:
-    """The options that the words of a command line give, by name."""
+    """The options that the arguments give, by name."""
     options: Dict[str, int] = {}
     for name in DEFAULTS:
         text = getattr(arguments, f"parameter_{name}")

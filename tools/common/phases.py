@@ -1,4 +1,4 @@
-"""What each operation of a run does when: it waits, it keeps a cpu busy, it is stuck. Nothing of it is proved.
+"""The times at which each operation of a run waits, keeps a cpu busy, or is stuck. Nothing of it is proved.
 
 A printed run has the start and the end of an operation. Its ready time follows from what it needs, and how long a message
 keeps a cpu from the parameters: so the rest of its time is waiting.
@@ -41,18 +41,18 @@ class Story:
 
     @property
     def begin(self) -> Optional[int]:
-        """The first moment that is told of it, or none."""
+        """The first time of the operation, or None."""
         spans = self.waits + self.busy
         return min((span[0] for span in spans), default=self.stuck_from)
 
     @property
     def wait(self) -> int:
-        """How long it waits, as `goal waits` says: from its ready time to its last action, 0 where it has no end."""
+        """How long it waits, as in `goal waits`: from its ready time to its last action; 0 if it has no end."""
         return 0 if self.timed.end is None or self.ready is None else self.busy[-1][0] - self.ready
 
     @property
     def leaves(self) -> int:
-        """When its message goes: the end of what its cpu does for it last."""
+        """When its message leaves: at the end of the last work of its cpu for it."""
         return self.busy[-1][1]
 
     @property
@@ -62,7 +62,7 @@ class Story:
 
 
 def ready_time(key: Key, ops: Dict[Key, Op], timed: Dict[Key, Timed]) -> Optional[int]:
-    """When all that it needs has come, or none."""
+    """When all that it requires has happened, or None."""
     moments = [
         timed[key[0], number].end if by_end else timed[key[0], number].start for number, by_end in ops[key].needs
     ]

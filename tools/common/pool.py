@@ -1,4 +1,4 @@
-"""Processes that work side by side, and hand back what they found in the order of the tasks. Nothing of it is proved.
+"""Processes that work in parallel, and return their results in the order of the tasks. Nothing of it is proved.
 
 They end with the process that began them: by `terminate`, and where it is killed, as their pipe to it closes.
 """
@@ -21,7 +21,7 @@ STOPS = (signal.SIGINT, signal.SIGTERM, signal.SIGHUP)
 
 
 class Pool(Generic[Task, Found]):
-    """`jobs` processes that do `work`; of a task whose process is killed `lost` says what is found."""
+    """`jobs` processes that do `work`. If the process of a task is killed, `lost` gives its result."""
 
     def __init__(self, work: Callable[[Task], Found], lost: Found, jobs: int, folder: str) -> None:
         self.work, self.lost, self.folder = work, lost, folder
@@ -61,7 +61,7 @@ class Pool(Generic[Task, Found]):
                 try:
                     pipe.send(one[1])
                 except OSError:
-                    pass  # (it is gone, which is seen below)
+                    pass  # (the process has ended, which is noticed below)
             if not order:
                 return
             for pipe, answer in self._answers(list(busy)):

@@ -35,8 +35,9 @@ class Answer:
 
 
 def add_option(parser: argparse.ArgumentParser) -> None:
-    """Lets the user name the program."""
-    parser.add_argument("--goal", metavar="PATH", help="the program (else that of the environment's GOAL, else ../goal)")
+    """Adds the option that names the program."""
+    parser.add_argument("--goal", metavar="PATH",
+                        help="the program `goal` to run (default: $GOAL, else the one that belongs to these tools)")
 
 
 def chosen(path: str | None = None) -> str:

@@ -1,4 +1,4 @@
-"""The runs of a sweep: the schedule of a point, made once, and what its run comes to. Nothing of it is proved."""
+"""The runs of a sweep: makes the schedule of each point once, and collects the results. Nothing of it is proved."""
 from __future__ import annotations
 
 import contextlib
@@ -35,7 +35,7 @@ Key = Tuple[str, ...]
 
 @dataclass(frozen=True)
 class Result:
-    """What a run came to, or why there is none."""
+    """The results of a run, or why there are none."""
 
     finish: Time = ""
     stuck: Union[int, str] = ""
@@ -73,7 +73,7 @@ class Asked:
 
 
 def key_of(point: Point) -> Key:
-    """What tells the schedule of a point from others."""
+    """The key that identifies the schedule of a point."""
     return (point["schedule"],) if "schedule" in point else tuple(point.get(axis, "") for axis in MADE_BY)
 
 
@@ -107,7 +107,7 @@ class Runs:
 
 @contextlib.contextmanager
 def running(asked_for: Asked, jobs: int) -> Iterator[Runs]:
-    """Runs whose processes end with this block, however that ends."""
+    """Runs whose processes end with this block, also after an exception."""
     runs = Runs(asked_for, jobs)
     try:
         yield runs
@@ -272,7 +272,7 @@ def run_on_machine(asked_for: Asked, path: str, point: Point) -> Result:
     if is_whole:
         shared = (cards or cluster.cards or Cards()) if is_described else Cards()
         whole = whole_of(asked_for.goal, path, None, {}, lines, cluster.machine, shared)
-        # (`goal waits` takes parameters alone)
+        # (`goal waits` takes no machine)
         wait = unscaled(max((story.wait for story in whole.stories.values()), default=0), scale) if asked_for.wait else ""
         shares = shares_in(whole, scale) if asked_for.shares else {}
     return Result(unscaled(run.finish, scale), run.stuck, wait, protocol_of(path, 0, cluster.machine), shares=shares)

@@ -49,7 +49,7 @@ def changed(costs: Parameters, name: str, value: int) -> Parameters:
 
 
 class Reruns:
-    """The finish of a schedule by the value of a knob, where that is run: none where something is stuck, or goal takes no such value."""
+    """The finish of a schedule for values of a knob; None if an operation is stuck or goal refuses the value."""
 
     def __init__(self, whole: Whole) -> None:
         self.whole = whole
@@ -79,7 +79,7 @@ class Reruns:
             return finish_of(program.call(whole.goal, ["nodes", whole.source, file.name], whole.text))
 
     def is_monotone(self, knob: Knob) -> bool:
-        """Whether a greater value gave no lesser finish, as far as it was run."""
+        """Whether, in the runs so far, no greater value gave a lesser finish."""
         found = [finish for _, finish in sorted(self.seen.get(knob, {}).items()) if finish is not None]
         return found == sorted(found)
 
@@ -111,7 +111,8 @@ class Reached:
 
 
 def reach(reruns: Reruns, knob: Knob, wanted: int) -> Optional[Reached]:
-    """By halving, a value with which the finish is at most the wanted one, and with one more it is not; none where 0 does not do."""
+    """By bisection, a value with a finish of at most the wanted one, while the next value exceeds it; None if 0
+    exceeds it."""
 
     def fits(value: int) -> bool:
         finish = reruns.finish(knob, value)

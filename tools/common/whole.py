@@ -1,4 +1,4 @@
-"""The whole run of a schedule with the causes of its times, as a tool is asked for it. Nothing of it is proved."""
+"""Loads a whole run of a schedule with the causes of its times, for `path` and other tools. Nothing of it is proved."""
 from __future__ import annotations
 
 import argparse
@@ -19,19 +19,24 @@ from common.printed_run import Run, Timed, read_run
 
 
 def add_whole_words(parser: argparse.ArgumentParser) -> None:
-    """The words that say which run, where all of it is looked at."""
-    parser.add_argument("name", metavar="NAME", help="the schedule, a text or a compiled file (- is standard input, as of the two below)")
-    parser.add_argument("--run", metavar="FILE", help="a run of it that is printed already, in place of a new one")
-    parser.add_argument("--machine", metavar="MACHINE", help="run it on this machine: MACHINE of `goal nodes`, or a description (tools/fold)")
+    """Adds the arguments that choose a run, for tools that read all of it."""
+    parser.add_argument("name", metavar="NAME",
+                        help="the schedule: a text or a compiled file (- is standard input, also for --run and "
+                             "--machine)")
+    parser.add_argument("--run", metavar="FILE", help="use this printed run of the schedule instead of running it")
+    parser.add_argument("--machine", metavar="MACHINE",
+                        help="run it on this machine: a MACHINE of `goal nodes`, or a description (tools/machine, "
+                             "tools/fold)")
     add_options(parser)
     program.add_option(parser)
 
 
 @dataclass
 class Whole:
-    """A run of a schedule. Where the ranks of a node share cards, it is that of the folded schedule (tools/fold), and `names` has the
-    rank and the number of each operation in the schedule of the user. `source` and `text` are what the program reads: the name of a
-    file, and its standard input, if any. `shown` is the canonical text of the schedule of the user."""
+    """A run of a schedule. If the ranks of a node share cards, it is a run of the folded schedule (tools/fold), and
+    `names` has the rank and number of each operation in the schedule of the user. The program reads the file
+    `source`, and `text` as its standard input, if there is one. `shown` is the canonical text of the schedule of the
+    user."""
 
     goal: str
     source: str
@@ -66,8 +71,8 @@ class Whole:
 
 
 def load_whole(arguments: argparse.Namespace, wanted: Optional[Key] = None) -> Whole:
-    """The run that the words ask for. What is wrong with the words beside the schedule is found before it begins, so that there is no
-    operation that is wanted."""
+    """The run that the arguments ask for. Wrong arguments, such as an operation that does not exist, are found before
+    the run starts."""
     try:
         options = given_options(arguments)
         check_sources(arguments, options)
@@ -87,7 +92,8 @@ def whole_of(
     goal: str, source: str, text: Optional[str], options: Dict[str, int], lines: List[str], costs: Costs, cards: Cards,
     shown: Optional[List[str]] = None
 ) -> Whole:
-    """The whole of a printed run: of one on a machine, where ranks share these cards. `shown` is the canonical text, if it is there."""
+    """The whole of a printed run. On a machine, ranks share these cards. `shown` is the canonical text, if it is
+    known."""
     run, shown = read_run(lines), shown or shown_by(goal, source, text)
     if not cards.count or not isinstance(costs, Machine):
         return Whole(goal, source, text, options, *told(read_canonical(shown, with_notes=False), run, costs), {}, shown)
