@@ -1,6 +1,10 @@
-"""answer.py -- WORD..: answers where the program is not known to be current; `goal` runs it. answer.py --where: prints the path of a
-program that is proved from the sources as they are, for those that call it often; with GOAL_PROVED=1 it waits for the proof. Status
-9: there is none. What it does is in launcher.py."""
+"""answer.py -- WORD..: answers the command line WORD.. of `goal` while it is not known that the program is up to date.
+`goal` runs it.
+
+answer.py --where: prints the path of a program that is proved from the current sources. Callers that run `goal` often
+ask for it once. With GOAL_PROVED=1 it waits for the proof; otherwise exit status 9 means that there is no such program.
+
+launcher.py does the work. Nothing of this is proved."""
 import os
 
 try:
@@ -10,5 +14,5 @@ try:
 
     sys.exit(launcher.main(sys.argv[1:]))
 except KeyboardInterrupt:
-    # (where env could not have the interrupt wait)
+    # (if env could not block the interrupt until here)
     os._exit(130)

@@ -1,9 +1,10 @@
-"""explain.py PROGRAM STATUS WORD..: what the launcher knows of a failure and the program's line does not say, on standard error.
+"""explain.py PROGRAM STATUS WORD..: explains on standard error why PROGRAM with the words WORD.. ended with STATUS.
 
-The program says one line that its rules fix, and ends with 2 (no command line), 3 (refused) or 4 (reading failed). Where a person
-reads it, which is where standard error is a terminal or GOAL_EXPLAIN=1 is set, the launcher adds a line: the word at fault and what
-may stand there, the file that can not be read and why, or the place of a byte by line and column. Elsewhere not a byte is added.
-Nothing of this is proved: the rules are those of docs/COMMANDS.md, and the tests compare them with the program."""
+The program itself prints one line, which its rules fix, and ends with 2 (wrong command line), 3 (refused) or 4 (reading
+failed). If standard error is a terminal, or GOAL_EXPLAIN=1 is set, the launcher adds a line: the wrong word and what is
+expected there, the file that cannot be read and why, or the line and column of a byte. Otherwise it adds nothing.
+
+Nothing of this is proved. The rules are those of docs/COMMANDS.md, and tests compare them with the program."""
 from __future__ import annotations
 
 import difflib
@@ -16,7 +17,7 @@ import sys
 from typing import Dict, List, Mapping, NamedTuple, NoReturn, Optional, Sequence, Tuple
 
 TOP = os.path.dirname(os.path.dirname(os.path.abspath(__file__)))
-# The file of an installation that says what it was installed from.
+# The file of an installation that names the sources it was installed from.
 VERSION = os.path.join(TOP, "VERSION")
 BAD_LINE, REFUSED, READ_FAULT = 2, 3, 4
 EXPLAINED = (BAD_LINE, REFUSED, READ_FAULT)
@@ -28,28 +29,28 @@ RUN_OPTIONS: Dict[str, Tuple[int, str]] = {
     "--O": (2**20 - 1, PER_BYTE), "--Op": (999, PICOS), "--S": (2**40 - 1, BYTES),
 }
 ROOT_OPTION: Dict[str, Tuple[int, str]] = {"--root": (65535, "a rank")}
-# The plain words of each command, its options, and what it is for.
+# The arguments of each command, its options, and what it does.
 COMMANDS: Dict[str, Tuple[Tuple[str, ...], Dict[str, Tuple[int, str]], str]] = {
-    "sim": (("NAME",), RUN_OPTIONS, "runs a schedule: when each operation starts and ends, and with whom"),
-    "waits": (("NAME",), RUN_OPTIONS, "how long its operations wait"),
-    "knots": (("NAME",), RUN_OPTIONS, "what holds up all else, where it hangs"),
-    "nodes": (("NAME", "MACHINE"), {}, "runs it on a machine with several classes of messages"),
-    "compile": (("NAME", "OUT"), {}, "writes its compiled file"),
-    "show": (("NAME",), {}, "prints its canonical text"),
+    "sim": (("NAME",), RUN_OPTIONS, "runs a schedule: prints start, end and partner of each operation"),
+    "waits": (("NAME",), RUN_OPTIONS, "runs a schedule: prints how long its operations wait"),
+    "knots": (("NAME",), RUN_OPTIONS, "runs a schedule: prints which operations hold up a hang"),
+    "nodes": (("NAME", "MACHINE"), {}, "runs a schedule on a machine with several classes of messages"),
+    "compile": (("NAME", "OUT"), {}, "writes the compiled file of a schedule"),
+    "show": (("NAME",), {}, "prints the canonical text of a schedule"),
     "gen": (("KIND", "RANKS", "BYTES"), ROOT_OPTION, "prints the schedule of a collective"),
-    "certify": (("KIND", "NAME"), ROOT_OPTION, "whether a schedule does what a collective wants"),
-    "probe": (("ROUNDS", "SEED"), RUN_OPTIONS, "runs a schedule that is drawn at random"),
+    "certify": (("KIND", "NAME"), ROOT_OPTION, "decides whether a schedule implements a collective"),
+    "probe": (("ROUNDS", "SEED"), RUN_OPTIONS, "runs a schedule of 64 ranks that is drawn from SEED"),
 }
-# The limits of the plain words that are numbers.
+# The limits of the arguments that are numbers.
 NUMBERS: Dict[str, Tuple[int, int, str]] = {
     "RANKS": (1, 65536, "ranks"), "BYTES": (0, 2**40 - 1, BYTES), "ROUNDS": (1, 300000, "rounds"), "SEED": (0, 2**64 - 1, "a seed")}
 KINDS = ("bcast", "barrier", "allgather", "allreduce", "alltoall", "reduce", "gather", "scatter", "reduce_scatter", "scan")
 ROOTED = ("bcast", "reduce", "gather", "scatter")
 READ = ("NAME", "MACHINE")
 STANDARD_INPUT = "/dev/stdin"
-# By the number of a word, the file that has what the device of this name gave.
+# For the number of a word that names a device, the file with the bytes that the device gave.
 Copies = Mapping[int, str]
-# How files begin that are something else.
+# The first bytes of files of other kinds, and what to say about them.
 MARKS = ((b"\xef\xbb\xbf", "begins with a byte-order mark: save it as UTF-8 without one"), (b"\xff\xfe", "is UTF-16: save it as UTF-8"),
          (b"\xfe\xff", "is UTF-16: save it as UTF-8"), (b"\x1f\x8b", "is packed by gzip: unpack it first"),
          (b"PK\x03\x04", "is a zip file: unpack it first"))
@@ -58,27 +59,27 @@ LONGEST = 40
 
 
 def form_of(command: str) -> str:
-    """The form of a command's line."""
+    """The usage line of a command."""
     plain, options, _ = COMMANDS[command]
     told = " ".join(f"[{name} N]" for name in options)
     return f"goal {command} {' '.join(plain)}" + (f" {told}" if told else "")
 
 
 def shown(word: str) -> str:
-    """A word as it is told: one that is empty or has blanks in quotes, a long one cut."""
+    """A word for a message: in quotes if it is empty or has blanks, cut if it is long."""
     cut = word if len(word) <= LONGEST else word[:LONGEST] + ".."
     return cut if re.fullmatch(r"[!-~]+", cut) else repr(cut)
 
 
 def commands() -> List[str]:
-    """The commands in ten lines."""
+    """The list of commands, in ten lines."""
     width = max(len(f"{name} {' '.join(plain)}") for name, (plain, _, _) in COMMANDS.items())
     return ["the commands; docs/COMMANDS.md has their options and statuses",
             *(f"  goal {f'{name} ' + ' '.join(plain):{width}}  {what}" for name, (plain, _, what) in COMMANDS.items())]
 
 
 def version() -> List[str]:
-    """The version of the sources; of an installation, what `./install` has noted."""
+    """The version of the sources; in an installation, the file that `./install` wrote."""
     try:
         with open(VERSION, encoding="utf-8") as file:
             return file.read().splitlines()
@@ -87,7 +88,7 @@ def version() -> List[str]:
 
 
 def checkout() -> str:
-    """The version of the sources that are here."""
+    """The version of the sources in this checkout."""
     try:
         said = subprocess.run(["git", "-C", TOP, "describe", "--always", "--dirty", "--tags"], capture_output=True, text=True, check=False)
     except OSError:
@@ -96,13 +97,13 @@ def checkout() -> str:
 
 
 def near(word: str, names: Sequence[str]) -> str:
-    """The name that is meant, if one is like the word."""
+    """A question with the most similar name, or the list of names if none is similar."""
     alike = [name for name in names if name.lower() == word.lower()] or difflib.get_close_matches(word, names, 1, 0.6)
     return f": is it {alike[0]}?" if alike else f": it is one of {' '.join(names)}"
 
 
 def number_fault(word: str, low: int, high: int, unit: str) -> Optional[str]:
-    """What is wrong with a number."""
+    """What is wrong with a number, or None."""
     what = unit if unit.startswith("a ") else f"in {unit}"
     if re.fullmatch("[0-9]{1,20}", word):
         if low <= int(word) <= high:
@@ -119,7 +120,7 @@ def number_fault(word: str, low: int, high: int, unit: str) -> Optional[str]:
 
 
 def line_fault(words: Sequence[str]) -> Optional[str]:
-    """What is wrong with the words as a command line, or None where they are one."""
+    """What is wrong with a command line, or None if it is valid."""
     if not words:
         return "there is no word"
     if words[0] not in COMMANDS:
@@ -129,7 +130,7 @@ def line_fault(words: Sequence[str]) -> Optional[str]:
 
 
 def words_fault(words: Sequence[str]) -> Optional[str]:
-    """What is wrong with the words after those of a command."""
+    """What is wrong with the arguments and options of a command, or None."""
     names, options, _ = COMMANDS[words[0]]
     plain: List[Tuple[int, str]] = []
     root: Optional[int] = None
@@ -160,7 +161,7 @@ def words_fault(words: Sequence[str]) -> Optional[str]:
 
 
 def plain_fault(names: Sequence[str], plain: Sequence[Tuple[int, str]]) -> Optional[str]:
-    """What is wrong with the words that are no options."""
+    """What is wrong with the arguments, or None. Options are left out here."""
     for name, (place, word) in zip(names, plain):
         fault = None
         if name == "KIND" and word not in KINDS:
@@ -178,14 +179,14 @@ def plain_fault(names: Sequence[str], plain: Sequence[Tuple[int, str]]) -> Optio
 
 
 def root_fault(plain: Sequence[Tuple[int, str]], root: Optional[int]) -> Optional[str]:
-    """What is wrong with a root."""
+    """What is wrong with --root, or None."""
     if root is not None and plain[0][1] not in ROOTED:
         return f"word {root}: --root goes with {' '.join(ROOTED)} alone, and not with {plain[0][1]}"
     return None
 
 
 class File(NamedTuple):
-    """A file that a command line reads: what it is (NAME or MACHINE), its name there, and where its bytes are."""
+    """A file that a command line reads: its argument (NAME or MACHINE), its name, and the path of its bytes."""
 
     what: str
     name: str
@@ -199,7 +200,7 @@ def files_of(words: Sequence[str], copies: Copies) -> List[File]:
 
 
 def reading_fault(files: Sequence[File]) -> Optional[str]:
-    """Why a file can not be read."""
+    """Why one of the files cannot be read, or None."""
     for _, name, path in files:
         try:
             with open(os.open(path, os.O_RDONLY | os.O_NONBLOCK), "rb") as file:
@@ -216,7 +217,7 @@ def reading_fault(files: Sequence[File]) -> Optional[str]:
 
 
 def is_read_once(file: File) -> bool:
-    """Whether the file is there, and gave its bytes once."""
+    """Whether the file exists but is no plain file, so that it gives its bytes only once."""
     try:
         return not stat.S_ISREG(os.stat(file.path).st_mode)
     except OSError:
@@ -224,7 +225,7 @@ def is_read_once(file: File) -> bool:
 
 
 def content_of(file: File) -> Optional[bytes]:
-    """The bytes of a file that can be read again, else None."""
+    """The bytes of a file if it can be read again, else None."""
     try:
         if is_read_once(file):
             return None
@@ -235,7 +236,7 @@ def content_of(file: File) -> Optional[bytes]:
 
 
 def place_of(name: str, text: bytes, byte: int) -> str:
-    """The line and column of a byte, and the word there."""
+    """The line and column of a byte, and the word at it."""
     start = text.rfind(b"\n", 0, byte) + 1
     column = len(text[start:byte].decode("utf-8", "replace")) + 1
     found = re.match(rb"[A-Za-z0-9_]+|[^ \t\r\n]", text[byte:byte + 200])
@@ -244,7 +245,7 @@ def place_of(name: str, text: bytes, byte: int) -> str:
 
 
 def odd_content(what: str, name: str, text: bytes) -> Optional[str]:
-    """What the file is, where it is none of its kind at all."""
+    """What the file is, if it is clearly of another kind; else None."""
     words = text.split(None, 1)[:1]
     first = words[0] if words else b""
     for mark, told in MARKS:
@@ -264,7 +265,7 @@ def odd_content(what: str, name: str, text: bytes) -> Optional[str]:
 
 
 def refusal_fault(files: Sequence[File], said: str) -> Optional[str]:
-    """What more is known of a refusal, which the program said in that line."""
+    """An explanation of a refusal with the line `said`, or None."""
     gone = next((file for file in files if is_read_once(file)), None)
     if gone:
         how = "came through a pipe" if stat.S_ISFIFO(os.stat(gone.path).st_mode) else "is a device"
@@ -298,7 +299,7 @@ def refusal_fault(files: Sequence[File], said: str) -> Optional[str]:
 
 
 def operation_of(name: str, text: bytes, rest: str) -> Optional[str]:
-    """Where the operation, dependency or note of a refusal of the plan stands."""
+    """The place in the text of the operation, dependency or note that a refusal names, or None."""
     found = re.fullmatch(r"(peer|cycle|dependency|note) (\d+) (\d+)", rest)
     if not found or text.startswith(b"\x89"):
         return None
@@ -309,7 +310,7 @@ def operation_of(name: str, text: bytes, rest: str) -> Optional[str]:
 
 
 def explain(words: Sequence[str], status: int, said: str = "", copies: Copies = {}) -> List[str]:
-    """The lines that are added where the program has ended with this status, and said this line for a refusal."""
+    """The lines to add if the program ended with this status. `said` is its line for a refusal."""
     if status == BAD_LINE and (not words or words[0] in ("--help", "-h", "help")):
         return commands()
     if status == BAD_LINE and words[0] in ("--version", "-V", "version"):
@@ -325,12 +326,12 @@ def explain(words: Sequence[str], status: int, said: str = "", copies: Copies = 
 
 
 def is_wanted() -> bool:
-    """Whether a person reads standard error."""
+    """Whether explanations are wanted: a person reads standard error, or GOAL_EXPLAIN=1 is set."""
     return os.environ.get("GOAL_EXPLAIN") == "1" or os.isatty(2)
 
 
 def say(lines: Sequence[str]) -> None:
-    """Writes lines on standard error, if that can be."""
+    """Writes lines on standard error; ignores failures."""
     try:
         os.write(2, b"".join(os.fsencode(f"{line if line.startswith('  ') else f'goal: {line}'}\n") for line in lines))
     except OSError:
@@ -338,7 +339,7 @@ def say(lines: Sequence[str]) -> None:
 
 
 def said_again(program: str, words: Sequence[str], copies: Copies) -> str:
-    """The line of a refusal, which the program says again where all that it reads can be read again."""
+    """The line of a refusal, from a second run. Empty if an input cannot be read again."""
     if any(is_read_once(file) for file in files_of(words, copies)):
         return ""
     how = None if STANDARD_INPUT in words else subprocess.DEVNULL
@@ -347,18 +348,18 @@ def said_again(program: str, words: Sequence[str], copies: Copies) -> str:
 
 
 def called(program: str, words: Sequence[str], copies: Copies) -> List[str]:
-    """The call of the program, with the copies of devices in their places."""
+    """The call of the program, with copies instead of devices."""
     return [program, *(copies.get(at, word) for at, word in enumerate(words))]
 
 
 def explain_ended(program: str, words: Sequence[str], status: int, copies: Copies = {}) -> None:
-    """Says what is added where the program has ended."""
+    """Adds the explanation for a program that has ended."""
     said = said_again(program, words, copies) if status == REFUSED and words and words[0] in COMMANDS else ""
     say(explain(words, status, said, copies))
 
 
 def become(program: str, words: Sequence[str], copies: Copies = {}) -> NoReturn:
-    """Becomes the program; where a person reads, runs it and adds what is known of a failure."""
+    """Becomes the program. If explanations are wanted, it runs the program and explains a failure instead."""
     if not is_wanted():
         os.execv(program, called(program, words, copies))
     status = subprocess.run(called(program, words, copies), check=False, close_fds=False).returncode

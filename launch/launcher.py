@@ -1,8 +1,11 @@
-"""Answers where the program is not known to be current.
+"""Answers command lines of `goal` while it is not known that the program is up to date.
 
-Where the contents of the sources are those that the program was proved from, the program answers. Else the proof goes on in the
-background (prove.py), one per checkout. Until it is done the answer comes from the sources, by `rt try`. Where that gives none, or
-GOAL_PROVED=1 is set, this waits for the proved program. Exit status 9: there is no proof. Nothing of this is proved."""
+- If the program was proved from sources with the current contents, the program answers.
+- Otherwise a proof runs or starts in the background (prove.py), one per checkout. Until it ends, `rt try` answers from
+  the sources.
+- If that gives no answer, or if GOAL_PROVED=1 is set, the call waits for the proved program.
+
+Exit status 9: there is no proof. Nothing of this is proved."""
 from __future__ import annotations
 
 import fcntl
@@ -20,20 +23,20 @@ import sources
 from sources import BEGUN, PROGRAM, PROOF, TOP, text_of
 from trial import Trial, say
 
-# The lock is held by the process that proves.
+# The process that proves holds the lock.
 LOCK, LOG = f"{PROOF}/lock", f"{PROOF}/log"
 # The digest of sources whose proof failed, the kit, and why it failed.
 FAILED = f"{PROOF}/failed"
 NO_PROOF, NO_TEXT = 9, 8
 SIGNALS = (signal.SIGTERM, signal.SIGHUP, signal.SIGINT)
 LOOK_SECONDS = 0.1
-# How the log says how far the proof is.
+# The lines of the log that report progress.
 PROGRESS = re.compile(r"(?m)^goal: (\d+ of \d+ crates proved after .*)$")
 TO_PROVE = re.compile(r"(?m)^goal: (\d+) crates to prove$")
 
 
 def held(path: str) -> IO[str] | None:
-    """The file with its lock, or None where another process holds that."""
+    """The file with its lock, or None if another process holds the lock."""
     file = open(path, "a", encoding="utf-8")
     try:
         fcntl.flock(file, fcntl.LOCK_EX | fcntl.LOCK_NB)
@@ -44,14 +47,14 @@ def held(path: str) -> IO[str] | None:
 
 
 class Proof:
-    """The proof of this checkout, as this call sees it."""
+    """The proof of this checkout, seen from this call."""
 
     def __init__(self, is_tried_again: bool) -> None:
         self.is_tried_again, self.is_begun, self.told = is_tried_again, False, 0
 
     def is_done(self) -> bool:
-        """Whether the program is proved. Starts the proof where none goes on; ends this process where it failed."""
-        # (first the lock, so that no proof can end between these questions)
+        """Whether the program is proved. Starts a proof if none runs; ends this process if the proof failed."""
+        # (the lock comes first, so that no proof can end between the checks below)
         lock = held(LOCK)
         if not lock:
             return False
@@ -73,7 +76,7 @@ class Proof:
         return False
 
     def begin(self, lock: IO[str]) -> None:
-        """Starts the proof, which holds the lock from here on."""
+        """Starts the proof, which then holds the lock."""
         self.is_begun, self.told = True, 0
         if os.path.exists(FAILED):
             os.remove(FAILED)
@@ -85,7 +88,7 @@ class Proof:
         lock.close()
 
     def how_far(self) -> str:
-        """How far it is, in a line."""
+        """The progress of the proof, in one line."""
         said = text_of(LOG)
         self.told, begun = len(PROGRESS.findall(said)), BEGUN if os.path.exists(BEGUN) else PROOF
         count = TO_PROVE.findall(said)
@@ -93,21 +96,21 @@ class Proof:
         return f"{self.told}{f' of {count[0]}' if count else ''} crates proved after {minutes} min; log {LOG}"
 
     def tell(self) -> None:
-        """Says each crate that was proved since it was last said how far it is."""
+        """Prints a line for each crate that was proved since the last progress line."""
         for line in PROGRESS.findall(text_of(LOG))[self.told :]:
             say(line)
             self.told += 1
 
 
 def is_taken_from_gate() -> bool:
-    """Whether `rt ci` proved the program that is here from the sources as they are."""
+    """Whether `rt ci` proved the existing program from the current sources."""
     import prove
 
     return prove.take_from_gate()
 
 
 class Call:
-    """This call: its words, and what it began, which ends with it."""
+    """This call: its words, and what it started, which ends with it."""
 
     def __init__(self, words: list[str]) -> None:
         self.words, self.folder = words, tempfile.mkdtemp(prefix="goal-")
@@ -116,7 +119,7 @@ class Call:
             signal.signal(number, self.interrupted)
 
     def interrupted(self, number: int, _: object) -> None:
-        """Ends this process by a signal, where it stands: with no other exception, and no word."""
+        """Handles a signal: ends this process at once, without an exception and without output."""
         for each in SIGNALS:
             signal.signal(each, signal.SIG_IGN)
         if self.trial:
@@ -125,14 +128,14 @@ class Call:
         os._exit(128 + number)
 
     def end(self) -> None:
-        """Ends what it began."""
+        """Ends what this call started."""
         if self.trial:
             self.trial.stop()
             self.trial.wait()
         shutil.rmtree(self.folder, ignore_errors=True)
 
     def run_program(self) -> None:
-        """Becomes the proved program. A device that was read is read from its copy."""
+        """Becomes the proved program, which reads copies of the devices that were read already."""
         copies = {}
         for number, path in self.trial.copies.items() if self.trial else ():
             given = os.open(path, os.O_RDONLY)
@@ -142,14 +145,14 @@ class Call:
         become(self.words, copies)
 
     def explain(self, status: int) -> None:
-        """Adds what is known of a failure of the answer from the sources, where a person reads."""
+        """Explains a failure of the answer from the sources, if a person reads it."""
         import explain
 
         if self.trial and status in explain.EXPLAINED and explain.is_wanted():
             explain.say(explain.explain(self.words, status, self.trial.said, self.trial.copies))
 
     def status_from_sources(self, proof: Proof) -> int | None:
-        """The status of an answer from the sources, or None where the proof is done first, or where there is none."""
+        """The status of an answer from the sources. None if there is no such answer, or if the proof ends first."""
         self.trial = trial = Trial(self.words, self.folder)
         if not trial.can_be:
             return None
@@ -157,7 +160,7 @@ class Call:
         turn = None
         while not proof.is_done():
             if not trial.ran:
-                # (one at a time per checkout, so that many calls leave the cores to the proof)
+                # (one trial at a time per checkout, so that many calls leave the cores to the proof)
                 turn = held(f"{PROOF}/trial")
                 if turn:
                     trial.begin()
@@ -174,10 +177,10 @@ class Call:
 
 
 def become(words: list[str], copies: dict[int, str] | None = None) -> None:
-    """Becomes the proved program, with the copies of devices by the numbers of the words that name them."""
+    """Becomes the proved program. `copies` has the copy of each device, by the number of the word that names it."""
     for number in (signal.SIGPIPE, *SIGNALS):
         signal.signal(number, signal.SIG_DFL)
-    # (large pages, as `goal` asks for them)
+    # (huge pages, for which `goal` also asks)
     os.environ.setdefault("GLIBC_TUNABLES", "glibc.malloc.hugetlb=1")
     import explain
 
@@ -185,7 +188,7 @@ def become(words: list[str], copies: dict[int, str] | None = None) -> None:
 
 
 def wait_for(proof: Proof) -> None:
-    """Waits until the program is proved, and says how far that is."""
+    """Waits until the program is proved, and reports progress."""
     say(f"waiting for the proof: {proof.how_far()}")
     while not proof.is_done():
         proof.tell()
@@ -194,7 +197,7 @@ def wait_for(proof: Proof) -> None:
 
 
 def answer(words: list[str]) -> int:
-    """The status of the answer to these words; often this process becomes the program that has it."""
+    """The status of the answer to these words. Often this process becomes the program that answers."""
     os.makedirs(PROOF, exist_ok=True)
     waits = os.environ.get("GOAL_PROVED") == "1"
     proof, call = Proof(waits), Call(words)
@@ -216,7 +219,7 @@ def answer(words: list[str]) -> int:
 
 
 def is_text(word: str) -> bool:
-    """Whether a word of the command line is UTF-8, as the program wants it."""
+    """Whether a word of the command line is UTF-8, which the program requires."""
     try:
         os.fsencode(word).decode("utf-8")
         return True
@@ -225,7 +228,7 @@ def is_text(word: str) -> bool:
 
 
 def where() -> int:
-    """Prints the path of a program that is proved; the status."""
+    """Prints the path of a proved program. Returns the exit status."""
     if not sources.is_current():
         os.makedirs(PROOF, exist_ok=True)
         proof = Proof(True)
@@ -239,12 +242,12 @@ def where() -> int:
 
 
 def main(words: list[str]) -> int:
-    """The status of an answer to these words."""
+    """Answers these words. Returns the exit status."""
     for it in SIGNALS:
         signal.signal(it, lambda number, _: os._exit(128 + number))
-    # (`goal` has an interrupt wait for this)
+    # (`goal` blocks the interrupt until here)
     signal.pthread_sigmask(signal.SIG_UNBLOCK, {signal.SIGINT})
-    # (a standard stream that is closed cannot be written, and no file takes its place)
+    # (a closed standard stream stays unwritable, and no later file gets its number)
     for number in range(3):
         try:
             os.fstat(number)

@@ -1,8 +1,13 @@
-"""sources.py begin|end: what the program is proved from, and whether that is what is here now. `.ci/run` calls it around `rt ci`.
+"""sources.py begin|end: records from which sources the program is proved, and compares them with the current sources.
 
-A program is current by content. Beside it there is a record with three lines: the digest of its sources, the line that names the kit,
-and the digest of the program. There is also a check, which compares sizes, times and inodes with those of when the contents were last
-read. `goal` runs the check at each call, and where it fails the contents are read again (answer.py). Nothing of this is proved."""
+`.ci/run` calls it before and after `rt ci`. A program is current if the contents of its sources are unchanged. Files
+beside the program show that:
+
+- the record: the digest of its sources, the line that names the kit, and the digest of the program;
+- the check: sizes, times and inodes at the time when the contents were last read. `goal` compares these at each call.
+  If they differ, answer.py reads the contents again.
+
+Nothing of this is proved."""
 from __future__ import annotations
 
 import hashlib
@@ -17,19 +22,19 @@ from typing import Iterator
 TOP = os.path.dirname(os.path.dirname(os.path.abspath(__file__)))
 PROGRAM = f"{TOP}/crates/goal_prog/out/goal_prog"
 PROOF = f"{TOP}/.proof"
-# The sources, the kit, and all times and inodes, as they were when the proof began that goes on or that was stopped.
+# The state of sources and kit, with all times and inodes, at the start of the proof that runs or was stopped.
 BEGUN = f"{PROOF}/begun"
 RECORD, CHECK = f"{PROGRAM}.proved", f"{PROGRAM}.check"
 PARTS = ("src", "specs", "proofs")
-# The check is so many calls of stat(1) at once.
+# The check runs this many calls of stat(1) in parallel.
 CALLS = 3
 FORMAT = "%s %.9Y %.9Z %i"
-# A file that changed less than this ago may change again with the same time: two ticks of a slow clock.
+# A file that changed less than this ago may change again without a new time: two ticks of a slow clock.
 TICK_NS = 20_000_000
 
 
 def text_of(path: str) -> str:
-    """What a small file holds, without the blanks around it; nothing where it cannot be read."""
+    """The contents of a small file, without surrounding blanks; empty if it cannot be read."""
     try:
         with open(path, encoding="utf-8", errors="replace") as file:
             return file.read().strip()
@@ -38,7 +43,7 @@ def text_of(path: str) -> str:
 
 
 def put(path: str, text: str) -> None:
-    """Writes a file so that no other process meets half of it."""
+    """Writes a file atomically: no other process sees a part of it."""
     new = f"{path}.{os.getpid()}"
     with open(new, "w", encoding="utf-8", errors="surrogateescape") as file:
         file.write(text)
@@ -46,7 +51,7 @@ def put(path: str, text: str) -> None:
 
 
 def used() -> list[str]:
-    """The crates that the program uses, and its own."""
+    """The crate of the program, and all crates that it uses."""
     lines = [line.partition("#")[0].partition(":") for line in text_of(f"{TOP}/crates.txt").split("\n")]
     uses = {name.strip(): deps.split() for name, _, deps in lines}
     found, left = set(), ["goal_prog"]
@@ -69,7 +74,7 @@ def sources() -> Iterator[str]:
 
 
 def sum_of(path: str) -> str:
-    """The digest of a plain file's bytes; of another thing what it is."""
+    """The digest of a plain file's bytes; for anything else, its file type."""
     mode = os.lstat(path).st_mode
     if not stat.S_ISREG(mode):
         return oct(stat.S_IFMT(mode))
@@ -78,7 +83,7 @@ def sum_of(path: str) -> str:
 
 
 def digest() -> str:
-    """The digest of all sources, by name and content. A source that cannot be read counts as another."""
+    """The digest of all sources, by name and content. A source that cannot be read counts as changed."""
     found = hashlib.sha256()
     for name in sources():
         try:
@@ -90,19 +95,19 @@ def digest() -> str:
 
 
 def kit_file() -> str | None:
-    """The file with the line that names the kit, as `rt version` prints it; None where there is no kit."""
+    """The file with the line that names the kit, which `rt version` prints; None without a kit."""
     command = shutil.which("rt")
     return f"{os.path.dirname(os.path.dirname(os.path.realpath(command)))}/KIT-ID" if command else None
 
 
 def kit() -> str:
-    """The line that names the kit; nothing where there is no kit."""
+    """The line that names the kit; empty without a kit."""
     path = kit_file()
     return text_of(path).partition("\n")[0] if path else ""
 
 
 def line_of(path: str) -> str:
-    """What `stat -c` says of a file with FORMAT; nothing where it is not there."""
+    """The output of `stat -c` for a file with FORMAT; empty if the file does not exist."""
     try:
         it = os.lstat(os.path.join(TOP, path))
     except OSError:
@@ -112,19 +117,19 @@ def line_of(path: str) -> str:
 
 
 def state() -> str:
-    """The digest of the sources, the kit, and what stat says of each source."""
+    """The digest of the sources, the kit, and a line of stat for each source."""
     lines = [line_of(it) for it in sources()]
     return "\n".join([digest(), kit(), *lines])
 
 
 def is_of(recorded: str) -> bool:
-    """Whether the sources and the kit are those of a text that begins with a digest and a kit. With no kit here there is no other."""
+    """Whether a text begins with the digest of the current sources and the current kit. Without a kit, any kit fits."""
     lines = [*recorded.split("\n"), "", ""]
     return lines[0] == digest() and kit() in ("", lines[1])
 
 
 def is_recorded() -> bool:
-    """Whether the record is one of this program, of whatever sources."""
+    """Whether the record is of this program, whatever its sources."""
     try:
         return text_of(RECORD).split("\n")[2:] == [sum_of(PROGRAM)]
     except OSError:
@@ -132,20 +137,20 @@ def is_recorded() -> bool:
 
 
 def checked() -> list[str]:
-    """What the check compares: the program, its sources and the folders of their crates, and the kit. A file that is not here is left
-    out, since its folder tells when it comes."""
+    """What the check compares: the program, its sources, the folders of their crates, and the kit. A missing file is
+    left out: when it is created, its folder changes."""
     folders, of_kit = [f"crates/{it}" for it in used()], kit_file()
     names = [os.path.relpath(PROGRAM, TOP), *folders, *sources(), *([of_kit] if of_kit else [])]
     return [it for it in names if os.path.lexists(os.path.join(TOP, it))]
 
 
 def is_left() -> bool:
-    """Whether there is a program without a record of its own, as `rt ci` leaves one."""
+    """Whether there is a program without a matching record, as after `rt ci`."""
     return os.access(PROGRAM, os.X_OK) and not is_recorded()
 
 
 def keep_check(names: list[str], lines: list[str]) -> None:
-    """Has the next calls compare only this, unless a file changed a moment ago."""
+    """Writes the check, so that the next calls compare only this; not if a file has only just changed."""
     now, size = time.time_ns(), -(-len(names) // CALLS)
     times = [os.lstat(os.path.join(TOP, name)).st_ctime_ns for name in names]
     if any(now - TICK_NS <= it <= now for it in times):
@@ -161,10 +166,10 @@ def keep_check(names: list[str], lines: list[str]) -> None:
 
 
 def is_current() -> bool:
-    """Whether the program is here and proved from the sources as they are, by their content."""
+    """Whether the program exists and is proved from the current contents of the sources."""
     if not is_recorded() or not os.access(PROGRAM, os.X_OK):
         return False
-    # (first the times: what changes from here on is seen by the next call)
+    # (times come before contents: the next call sees what changes from here on)
     try:
         names = checked()
         lines = [line_of(it) for it in names]
@@ -172,25 +177,25 @@ def is_current() -> bool:
             return False
         keep_check(names, lines)
     except OSError:
-        # (as in a folder that cannot be written: each call reads the contents)
+        # (in a folder that cannot be written, for example: each call reads the contents)
         return is_of(text_of(RECORD)) and is_recorded()
     return True
 
 
 def begin() -> None:
-    """Notes what the proof that begins here is of."""
+    """Records the state of the sources at the start of a proof."""
     os.makedirs(PROOF, exist_ok=True)
     put(BEGUN, state())
 
 
 def is_as_begun() -> bool:
-    """Whether the sources are those of the proof that began last."""
+    """Whether the sources are those of the last proof that was started."""
     begun = text_of(BEGUN)
     return bool(begun) and is_of(begun)
 
 
 def record(begun: str) -> bool:
-    """Records that the program is proved from the sources of that state; not where one of them was touched since."""
+    """Records that the program is proved from the sources of this state, if none was touched since. Whether it did."""
     if begun != state().strip():
         return False
     lines = begun.split("\n")
@@ -199,7 +204,7 @@ def record(begun: str) -> bool:
 
 
 def end() -> bool:
-    """Records what was proved since `begin`. Where a source was touched meanwhile it records nothing."""
+    """Records what was proved since `begin`, unless a source was touched meanwhile. Whether it did."""
     is_whole = record(text_of(BEGUN))
     os.remove(BEGUN)
     return is_whole

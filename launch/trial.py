@@ -1,4 +1,4 @@
-"""An answer from the sources, by `rt try`: what it reads and writes, and how it ends. Nothing of it is proved."""
+"""Answers a command line from the sources, by `rt try`. It copies what goes in and out. Nothing of it is proved."""
 from __future__ import annotations
 
 import errno
@@ -13,22 +13,22 @@ from typing import Any
 from sources import TOP
 
 WRITE_FAULT = 5
-# The longest input that a command reads, and a byte more.
+# One byte more than the longest input that a command accepts.
 MOST_BYTES = 2**27 + 1
-# How `rt try` ends where the program ended, with its status, and what of its own rt says first.
+# The last lines of `rt try` after the program has ended, with its status; and the hints that rt prints first.
 ENDED = re.compile(rb"(?:\A|(?<=\n))checked: ended status=\d+\nrun=ended status=(\d+) [^\n]*proved=no\n\Z")
 HINTS = re.compile(rb"\A(?:rt: [^\n]*\n)+")
-# The plain words, from the second, that name what a command reads.
+# The range of arguments, without the command, that name files that it reads.
 READS = {"sim": (0, 1), "waits": (0, 1), "knots": (0, 1), "show": (0, 1), "compile": (0, 1), "certify": (1, 2), "nodes": (0, 2)}
 
 
 def say(line: str) -> None:
-    """Says a line on standard error, if that can be."""
+    """Writes a line `goal: ..` on standard error; ignores failures."""
     tell(os.fsencode(f"goal: {line}\n"))
 
 
 def tell(text: bytes) -> None:
-    """Writes to standard error, if that can be."""
+    """Writes to standard error; ignores failures."""
     try:
         os.write(2, text)
     except OSError:
@@ -36,7 +36,7 @@ def tell(text: bytes) -> None:
 
 
 def names_in(words: list[str]) -> tuple[list[int], list[int]]:
-    """The numbers of the words that name what a command reads, and of those that name what it writes."""
+    """The numbers of the words that name files that a command reads, and of those that name files that it writes."""
     plain, is_value = [], False
     for number, word in enumerate(words[1:], 1):
         is_option = not is_value and word.startswith("-")
@@ -48,7 +48,7 @@ def names_in(words: list[str]) -> tuple[list[int], list[int]]:
 
 
 def is_device(name: str) -> bool:
-    """Whether the name stands for another thing in another process, or gives its bytes only once."""
+    """Whether the name may mean something else in another process, or gives its bytes only once."""
     try:
         mode = os.stat(name).st_mode
     except OSError:
@@ -57,13 +57,13 @@ def is_device(name: str) -> bool:
 
 
 class Trial:
-    """An answer from the sources. It runs in a folder of its own, so names are told from the root, and devices as copies. What it
-    compiles goes to a file of its own too, and from there to OUT once all of it is there: so a trial can be stopped at any time."""
+    """An answer from the sources. It runs in another folder, so it gets absolute names and copies of devices. A
+    compiled file goes to a temporary file, and to OUT when it is complete, so a trial can be stopped at any time."""
 
     def __init__(self, words: list[str], folder: str) -> None:
         self.folder, self.ran, self.out = folder, None, None  # type: str, subprocess.Popen[bytes] | None, str | None
         self.copies: dict[int, str] = {}
-        # what the program said on standard error, once it is over
+        # what the program wrote on standard error, after it has ended
         self.said = ""
         self.named = list(words)
         reads, writes = names_in(words)
@@ -77,15 +77,15 @@ class Trial:
             self.out, self.named[number] = self.named[number], f"{folder}/made"
 
     def from_root(self, name: str) -> str:
-        """The name as it is told from the root."""
+        """The absolute name."""
         try:
             return os.path.join(os.getcwd(), name)
         except FileNotFoundError:
-            # (the working folder was removed, so nothing is in it)
+            # (the working folder was removed, so no file is in it)
             return os.path.join(f"{self.folder}/removed", name)
 
     def copy(self, number: int) -> bool:
-        """Keeps what a device gives; whether it could be read."""
+        """Copies the bytes of a device. Whether it could be read."""
         path = f"{self.folder}/{number}"
         try:
             with open(self.named[number], "rb") as given, open(path, "wb") as to:
@@ -112,7 +112,7 @@ class Trial:
         return self.ran is not None and self.ran.poll() is not None
 
     def status(self, far: str) -> int | None:
-        """Once it is over: says how far the proof is, hands over what the program wrote, and gives its status; None where there is no answer."""
+        """After the end: reports the progress of the proof, writes the output, returns the status (None: no answer)."""
         with open(f"{self.folder}/err", "rb") as err:
             said = err.read()
         ended = ENDED.search(said)
@@ -131,14 +131,14 @@ class Trial:
         return status
 
     def hand_over(self) -> None:
-        """Writes to standard output what the program wrote there."""
+        """Writes the standard output of the program to that of this process."""
         with open(f"{self.folder}/out", "rb") as out:
             for piece in iter(lambda: out.read(1 << 16), b""):
                 while piece:
                     piece = piece[os.write(1, piece) :]
 
     def write_out(self, path: str) -> None:
-        """Writes OUT, and lets no signal end this process meanwhile."""
+        """Writes OUT; signals that would end this process wait until then."""
         signals = {signal.SIGTERM, signal.SIGHUP, signal.SIGINT}
         signal.pthread_sigmask(signal.SIG_BLOCK, signals)
         try:
@@ -147,18 +147,18 @@ class Trial:
                 try:
                     os.fdatasync(to.fileno())
                 except OSError as error:
-                    # (a device that knows nothing of keeping)
+                    # (the device does not support fdatasync)
                     if error.errno not in (errno.EINVAL, errno.EROFS):
                         raise
         finally:
             signal.pthread_sigmask(signal.SIG_UNBLOCK, signals)
 
     def stop(self) -> None:
-        """Has it end where it has not ended. A handler of signals may call this: it takes no lock."""
+        """Terminates the trial if it still runs. A signal handler may call this: it takes no lock."""
         if self.ran and self.ran.returncode is None:
             os.kill(self.ran.pid, signal.SIGTERM)
 
     def wait(self) -> None:
-        """Waits until it has ended, where it was begun."""
+        """Waits until the trial has ended, if it was started."""
         if self.ran:
             self.ran.wait()
