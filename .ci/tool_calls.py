@@ -1,5 +1,7 @@
-"""Calls of tools from their tests, each in a process that begins as a copy of the test's, so that Python does not start and import
-anew each time. The tool has its words, folder, environment and streams as when it is called by itself. Nothing of it is proved."""
+"""Calls tools from their tests. Nothing of it is proved.
+
+Each call runs in a fork of the test's process, so that Python does not start and import anew each time. The tool gets
+its words, folder, environment and streams as in a call from a shell."""
 from __future__ import annotations
 
 import contextlib
@@ -23,7 +25,7 @@ from common import command, program  # noqa: E402
 def called(
     name: str, *words: str, given: str | None = None, cwd: str | None = None, env: Mapping[str, str] | None = None
 ) -> subprocess.CompletedProcess[str]:
-    """How a call of this tool ends: `given` is its standard input."""
+    """Calls a tool with `given` as its standard input."""
     done = called_with_bytes(name, *words, given=(given or "").encode(), cwd=cwd, env=env)
     return subprocess.CompletedProcess(done.args, done.returncode, done.stdout.decode(), done.stderr.decode())
 
@@ -31,7 +33,7 @@ def called(
 def called_with_bytes(
     name: str, *words: str, given: bytes | None = None, cwd: str | None = None, env: Mapping[str, str] | None = None
 ) -> subprocess.CompletedProcess[bytes]:
-    """The same, with bytes for what goes in and out."""
+    """The same, with bytes as input and output."""
     module, path = module_of(name), os.path.join(TOOLS, name)
     with tempfile.TemporaryFile() as out, tempfile.TemporaryFile() as err:
         its, ours = os.pipe()
@@ -62,7 +64,7 @@ def module_of(name: str) -> ModuleType:
 
 
 def run_tool(module: ModuleType, words: list[str], streams: Sequence[int], cwd: str | None, env: Mapping[str, str] | None) -> NoReturn:
-    """Makes this process that of a call, which ends it."""
+    """Runs the tool in this process, and ends the process."""
     status = 1
     try:
         for number, stream in enumerate(streams):

@@ -1,6 +1,6 @@
-"""Files of rows: what a row says, and how a file is read. Nothing of it is proved.
+"""The format of files of rows, and a reader for them. Nothing of it is proved.
 
-A row is one call of the program in a folder of its own, with what it must answer:
+A row is one call of the program in its own folder, with the expected answer:
 
     # a comment
     row one message
@@ -17,26 +17,27 @@ A row is one call of the program in a folder of its own, with what it must answe
     status 3
     ! goal: refused: text: {words}
 
-What may stand in a row, in any order (a line that is indented goes on with the one before it):
+A row has these lines, in any order. An indented line continues the line before it. Defaults are in brackets:
 
-    file NAME: TEXT        a file with this text (lines end with LF, the last one has no end)
+    file NAME: TEXT        a file with this text; lines end with LF, except the last
     bytes NAME: HEX        a file with these bytes
-    make NAME: COMMAND     a file with what this bash command prints, where `goal` is the program
-    do: COMMAND            a bash command that must succeed, before the call
+    make NAME: COMMAND     a file with the output of this bash command, in which `goal` is the program
+    do: COMMAND            a bash command to run before the call; it must succeed
     $ WORDS                the call: the words after the program's name, quoted as in a shell; \\xNN is a byte
-    stdin: COMMAND         what the call reads on standard input: what this bash command prints
-    pieces                 a call for each place of the input: it comes in two pieces, cut there; and one by single bytes
-    status N               how it must end (0)
-    > LINE                 what it must print, line by line; `> ...` stands for any lines (nothing)
-    prints: COMMAND        what it must print: what this bash command prints
-    checked: COMMAND       instead of both: this bash command, with the output on its standard input, must succeed
-    ! LINE                 what it must write to standard error, line by line (nothing)
-    wrote NAME: HEX        a file that it must leave, with these bytes; `as OTHER` with those of a file of the row, `none` for no file
-    kilobytes N            how much address space it has (no limit)
-    seconds N              how long it may take (60)
-    with KEY=VALUE ..      a row for each such line, with each {KEY} replaced; a value N..M makes a row for each number
+    stdin: COMMAND         the standard input of the call: the output of this bash command
+    pieces                 one call for each way to cut the input in two pieces, and one call with single bytes
+    status N               the expected exit status (0)
+    > LINE                 a line of the expected output; `> ...` matches any lines (no output)
+    prints: COMMAND        the expected output is that of this bash command
+    checked: COMMAND       instead of both: this bash command must succeed, with the output as its standard input
+    ! LINE                 a line of the expected standard error (nothing)
+    wrote NAME: HEX        the call must leave a file with these bytes; `as OTHER`: with those of the file OTHER;
+                           `none`: no such file
+    kilobytes N            the limit of its address space, in KiB (none)
+    seconds N              the limit of its run time (60)
+    with KEY=VALUE ..      one row for each such line, with each {KEY} replaced; with N..M as a value, one per number
 
-A `file`, `bytes` or `make` before the first row is there for each row of the file that names it.
+A `file`, `bytes` or `make` before the first row is shared: each row of the file that names it has it.
 """
 from __future__ import annotations
 
@@ -98,13 +99,13 @@ def lines_of(path: Path) -> list[tuple[int, str]]:
 
 
 def made_of(line: str) -> Made | None:
-    """The file that a line makes, None where it makes none."""
+    """The file that a line makes, or None."""
     found = re.fullmatch(r"(file|bytes|make) ([\w.]+):[ \n]?(.*)", line, re.DOTALL)
     return Made(found[1], found[2], found[3]) if found else None
 
 
 def with_line(row: Row, line: str) -> Row:
-    """The row with what a line says besides."""
+    """The row with another line added."""
     made = made_of(line)
     if made is not None:
         return replace(row, made=(*row.made, made))
@@ -136,7 +137,7 @@ def with_line(row: Row, line: str) -> Row:
 
 
 def choices_of(withs: tuple[str, ...]) -> list[dict[str, str]]:
-    """What each row of a template puts in place of its keys."""
+    """For each row of a template, the values of its keys."""
     choices: list[dict[str, str]] = []
     for line in withs:
         lists: list[list[tuple[str, str]]] = []
@@ -178,7 +179,7 @@ def filled(row: Row, choice: dict[str, str]) -> Row:
 
 
 def rows_of(path: Path) -> tuple[list[Made], list[Row]]:
-    """What is made for all rows of a file, and its rows. A RowFault where a line or a name is at fault."""
+    """The shared files of a file of rows, and its rows. Raises RowFault if a line or a name is wrong."""
     shared: list[Made] = []
     rows: list[Row] = []
     for number, line in lines_of(path):

@@ -1,5 +1,5 @@
 #!/usr/bin/env python3
-"""Tests of .ci/believed: what it reaches name by name, and that it reports a wrong table, group or name."""
+"""Tests of .ci/believed: which names it reaches, and that it reports a wrong table, group or name."""
 from __future__ import annotations
 
 import contextlib

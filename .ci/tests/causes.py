@@ -1,5 +1,5 @@
 #!/usr/bin/env python3
-"""Tests of the arithmetic of a run that the tools share: on random schedules every time that it derives is the one printed."""
+"""Tests of the causes of a run, which the tools share: on random schedules every derived time is the printed one."""
 import os
 import random
 import sys

@@ -1,5 +1,5 @@
 #!/usr/bin/env python3
-"""Tests of tools/certify: its verdicts are those of `goal certify`, and what it says of slots is what they hold."""
+"""Tests of tools/certify: its verdicts are those of `goal certify`, and its statements on slots are true."""
 import os
 import random
 import re

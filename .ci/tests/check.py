@@ -1,6 +1,7 @@
 #!/usr/bin/env python3
-"""Tests of tools/check: what never meets, with the nearest that fits; rings; receives that compete or are too small; all of it
-at once; and that in schedules drawn at random it finds a fault exactly where a run without eager sends does not end."""
+"""Tests of tools/check: operations without a partner, with the most similar one; rings; receives that compete or are
+too small; and all of these at once. On random schedules it finds a fault exactly if a run without eager sends
+hangs."""
 from __future__ import annotations
 
 import os

@@ -1,5 +1,5 @@
 #!/usr/bin/env python3
-"""Tests of .ci/docs: it runs what a document shows, and says where that differs."""
+"""Tests of .ci/docs: it runs the commands of a document, and reports where their output differs."""
 from __future__ import annotations
 
 import os

@@ -1,5 +1,5 @@
 #!/usr/bin/env python3
-"""Tests of examples/README.md: it names each file, and says truly how `sim`, `waits` and `knots` end."""
+"""Tests of examples/README.md: it names each file, and its claims on how `sim`, `waits` and `knots` end are true."""
 import os
 import re
 import sys

@@ -1,6 +1,6 @@
 #!/usr/bin/env python3
-"""Tests of launch/explain.py: it finds a fault in words exactly where the program says that they are no command line; it names the
-word, the file and the place of a byte; and where nobody reads, not a byte is added."""
+"""Tests of launch/explain.py: it finds a fault in a command line exactly if the program refuses it; it names the
+word, the file and the place of a byte; and it adds nothing if no person reads."""
 from __future__ import annotations
 
 import gzip

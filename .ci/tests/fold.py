@@ -1,6 +1,7 @@
 #!/usr/bin/env python3
-"""Tests of tools/fold: with a card for each rank it gives the run of `goal nodes`, operation by operation; with shared cards it
-gives small runs worked by hand; and what can not be folded is refused by name."""
+"""Tests of tools/fold: with a card for each rank it gives the run of `goal nodes`, operation by operation; with
+shared cards it gives small runs that were computed by hand; and a schedule that cannot be folded is refused with the
+reason."""
 import os
 import random
 import subprocess

@@ -1,6 +1,7 @@
 #!/usr/bin/env python3
-"""Tests of ./install in a checkout that has a stand-in for the proof: the program that the other tests call, with a record that says that
-it is proved from the sources there. What is installed runs with nothing else of the project; its texts have all options and tools."""
+"""Tests of ./install in a checkout with a fake proof: the program that the other tests use, with a record that it is
+proved from the sources there. An installation runs without the project; its man pages and completions have all
+options and tools."""
 from __future__ import annotations
 
 import os

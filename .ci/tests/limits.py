@@ -1,5 +1,6 @@
 #!/usr/bin/env python3
-"""Tests that each tool keeps its limits before a schedule is run or certified: `goal` is a stand-in that only shows and compiles."""
+"""Tests that each tool keeps its limits before it runs or certifies a schedule. A fake `goal` only shows and
+compiles."""
 from __future__ import annotations
 
 import os

@@ -1,6 +1,6 @@
 #!/usr/bin/env python3
-"""Tests of tools/machine: the program takes what it writes, each message has the class that the description says, and what a
-description lacks is told."""
+"""Tests of tools/machine: the program accepts its output, each message has the class of the description, and gaps in a
+description are reported."""
 from __future__ import annotations
 
 import os

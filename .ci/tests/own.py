@@ -1,6 +1,6 @@
 #!/usr/bin/env python3
-"""Tests of algorithms of users: the example is certified and swept, a plan has what its module says, and a mistake in a user's file
-is reported with its line."""
+"""Tests of algorithms of users: the example is certified and swept, a plan does what its module says, and a mistake
+in a user's file is reported with its line."""
 import os
 import re
 import subprocess

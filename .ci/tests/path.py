@@ -1,5 +1,6 @@
 #!/usr/bin/env python3
-"""Tests of tools/path: the chain of causes adds up, its shares do, and what other parameters bring is what runs of them give."""
+"""Tests of tools/path: the chain of causes and its shares add up, and predicted effects of parameters agree with
+runs."""
 import os
 import random
 import subprocess

@@ -1,5 +1,5 @@
 #!/usr/bin/env python3
-"""Tests of tools/plot: what its pictures show of tables."""
+"""Tests of tools/plot: its pictures show what the tables have."""
 from __future__ import annotations
 
 import os

@@ -1,5 +1,6 @@
 #!/usr/bin/env python3
-"""Tests of .ci/rows and .ci/mutants with a stand-in for the program: what passes, how a failure is shown, and which rows a file has."""
+"""Tests of .ci/rows and .ci/mutants with a fake program: which rows pass, how a failure is shown, and how rows are
+read."""
 from __future__ import annotations
 
 import os

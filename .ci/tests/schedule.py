@@ -1,6 +1,7 @@
 #!/usr/bin/env python3
-"""Tests of tools/schedule: each algorithm is certified over many ranks, roots, segments and sizes, and in each segment; it has
-the messages, bytes and sums that its table says; and what is spoilt in its slots, needs or tags is refused."""
+"""Tests of tools/schedule: each algorithm is certified for many ranks, roots, segments and sizes, also in each
+segment; it has the messages, bytes and sums of its table; and a schedule with a damaged slot, dependency or tag is
+refused."""
 from __future__ import annotations
 
 import os

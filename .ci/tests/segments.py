@@ -1,6 +1,7 @@
 #!/usr/bin/env python3
-"""Tests of tools/segments: whole segments are certified, each spoilt one is found and told in the schedule's own numbers, and
-so is one that gets what belongs to another. Where a note is spoilt, all is found that a check of every slot finds."""
+"""Tests of tools/segments: correct segments are certified; each damaged one is reported with the slot numbers of the
+schedule, also one that gets data of another segment. With a damaged note, it finds all that a check of every slot
+finds."""
 from __future__ import annotations
 
 import os

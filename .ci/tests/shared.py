@@ -1,5 +1,5 @@
 #!/usr/bin/env python3
-"""Tests of what the tools share: the program is called and told apart, and faults are one line and status 2."""
+"""Tests of the parts that all tools share: calls and versions of the program, and errors in one line with status 2."""
 from __future__ import annotations
 
 import os

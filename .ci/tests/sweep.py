@@ -1,5 +1,5 @@
 #!/usr/bin/env python3
-"""Tests of tools/sweep: its ranges, its grid, its table beside what `goal` prints itself, and its curves."""
+"""Tests of tools/sweep: its ranges, its grid, its table compared with the output of `goal`, and its curves."""
 from __future__ import annotations
 
 import os

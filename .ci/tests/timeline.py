@@ -1,5 +1,5 @@
 #!/usr/bin/env python3
-"""Tests of tools/timeline, and of what it and tools/trace make of a run: what waits when, and what is stuck."""
+"""Tests of tools/timeline, and of what it and tools/trace derive from a run: what waits when, and what is stuck."""
 from __future__ import annotations
 
 import os

@@ -1,5 +1,6 @@
 #!/usr/bin/env python3
-"""Tests of tools/trace: the JSON has the trace-event form, spans of a track lie apart, and flows bind to spans."""
+"""Tests of tools/trace: the JSON has the trace-event format, spans of a track do not overlap, and flows bind to
+spans."""
 from __future__ import annotations
 
 import json

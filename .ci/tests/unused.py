@@ -1,5 +1,5 @@
 #!/usr/bin/env python3
-"""Tests of .ci/unused on a small repository: what is reached, what is told, and what its list of exceptions does."""
+"""Tests of .ci/unused on a small repository: what is reached, what is reported, and the list of exceptions."""
 from __future__ import annotations
 
 import os

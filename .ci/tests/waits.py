@@ -1,5 +1,5 @@
 #!/usr/bin/env python3
-"""Tests of tools/waits: its lines are those of `goal waits` and `goal knots`, where the classes of a machine are alike or not."""
+"""Tests of tools/waits: its lines are those of `goal waits` and `goal knots`, with equal and with different classes."""
 import os
 import random
 import subprocess
