@@ -10,7 +10,7 @@ use Rattle.goal_graph.specs.declared.action.Timed.{Timed}
 use Rattle.goal_graph.specs.declared.plan.Op.{Op}
 use Rattle.goal_graph.specs.Schedule.{Plan, operations, op_at}
 use Rattle.sim_params.specs.Costs.{CostModel}
-use Rattle.sim_resources.proofs.ForCallers.{get_either, same_station_true, same_station_from}
+use Rattle.sim_resources.proofs.ForCallers.{appended_or_earlier, same_station_true, same_station_from}
 use Rattle.sim_resources.specs.declared.pair.Pair.{Pair}
 use Rattle.sim_stations.specs.Stations.{Stationed, waits_for_room, pair_at, pair_of}
 use Rattle.sim_stations.specs.Moves.{HaveReturned, HaveMoved, changes, held_once_more}
@@ -237,7 +237,7 @@ with_cases stations s t n e = go (list_any (same_station s) stations) e
   where
     go : (b : Bool) → slice_get (if b then stations else stations ++ s ∷ []) n ≡ Some t → (slice_get stations n ≡ Some t) ⊎ (t ≡ s)
     go true e = inl e
-    go false e = elim (get_either stations s n t e) [ inl was ↦ inl was | inr new ↦ inr (new.1) ]
+    go false e = elim (appended_or_earlier stations s n t e) [ inl was ↦ inl was | inr new ↦ inr (new.1) ]
 
 module _ (plans : List Plan) where
   pub record IsOfOne (ops : List OpId) (t : Station) : Type 0 where

@@ -17,7 +17,7 @@ use Rattle.goal_graph.proofs.ForCallers.{listed_op}
 use Rattle.sim_params.specs.Costs.{CostModel}
 use Rattle.sim_params.specs.Run.{IsRun}
 use Rattle.sim_params.proofs.ForCallers.{run_length}
-use Rattle.sim_resources.proofs.ForCallers.{get_either, any_there, same_station_true, same_station_from}
+use Rattle.sim_resources.proofs.ForCallers.{appended_or_earlier, list_any_from_witness, same_station_true, same_station_from}
 use Rattle.sim_stations.specs.Stations.{waits_for_room}
 use Rattle.sim_resources.specs.declared.station.Station.{Station}
 use Rattle.sim_resources.specs.Numbering.{AreOnce}
@@ -31,10 +31,10 @@ with_once stations s once i j t = go (list_any (same_station s) stations) refl
   where
     go : (b : Bool) → list_any (same_station s) stations ≡ b → slice_get (if b then stations else stations ++ s ∷ []) i ≡ Some t → slice_get (if b then stations else stations ++ s ∷ []) j ≡ Some t → i ≡ j
     go true e at_i at_j = once i j t at_i at_j
-    go false e at_i at_j = both (get_either stations s i t at_i) (get_either stations s j t at_j)
+    go false e at_i at_j = both (appended_or_earlier stations s i t at_i) (appended_or_earlier stations s j t at_j)
       where
         new : (n : ℕ) → slice_get stations n ≡ Some t → t ≡ s → ⊥
-        new n at own = both_ways _ e (any_there (same_station s) stations n t at (same_station_from s t (sym own)))
+        new n at own = both_ways _ e (list_any_from_witness (same_station s) stations n t at (same_station_from s t (sym own)))
 
         both : (slice_get stations i ≡ Some t) ⊎ ((i ≡ length stations) × (t ≡ s)) → (slice_get stations j ≡ Some t) ⊎ ((j ≡ length stations) × (t ≡ s)) → i ≡ j
         both (inl f) (inl g) = once i j t f g

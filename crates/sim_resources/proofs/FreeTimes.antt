@@ -9,20 +9,20 @@ use Rattle.goal_graph.specs.Schedule.{Plan}
 use Rattle.goal_graph.proofs.ForCallers.{contains_first, contains_more}
 use Rattle.sim_resources.specs.FreeTimes.{Hold, shares, free_at, hold}
 use Rattle.sim_resources.specs.Held.{IsPlaced, held}
-use Rattle.sim_resources.proofs.Shares.{shares_back, shares_on}
+use Rattle.sim_resources.proofs.Shares.{shares_symmetric, shares_transitive}
 
 abbrev pub raised : List ℕ → ℕ → ℕ → ℕ → List ℕ
 raised times s t until = slice_set times s (max t until)
 
 -- what two functions make of elements at which they agree
-map_same : {X Y : Type 0} (f g : X → Y) (xs : List X) → ((x : X) → Contains xs x → f x ≡ g x) → map f xs ≡ map g xs
-map_same f g [] same = refl
-map_same f g (x ∷ xs) same = λ i. same x (contains_first x xs x refl) i ∷ map_same f g xs (λ y c. same y (contains_more x xs y c)) i
+maps_agree_on_elements : {X Y : Type 0} (f g : X → Y) (xs : List X) → ((x : X) → Contains xs x → f x ≡ g x) → map f xs ≡ map g xs
+maps_agree_on_elements f g [] same = refl
+maps_agree_on_elements f g (x ∷ xs) same = λ i. same x (contains_first x xs x refl) i ∷ maps_agree_on_elements f g xs (λ y c. same y (contains_more x xs y c)) i
 
 -- a later time of another number changes no time
-pub held_same : (users : List OpId) (number : OpId → ℕ) (times : List ℕ) (n t : ℕ) → ((x : OpId) → Contains users x → number x ≢ n) → held users number (slice_set times n t) ≡ held users number times
-held_same users number times n t other =
-    map_same (λ (x : OpId). hold x (get_or (slice_set times n t) (number x) 0)) (λ (x : OpId). hold x (get_or times (number x) 0)) users
+pub other_number_keeps_held : (users : List OpId) (number : OpId → ℕ) (times : List ℕ) (n t : ℕ) → ((x : OpId) → Contains users x → number x ≢ n) → held users number (slice_set times n t) ≡ held users number times
+other_number_keeps_held users number times n t other =
+    maps_agree_on_elements (λ (x : OpId). hold x (get_or (slice_set times n t) (number x) 0)) (λ (x : OpId). hold x (get_or times (number x) 0)) users
     (λ x c. ap (hold x) (get_or-set_other times n (number x) t 0 (other x c)))
 
 module _ (place : Op → ℕ) (plans : List Plan) where
@@ -30,20 +30,20 @@ module _ (place : Op → ℕ) (plans : List Plan) where
   unfolding free_at
   free_at-empty x = refl
 
-  -- what shares with x is not free before x
-  no_sooner : (hs : List Hold) (x y : OpId) → shares place plans y x ≡ true → free_at place plans hs y ≤ free_at place plans hs x
+  -- what shares with x is free no later
+  sharer_not_free_later : (hs : List Hold) (x y : OpId) → shares place plans y x ≡ true → free_at place plans hs y ≤ free_at place plans hs x
   unfolding free_at
-  no_sooner [] x y e = omega arith
-  no_sooner (h ∷ hs) x y e =
-      let rest = no_sooner hs x y e in
+  sharer_not_free_later [] x y e = omega arith
+  sharer_not_free_later (h ∷ hs) x y e =
+      let rest = sharer_not_free_later hs x y e in
       elim (cases_Bool (shares place plans y h.op)) [
-        | inl shared ↦ rw (shared, shares_on place plans y x h.op e shared) (omega (arith, rest))
+        | inl shared ↦ rw (shared, shares_transitive place plans y x h.op e shared) (omega (arith, rest))
         | inr other ↦ rw other (omega (arith, rest))
       ]
 
-  free_alike : (hs : List Hold) (x y : OpId) → shares place plans y x ≡ true → free_at place plans hs y ≡ free_at place plans hs x
-  free_alike hs x y e =
-      omega (arith, no_sooner hs x y e, no_sooner hs y x (shares_back place plans y x e))
+  sharers_free_alike : (hs : List Hold) (x y : OpId) → shares place plans y x ≡ true → free_at place plans hs y ≡ free_at place plans hs x
+  sharers_free_alike hs x y e =
+      omega (arith, sharer_not_free_later hs x y e, sharer_not_free_later hs y x (shares_symmetric place plans y x e))
 
   module _ (users : List OpId) (number : OpId → ℕ) (count : ℕ) (p : IsPlaced place plans users number count) where
     module _ (times : List ℕ) where
@@ -53,11 +53,11 @@ module _ (place : Op → ℕ) (plans : List Plan) where
       abbrev pub holder : OpId → Hold
       holder x = hold x (time x)
 
-      at_most : (xs : List OpId) → ((y : OpId) → Contains xs y → Contains users y) → (x : OpId) → Contains users x → free_at place plans (map holder xs) x ≤ time x
+      free_at_most_time_of_number : (xs : List OpId) → ((y : OpId) → Contains xs y → Contains users y) → (x : OpId) → Contains users x → free_at place plans (map holder xs) x ≤ time x
       unfolding free_at
-      at_most [] within x c = omega arith
-      at_most (y ∷ xs) within x c =
-          let rest = at_most xs (λ z d. within z (contains_more y xs z d)) x c in
+      free_at_most_time_of_number [] within x c = omega arith
+      free_at_most_time_of_number (y ∷ xs) within x c =
+          let rest = free_at_most_time_of_number xs (λ z d. within z (contains_more y xs z d)) x c in
           elim (cases_Bool (shares place plans x y)) [
             | inl shared ↦
                 let same : time x ≡ time y = ap (λ (s : ℕ). get_or times s 0) (p.alike x y c (within y (contains_first y xs y refl)) shared) in
@@ -65,32 +65,32 @@ module _ (place : Op → ℕ) (plans : List Plan) where
             | inr other ↦ rw other (omega (arith, rest))
           ]
 
-      at_least : (xs : List OpId) (x : OpId) → shares place plans x x ≡ true → Contains xs x → time x ≤ free_at place plans (map holder xs) x
+      time_of_number_at_most_free : (xs : List OpId) (x : OpId) → shares place plans x x ≡ true → Contains xs x → time x ≤ free_at place plans (map holder xs) x
       unfolding free_at
-      at_least [] x itself c = absurd (omega (arith, c.1))
-      at_least (y ∷ xs) x itself (zero, b, e) =
+      time_of_number_at_most_free [] x itself c = absurd (omega (arith, c.1))
+      time_of_number_at_most_free (y ∷ xs) x itself (zero, b, e) =
           let shared : shares place plans x y ≡ true = ap (shares place plans x) e ∙ itself in
           rw shared (omega (arith, ap time e))
-      at_least (y ∷ xs) x itself (suc k, b, e) =
-          let rest = at_least xs x itself (k, omega (arith, b), e) in
+      time_of_number_at_most_free (y ∷ xs) x itself (suc k, b, e) =
+          let rest = time_of_number_at_most_free xs x itself (k, omega (arith, b), e) in
           omega (arith, rest)
 
       -- a user is free at the time of its number
-      pub free_is : (x : OpId) → Contains users x → free_at place plans (held users number times) x ≡ get_or times (number x) 0
-      free_is x c =
-          let below : free_at place plans (held users number times) x ≤ get_or times (number x) 0 = at_most users (λ y d. d) x c in
-          let above : get_or times (number x) 0 ≤ free_at place plans (held users number times) x = at_least users x (p.apart x x c c refl) c in
+      pub free_at_time_of_number : (x : OpId) → Contains users x → free_at place plans (held users number times) x ≡ get_or times (number x) 0
+      free_at_time_of_number x c =
+          let below : free_at place plans (held users number times) x ≤ get_or times (number x) 0 = free_at_most_time_of_number users (λ y d. d) x c in
+          let above : get_or times (number x) 0 ≤ free_at place plans (held users number times) x = time_of_number_at_most_free users x (p.apart x x c c refl) c in
           omega (arith, below, above)
 
-      pub read_free : (x : OpId) → Contains users x → length times ≡ count → (r : ℕ) → ((t : ℕ) → slice_get times (number x) ≡ Some t → r ≡ t) → r ≡ free_at place plans (held users number times) x
-      read_free x c whole r says =
-          says (get_or times (number x) 0) (slice_get-get_or times (number x) 0 (omega (arith, p.within x c, whole))) ∙ sym (free_is x c)
+      pub read_time_is_free_time : (x : OpId) → Contains users x → length times ≡ count → (r : ℕ) → ((t : ℕ) → slice_get times (number x) ≡ Some t → r ≡ t) → r ≡ free_at place plans (held users number times) x
+      read_time_is_free_time x c whole r says =
+          says (get_or times (number x) 0) (slice_get-get_or times (number x) 0 (omega (arith, p.within x c, whole))) ∙ sym (free_at_time_of_number x c)
 
-      none_held : (xs : List OpId) → ((y : OpId) → Contains xs y → time y ≡ 0) → (x : OpId) → free_at place plans (map holder xs) x ≡ 0
+      zero_times_never_held : (xs : List OpId) → ((y : OpId) → Contains xs y → time y ≡ 0) → (x : OpId) → free_at place plans (map holder xs) x ≡ 0
       unfolding free_at
-      none_held [] none x = refl
-      none_held (y ∷ xs) none x =
-          let rest = none_held xs (λ z d. none z (contains_more y xs z d)) x in
+      zero_times_never_held [] none x = refl
+      zero_times_never_held (y ∷ xs) none x =
+          let rest = zero_times_never_held xs (λ z d. none z (contains_more y xs z d)) x in
           let this = none y (contains_first y xs y refl) in
           elim (cases_Bool (shares place plans x y)) [
             | inl shared ↦ rw shared (omega (arith, rest, this))
@@ -100,7 +100,7 @@ module _ (place : Op → ℕ) (plans : List Plan) where
     -- if all times are 0, each free time is 0
     pub free_at-unheld : (times : List ℕ) → times ≡ replicate count 0 → (x : OpId) → free_at place plans (held users number times) x ≡ 0
     free_at-unheld times none x =
-        none_held times users (λ y c. ap (λ (ts : List ℕ). get_or ts (number y) 0) none ∙ get_or-replicate count (number y) 0 0 (p.within y c)) x
+        zero_times_never_held times users (λ y c. ap (λ (ts : List ℕ). get_or ts (number y) 0) none ∙ get_or-replicate count (number y) 0 0 (p.within y c)) x
 
     -- a later time of one number has the effect of one more hold
     module _ (times : List ℕ) (whole : length times ≡ count) (x : OpId) (c : Contains users x) (until : ℕ) where
@@ -113,35 +113,35 @@ module _ (place : Op → ℕ) (plans : List Plan) where
       within : number x < length times
       within = omega (arith, p.within x c, whole)
 
-      pub is_raised : (times' : List ℕ) → ((t : ℕ) → slice_get times (number x) ≡ Some t → times' ≡ raised times (number x) t until) → times' ≡ after
-      is_raised times' says = says was (slice_get-get_or times (number x) 0 within)
+      pub raised_list_is_after : (times' : List ℕ) → ((t : ℕ) → slice_get times (number x) ≡ Some t → times' ≡ raised times (number x) t until) → times' ≡ after
+      raised_list_is_after times' says = says was (slice_get-get_or times (number x) 0 within)
 
-      with_hold : (y : OpId) → free_at place plans (hold x until ∷ held users number times) y ≡ max (free_at place plans (held users number times) y) (if shares place plans y x then until else 0)
+      free_with_hold : (y : OpId) → free_at place plans (hold x until ∷ held users number times) y ≡ max (free_at place plans (held users number times) y) (if shares place plans y x then until else 0)
       unfolding free_at
-      with_hold y = refl
+      free_with_hold y = refl
 
       -- it changes no time of what does not share with x
-      others_stay : (xs : List OpId) → ((z : OpId) → Contains xs z → Contains users z) → (y : OpId) → shares place plans y x ≡ false → free_at place plans (map (holder after) xs) y ≡ free_at place plans (map (holder times) xs) y
+      unshared_times_stay : (xs : List OpId) → ((z : OpId) → Contains xs z → Contains users z) → (y : OpId) → shares place plans y x ≡ false → free_at place plans (map (holder after) xs) y ≡ free_at place plans (map (holder times) xs) y
       unfolding free_at
-      others_stay [] in_users y apart = refl
-      others_stay (z ∷ xs) in_users y apart =
-          let rest = others_stay xs (λ u d. in_users u (contains_more z xs u d)) y apart in
+      unshared_times_stay [] in_users y apart = refl
+      unshared_times_stay (z ∷ xs) in_users y apart =
+          let rest = unshared_times_stay xs (λ u d. in_users u (contains_more z xs u d)) y apart in
           elim (cases_Bool (shares place plans y z)) [
             | inl shared ↦
-                let other : number z ≢ number x = λ e. both_ways _ apart (shares_on place plans z y x (shares_back place plans y z shared) (p.apart z x (in_users z (contains_first z xs z refl)) c e)) in
+                let other : number z ≢ number x = λ e. both_ways _ apart (shares_transitive place plans z y x (shares_symmetric place plans y z shared) (p.apart z x (in_users z (contains_first z xs z refl)) c e)) in
                 let same : get_or after (number z) 0 ≡ get_or times (number z) 0 = get_or-set_other times (number x) (number z) (max was until) 0 other in
                 rw shared (omega (arith, rest, same))
             | inr other ↦ rw other (omega (arith, rest))
           ]
 
-      pub free_raised : (y : OpId) → free_at place plans (held users number after) y ≡ free_at place plans (hold x until ∷ held users number times) y
-      free_raised y =
+      pub raised_frees_as_hold : (y : OpId) → free_at place plans (held users number after) y ≡ free_at place plans (hold x until ∷ held users number times) y
+      raised_frees_as_hold y =
           elim (cases_Bool (shares place plans y x)) [
             | inl shared ↦
-                let now = free_alike (held users number after) x y shared ∙ free_is after x c ∙ get_or-set_same times (number x) (max was until) 0 within in
-                let before = free_alike (held users number times) x y shared ∙ free_is times x c in
-                now ∙ sym (with_hold y ∙ rw shared (omega (arith, before)))
+                let now = sharers_free_alike (held users number after) x y shared ∙ free_at_time_of_number after x c ∙ get_or-set_same times (number x) (max was until) 0 within in
+                let before = sharers_free_alike (held users number times) x y shared ∙ free_at_time_of_number times x c in
+                now ∙ sym (free_with_hold y ∙ rw shared (omega (arith, before)))
             | inr other ↦
-                let now = others_stay users (λ z d. d) y other in
-                now ∙ sym (with_hold y ∙ rw other (omega arith))
+                let now = unshared_times_stay users (λ z d. d) y other in
+                now ∙ sym (free_with_hold y ∙ rw other (omega arith))
           ]

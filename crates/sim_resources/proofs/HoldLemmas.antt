@@ -9,8 +9,8 @@ use Rattle.sim_resources.specs.declared.station.StationNumbers.{StationNumbers}
 use Rattle.sim_resources.specs.FreeTimes.{Holds, SameFreeTimes, cpu_free, tx_free, rx_free, hold_cpu, hold_tx, hold_rx}
 use Rattle.sim_resources.specs.Numbering.{AreNumbered}
 use Rattle.sim_resources.specs.Held.{cpu_number, side_number, kind_sends, kind_receives, sends, receives, senders, receivers, held}
-use Rattle.sim_resources.proofs.FreeTimes.{raised, held_same, free_raised, is_raised, read_free}
-use Rattle.sim_resources.proofs.Placed.{filtered_in, cpus_placed, txs_placed, rxs_placed, cpu_not_tx, cpu_not_rx, tx_not_rx}
+use Rattle.sim_resources.proofs.FreeTimes.{raised, other_number_keeps_held, raised_frees_as_hold, raised_list_is_after, read_time_is_free_time}
+use Rattle.sim_resources.proofs.Placed.{passing_is_in_filtered, cpus_placed, txs_placed, rxs_placed, cpu_not_tx, cpu_not_rx, tx_not_rx}
 
 -- an operation is among all, a send among the senders, a receive among the receivers
 pub among_ops : (plans : List Plan) (x : OpId) → IsOp plans x → Contains (operations plans) x
@@ -20,13 +20,13 @@ pub among_senders : (plans : List Plan) (x : OpId) → IsSend plans x → Contai
 among_senders plans x send =
     let is_op = send_is_op plans x send in
     let o = cases_some (op_at plans x) is_op in
-    filtered_in (λ y. sends (op_at plans y)) (operations plans) x (among_ops plans x is_op) (ap sends o.1 ∙ ap kind_sends (kind_of_op plans x o.0 _ o.1 send.kind))
+    passing_is_in_filtered (λ y. sends (op_at plans y)) (operations plans) x (among_ops plans x is_op) (ap sends o.1 ∙ ap kind_sends (kind_of_op plans x o.0 _ o.1 send.kind))
 
 pub among_receivers : (plans : List Plan) (x : OpId) → IsReceive plans x → Contains (receivers plans) x
 among_receivers plans x receive =
     let is_op = receive_is_op plans x receive in
     let o = cases_some (op_at plans x) is_op in
-    filtered_in (λ y. receives (op_at plans y)) (operations plans) x (among_ops plans x is_op) (ap receives o.1 ∙ ap kind_receives (kind_of_op plans x o.0 _ o.1 receive.kind))
+    passing_is_in_filtered (λ y. receives (op_at plans y)) (operations plans) x (among_ops plans x is_op) (ap receives o.1 ∙ ap kind_receives (kind_of_op plans x o.0 _ o.1 receive.kind))
 
 module _ (plans : List Plan) (s : StationNumbers) (n : AreNumbered plans s) where
   -- what a contract sees
@@ -50,64 +50,64 @@ module _ (plans : List Plan) (s : StationNumbers) (n : AreNumbered plans s) wher
         omega (arith, (rxs_placed plans s n).within x (among_receivers plans x receive), whole)
 
     module _ (t : ℕ) where
-      pub cpu_read : IsOp r.plans x → ((u : ℕ) → slice_get free (cpu_number plans s x) ≡ Some u → t ≡ u) → t ≡ cpu_free r x
-      cpu_read there says =
+      pub read_time_is_cpu_free : IsOp r.plans x → ((u : ℕ) → slice_get free (cpu_number plans s x) ≡ Some u → t ≡ u) → t ≡ cpu_free r x
+      read_time_is_cpu_free there says =
           let is_op : IsOp plans x = subst (λ (q : Holds). IsOp q.plans x) (sym is) there in
           subst (λ (q : Holds). t ≡ cpu_free q x) is
-          (read_free (λ (o : Op). o.cpu) plans (operations plans) (cpu_number plans s) s.resources (cpus_placed plans s n) free x (among_ops plans x is_op) whole t says)
+          (read_time_is_free_time (λ (o : Op). o.cpu) plans (operations plans) (cpu_number plans s) s.resources (cpus_placed plans s n) free x (among_ops plans x is_op) whole t says)
 
-      pub tx_read : IsSend r.plans x → ((u : ℕ) → slice_get free (side_number plans s x) ≡ Some u → t ≡ u) → t ≡ tx_free r x
-      tx_read there says =
+      pub read_time_is_tx_free : IsSend r.plans x → ((u : ℕ) → slice_get free (side_number plans s x) ≡ Some u → t ≡ u) → t ≡ tx_free r x
+      read_time_is_tx_free there says =
           let send : IsSend plans x = subst (λ (q : Holds). IsSend q.plans x) (sym is) there in
           subst (λ (q : Holds). t ≡ tx_free q x) is
-          (read_free (λ (o : Op). o.nic) plans (senders plans) (side_number plans s) s.resources (txs_placed plans s n) free x (among_senders plans x send) whole t says)
+          (read_time_is_free_time (λ (o : Op). o.nic) plans (senders plans) (side_number plans s) s.resources (txs_placed plans s n) free x (among_senders plans x send) whole t says)
 
-      pub rx_read : IsReceive r.plans x → ((u : ℕ) → slice_get free (side_number plans s x) ≡ Some u → t ≡ u) → t ≡ rx_free r x
-      rx_read there says =
+      pub read_time_is_rx_free : IsReceive r.plans x → ((u : ℕ) → slice_get free (side_number plans s x) ≡ Some u → t ≡ u) → t ≡ rx_free r x
+      read_time_is_rx_free there says =
           let receive : IsReceive plans x = subst (λ (q : Holds). IsReceive q.plans x) (sym is) there in
           subst (λ (q : Holds). t ≡ rx_free q x) is
-          (read_free (λ (o : Op). o.nic) plans (receivers plans) (side_number plans s) s.resources (rxs_placed plans s n) free x (among_receivers plans x receive) whole t says)
+          (read_time_is_free_time (λ (o : Op). o.nic) plans (receivers plans) (side_number plans s) s.resources (rxs_placed plans s n) free x (among_receivers plans x receive) whole t says)
 
     -- the time of one number is raised
     module _ (until : ℕ) (new : List ℕ) where
       abbrev pub Says : ℕ → Type 0
       Says number = (t : ℕ) → slice_get free number ≡ Some t → new ≡ raised free number t until
 
-      pub cpu_held : IsOp r.plans x → Says (cpu_number plans s x) → SameFreeTimes (seen new) (hold_cpu r x until)
-      cpu_held there says =
+      pub raised_time_holds_cpu : IsOp r.plans x → Says (cpu_number plans s x) → SameFreeTimes (seen new) (hold_cpu r x until)
+      raised_time_holds_cpu there says =
           let is_op : IsOp plans x = subst (λ (q : Holds). IsOp q.plans x) (sym is) there in
           let c = among_ops plans x is_op in
           let p = cpus_placed plans s n in
-          let raised_is = is_raised (λ (o : Op). o.cpu) plans (operations plans) (cpu_number plans s) s.resources p free whole x c until new says in
+          let raised_is = raised_list_is_after (λ (o : Op). o.cpu) plans (operations plans) (cpu_number plans s) s.resources p free whole x c until new says in
           subst (λ (q : Holds). SameFreeTimes (seen new) (hold_cpu q x until)) is (subst (λ (ts : List ℕ). SameFreeTimes (seen ts) (hold_cpu (seen free) x until)) (sym raised_is) (record {
             plans = refl;
-            cpu = free_raised (λ (o : Op). o.cpu) plans (operations plans) (cpu_number plans s) s.resources p free whole x c until;
-            tx = λ y. rw (held_same (senders plans) (side_number plans s) free (cpu_number plans s x) (max (get_or free (cpu_number plans s x) 0) until) (λ z d e. cpu_not_tx plans s n x z c d (sym e))) refl;
-            rx = λ y. rw (held_same (receivers plans) (side_number plans s) free (cpu_number plans s x) (max (get_or free (cpu_number plans s x) 0) until) (λ z d e. cpu_not_rx plans s n x z c d (sym e))) refl;
+            cpu = raised_frees_as_hold (λ (o : Op). o.cpu) plans (operations plans) (cpu_number plans s) s.resources p free whole x c until;
+            tx = λ y. rw (other_number_keeps_held (senders plans) (side_number plans s) free (cpu_number plans s x) (max (get_or free (cpu_number plans s x) 0) until) (λ z d e. cpu_not_tx plans s n x z c d (sym e))) refl;
+            rx = λ y. rw (other_number_keeps_held (receivers plans) (side_number plans s) free (cpu_number plans s x) (max (get_or free (cpu_number plans s x) 0) until) (λ z d e. cpu_not_rx plans s n x z c d (sym e))) refl;
           }))
 
-      pub tx_held : IsSend r.plans x → Says (side_number plans s x) → SameFreeTimes (seen new) (hold_tx r x until)
-      tx_held there says =
+      pub raised_time_holds_tx : IsSend r.plans x → Says (side_number plans s x) → SameFreeTimes (seen new) (hold_tx r x until)
+      raised_time_holds_tx there says =
           let send : IsSend plans x = subst (λ (q : Holds). IsSend q.plans x) (sym is) there in
           let c = among_senders plans x send in
           let p = txs_placed plans s n in
-          let raised_is = is_raised (λ (o : Op). o.nic) plans (senders plans) (side_number plans s) s.resources p free whole x c until new says in
+          let raised_is = raised_list_is_after (λ (o : Op). o.nic) plans (senders plans) (side_number plans s) s.resources p free whole x c until new says in
           subst (λ (q : Holds). SameFreeTimes (seen new) (hold_tx q x until)) is (subst (λ (ts : List ℕ). SameFreeTimes (seen ts) (hold_tx (seen free) x until)) (sym raised_is) (record {
             plans = refl;
-            cpu = λ y. rw (held_same (operations plans) (cpu_number plans s) free (side_number plans s x) (max (get_or free (side_number plans s x) 0) until) (λ z d e. cpu_not_tx plans s n z x d c e)) refl;
-            tx = free_raised (λ (o : Op). o.nic) plans (senders plans) (side_number plans s) s.resources p free whole x c until;
-            rx = λ y. rw (held_same (receivers plans) (side_number plans s) free (side_number plans s x) (max (get_or free (side_number plans s x) 0) until) (λ z d e. tx_not_rx plans s n x z c d (sym e))) refl;
+            cpu = λ y. rw (other_number_keeps_held (operations plans) (cpu_number plans s) free (side_number plans s x) (max (get_or free (side_number plans s x) 0) until) (λ z d e. cpu_not_tx plans s n z x d c e)) refl;
+            tx = raised_frees_as_hold (λ (o : Op). o.nic) plans (senders plans) (side_number plans s) s.resources p free whole x c until;
+            rx = λ y. rw (other_number_keeps_held (receivers plans) (side_number plans s) free (side_number plans s x) (max (get_or free (side_number plans s x) 0) until) (λ z d e. tx_not_rx plans s n x z c d (sym e))) refl;
           }))
 
-      pub rx_held : IsReceive r.plans x → Says (side_number plans s x) → SameFreeTimes (seen new) (hold_rx r x until)
-      rx_held there says =
+      pub raised_time_holds_rx : IsReceive r.plans x → Says (side_number plans s x) → SameFreeTimes (seen new) (hold_rx r x until)
+      raised_time_holds_rx there says =
           let receive : IsReceive plans x = subst (λ (q : Holds). IsReceive q.plans x) (sym is) there in
           let c = among_receivers plans x receive in
           let p = rxs_placed plans s n in
-          let raised_is = is_raised (λ (o : Op). o.nic) plans (receivers plans) (side_number plans s) s.resources p free whole x c until new says in
+          let raised_is = raised_list_is_after (λ (o : Op). o.nic) plans (receivers plans) (side_number plans s) s.resources p free whole x c until new says in
           subst (λ (q : Holds). SameFreeTimes (seen new) (hold_rx q x until)) is (subst (λ (ts : List ℕ). SameFreeTimes (seen ts) (hold_rx (seen free) x until)) (sym raised_is) (record {
             plans = refl;
-            cpu = λ y. rw (held_same (operations plans) (cpu_number plans s) free (side_number plans s x) (max (get_or free (side_number plans s x) 0) until) (λ z d e. cpu_not_rx plans s n z x d c e)) refl;
-            tx = λ y. rw (held_same (senders plans) (side_number plans s) free (side_number plans s x) (max (get_or free (side_number plans s x) 0) until) (λ z d e. tx_not_rx plans s n z x d c e)) refl;
-            rx = free_raised (λ (o : Op). o.nic) plans (receivers plans) (side_number plans s) s.resources p free whole x c until;
+            cpu = λ y. rw (other_number_keeps_held (operations plans) (cpu_number plans s) free (side_number plans s x) (max (get_or free (side_number plans s x) 0) until) (λ z d e. cpu_not_rx plans s n z x d c e)) refl;
+            tx = λ y. rw (other_number_keeps_held (senders plans) (side_number plans s) free (side_number plans s x) (max (get_or free (side_number plans s x) 0) until) (λ z d e. tx_not_rx plans s n z x d c e)) refl;
+            rx = raised_frees_as_hold (λ (o : Op). o.nic) plans (receivers plans) (side_number plans s) s.resources p free whole x c until;
           }))

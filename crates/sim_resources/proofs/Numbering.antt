@@ -14,7 +14,7 @@ use Rattle.goal_graph.specs.declared.plan.Op.{Op}
 use Rattle.goal_graph.specs.Schedule.{Plan, op_at, operations}
 use Rattle.goal_graph.specs.Order.{IsBefore}
 use Rattle.goal_graph.proofs.ForCallers.{get_last, operations_in_order}
-use Rattle.sim_resources.proofs.Lists.{get_kept, get_either}
+use Rattle.sim_resources.proofs.Lists.{get_after_append, appended_or_earlier}
 use Rattle.sim_resources.specs.declared.pair.Pair.{Pair}
 use Rattle.sim_resources.specs.Numbering.{DoExist}
 use Rattle.sim_resources.specs.declared.station.Station.{Station}
@@ -23,25 +23,25 @@ use Rattle.sim_resources.specs.Stations.{station_by, station_of, station_as, sam
 use Rattle.sim_resources.proofs.Placing.{same_station_true, same_station_from}
 
 -- what is appended to a list
-get_first : {X : Type 0} (xs : List X) (t : X) (more : List X) → slice_get (xs ++ t ∷ more) (length xs) ≡ Some t
-get_first [] t more = refl
-get_first (y ∷ xs) t more = get_first xs t more
+appended_is_at_length : {X : Type 0} (xs : List X) (t : X) (more : List X) → slice_get (xs ++ t ∷ more) (length xs) ≡ Some t
+appended_is_at_length [] t more = refl
+appended_is_at_length (y ∷ xs) t more = appended_is_at_length xs t more
 
 -- what is after one more is what was or the one
-has_either : (before after : List Station) (station : Station) (number : ℕ) → HasNumber before after station number → (i : ℕ) (s : Station) → slice_get after i ≡ Some s → (slice_get before i ≡ Some s) ⊎ (s ≡ station)
-has_either before after station number has i s e = go has.more has.by_one (subst (λ (xs : List Station). slice_get xs i ≡ Some s) has.grown e) has.of_it
+earlier_or_numbered_station : (before after : List Station) (station : Station) (number : ℕ) → HasNumber before after station number → (i : ℕ) (s : Station) → slice_get after i ≡ Some s → (slice_get before i ≡ Some s) ⊎ (s ≡ station)
+earlier_or_numbered_station before after station number has i s e = go has.more has.by_one (subst (λ (xs : List Station). slice_get xs i ≡ Some s) has.grown e) has.of_it
   where
     go : (more : List Station) → length more ≤ 1 → slice_get (before ++ more) i ≡ Some s → ((j : ℕ) (t : Station) → slice_get more j ≡ Some t → t ≡ station) → (slice_get before i ≡ Some s) ⊎ (s ≡ station)
     go [] one f of_it = inl (subst (λ (xs : List Station). slice_get xs i ≡ Some s) (append-nil before) f)
-    go (t ∷ []) one f of_it = elim (get_either before t i s f) [ inl was ↦ inl was | inr new ↦ inr (new.1 ∙ of_it 0 t refl) ]
+    go (t ∷ []) one f of_it = elim (appended_or_earlier before t i s f) [ inl was ↦ inl was | inr new ↦ inr (new.1 ∙ of_it 0 t refl) ]
     go (t ∷ u ∷ more) one f of_it = absurd (omega (arith, one))
 
-pub has_kept : (before after : List Station) (station : Station) (number : ℕ) → HasNumber before after station number → (i : ℕ) (s : Station) → slice_get before i ≡ Some s → slice_get after i ≡ Some s
-has_kept before after station number has i s e =
-    subst (λ (xs : List Station). slice_get xs i ≡ Some s) (sym has.grown) (get_kept before has.more i s e)
+pub numbering_keeps_stations : (before after : List Station) (station : Station) (number : ℕ) → HasNumber before after station number → (i : ℕ) (s : Station) → slice_get before i ≡ Some s → slice_get after i ≡ Some s
+numbering_keeps_stations before after station number has i s e =
+    subst (λ (xs : List Station). slice_get xs i ≡ Some s) (sym has.grown) (get_after_append before has.more i s e)
 
-has_longer : (before after : List Station) (station : Station) (number : ℕ) → HasNumber before after station number → (length after ≤ length before + 1) × (length before ≤ length after)
-has_longer before after station number has =
+numbering_adds_one_at_most : (before after : List Station) (station : Station) (number : ℕ) → HasNumber before after station number → (length after ≤ length before + 1) × (length before ≤ length after)
+numbering_adds_one_at_most before after station number has =
     let size = ap length has.grown ∙ length-append before has.more in
     (omega (arith, size, has.by_one), omega (arith, size))
 
@@ -59,41 +59,41 @@ station_rank x o = go o.kind
     go (Send n t u) = refl
     go (Recv n t u) = refl
 
-not_after_more : (before after : List Station) (station : Station) (number rank : ℕ) → HasNumber before after station number → IsNotAfter before rank → station.rank ≤ rank → IsNotAfter after rank
-not_after_more before after station number rank has was l j s e =
-    elim (has_either before after station number has j s e) [ inl old ↦ was j s old | inr new ↦ omega (arith, l, ap (λ (t : Station). t.rank) new) ]
+not_after_with_station : (before after : List Station) (station : Station) (number rank : ℕ) → HasNumber before after station number → IsNotAfter before rank → station.rank ≤ rank → IsNotAfter after rank
+not_after_with_station before after station number rank has was l j s e =
+    elim (earlier_or_numbered_station before after station number has j s e) [ inl old ↦ was j s old | inr new ↦ omega (arith, l, ap (λ (t : Station). t.rank) new) ]
 
 module _ (stations resources : List Station) (pairs : List Pair) (is : IsNumbering stations resources pairs) (after : List Station) (station : Station) (number : ℕ) (has : HasNumber stations after station number) (once : AreOnce after) where
   -- it is a new one
   pub numbered_new : number ≡ length pairs → (more : List Station) (p : Pair) → HasPair resources more station p → AreOnce more → IsNumbering after more (pairs ++ p ∷ [])
   numbered_new new more p pair more_once = record {
     each = omega (arith, length-append pairs (p ∷ []), is.each, sizes.0, there, new);
-    few = omega (arith, is.few, (has_longer _ _ _ _ pair.cpu).0, (has_longer _ _ _ _ pair.side).0, is.each, there, new);
+    few = omega (arith, is.few, (numbering_adds_one_at_most _ _ _ _ pair.cpu).0, (numbering_adds_one_at_most _ _ _ _ pair.side).0, is.each, there, new);
     once = once;
     resources_once = more_once;
-    cpus = λ n s q at there. elim (get_either pairs p n q there) [
-      | inl was ↦ has_kept _ _ _ _ pair.side q.cpu _ (has_kept _ _ _ _ pair.cpu q.cpu _ (is.cpus n s q (old n s q at was) was))
-      | inr one ↦ subst (λ (t : Pair). slice_get more t.cpu ≡ Some (cpu_alone s)) (sym one.1) (subst (λ (t : Station). slice_get more p.cpu ≡ Some (cpu_alone t)) (newest n s at one.0) (has_kept _ _ _ _ pair.side p.cpu _ pair.cpu.is))
+    cpus = λ n s q at there. elim (appended_or_earlier pairs p n q there) [
+      | inl was ↦ numbering_keeps_stations _ _ _ _ pair.side q.cpu _ (numbering_keeps_stations _ _ _ _ pair.cpu q.cpu _ (is.cpus n s q (old n s q at was) was))
+      | inr one ↦ subst (λ (t : Pair). slice_get more t.cpu ≡ Some (cpu_alone s)) (sym one.1) (subst (λ (t : Station). slice_get more p.cpu ≡ Some (cpu_alone t)) (newest n s at one.0) (numbering_keeps_stations _ _ _ _ pair.side p.cpu _ pair.cpu.is))
     ];
-    sides = λ n s q at there. elim (get_either pairs p n q there) [
-      | inl was ↦ has_kept _ _ _ _ pair.side q.side _ (has_kept _ _ _ _ pair.cpu q.side _ (is.sides n s q (old n s q at was) was))
+    sides = λ n s q at there. elim (appended_or_earlier pairs p n q there) [
+      | inl was ↦ numbering_keeps_stations _ _ _ _ pair.side q.side _ (numbering_keeps_stations _ _ _ _ pair.cpu q.side _ (is.sides n s q (old n s q at was) was))
       | inr one ↦ subst (λ (t : Pair). slice_get more t.side ≡ Some (side_alone s)) (sym one.1) (subst (λ (t : Station). slice_get more p.side ≡ Some (side_alone t)) (newest n s at one.0) pair.side.is)
     ];
     of_stations = λ rank last.
         let own : station.rank ≤ rank = last number station has.is in
-        let before : IsNotAfter resources rank = is.of_stations rank (λ j s e. last j s (has_kept _ _ _ _ has j s e)) in
-        let between : IsNotAfter pair.between rank = not_after_more _ _ _ _ rank pair.cpu before own in
-        not_after_more _ _ _ _ rank pair.side between (omega (arith, own, side_rank station station.sends station.receives));
+        let before : IsNotAfter resources rank = is.of_stations rank (λ j s e. last j s (numbering_keeps_stations _ _ _ _ has j s e)) in
+        let between : IsNotAfter pair.between rank = not_after_with_station _ _ _ _ rank pair.cpu before own in
+        not_after_with_station _ _ _ _ rank pair.side between (omega (arith, own, side_rank station station.sends station.receives));
   }
     where
       sizes : (length after ≤ length stations + 1) × (length stations ≤ length after)
-      sizes = has_longer stations after station number has
+      sizes = numbering_adds_one_at_most stations after station number has
 
       there : number < length after
       there = slice_get_within after number station has.is
 
       old : (n : ℕ) (s : Station) (q : Pair) → slice_get after n ≡ Some s → slice_get pairs n ≡ Some q → slice_get stations n ≡ Some s
-      old n s q at was = elim (has_either stations after station number has n s at) [
+      old n s q at was = elim (earlier_or_numbered_station stations after station number has n s at) [
         | inl e ↦ e
         | inr same ↦ (let one : n ≡ number = once n number station (at ∙ ap Some same) has.is in absurd (omega (arith, one, new, slice_get_within pairs n q was)))
       ]
@@ -102,20 +102,20 @@ module _ (stations resources : List Station) (pairs : List Pair) (is : IsNumberi
       newest n s at e = same_Some station s (sym has.is ∙ ap (slice_get after) (new ∙ sym e) ∙ at)
 
 -- what passes a test in a list
-any_found : (test : Station → Bool) (xs : List Station) → list_any test xs ≡ true → (i : ℕ) × (x : Station) × (slice_get xs i ≡ Some x) × (test x ≡ true)
-any_found test [] e = absurd (both_ways false refl e)
-any_found test (x ∷ xs) e = elim (or_cases (test x) (list_any test xs) e) [
+list_any_has_witness : (test : Station → Bool) (xs : List Station) → list_any test xs ≡ true → (i : ℕ) × (x : Station) × (slice_get xs i ≡ Some x) × (test x ≡ true)
+list_any_has_witness test [] e = absurd (both_ways false refl e)
+list_any_has_witness test (x ∷ xs) e = elim (or_cases (test x) (list_any test xs) e) [
   | inl own ↦ (0, x, refl, own)
-  | inr later ↦ (let rest = any_found test xs later in (suc rest.0, rest.1, rest.2, rest.3))
+  | inr later ↦ (let rest = list_any_has_witness test xs later in (suc rest.0, rest.1, rest.2, rest.3))
 ]
 
-pub any_there : (test : Station → Bool) (xs : List Station) (i : ℕ) (x : Station) → slice_get xs i ≡ Some x → test x ≡ true → list_any test xs ≡ true
-any_there test xs i x at e =
+pub list_any_from_witness : (test : Station → Bool) (xs : List Station) (i : ℕ) (x : Station) → slice_get xs i ≡ Some x → test x ≡ true → list_any test xs ≡ true
+list_any_from_witness test xs i x at e =
     list_any_at test xs i x (slice_get_within xs i x at) (ap test (get_or_from_slice_get xs i x x at) ∙ e)
 
 -- the stations after one more has its number are those with it
-listed_more : (before after : List Station) (station : Station) (number : ℕ) → HasNumber before after station number → AreOnce after → after ≡ with_station before station
-listed_more before after station number has once = go has.more has.by_one has.grown has.of_it (list_any (same_station station) before) refl
+numbered_is_with_station : (before after : List Station) (station : Station) (number : ℕ) → HasNumber before after station number → AreOnce after → after ≡ with_station before station
+numbered_is_with_station before after station number has once = go has.more has.by_one has.grown has.of_it (list_any (same_station station) before) refl
   where
     -- with it or without it
     either : Bool → List Station
@@ -125,13 +125,13 @@ listed_more before after station number has once = go has.more has.by_one has.gr
     go [] one grown of_it true e = grown ∙ append-nil before ∙ sym (ap either e)
     go [] one grown of_it false e =
         let there : slice_get before number ≡ Some station = subst (λ (xs : List Station). slice_get xs number ≡ Some station) (grown ∙ append-nil before) has.is in
-        absurd (both_ways _ e (any_there (same_station station) before number station there (same_station_from station station refl)))
+        absurd (both_ways _ e (list_any_from_witness (same_station station) before number station there (same_station_from station station refl)))
     go (t ∷ []) one grown of_it false e = grown ∙ ap (λ (u : Station). before ++ u ∷ []) (of_it 0 t refl) ∙ sym (ap either e)
     go (t ∷ []) one grown of_it true e =
-        let found = any_found (same_station station) before e in
+        let found = list_any_has_witness (same_station station) before e in
         let same : station ≡ found.1 = same_station_true station found.1 found.3 in
-        let old : slice_get after found.0 ≡ Some station = ap (λ (xs : List Station). slice_get xs found.0) grown ∙ get_kept before (t ∷ []) found.0 found.1 found.2 ∙ ap Some (sym same) in
-        let new : slice_get after (length before) ≡ Some station = ap (λ (xs : List Station). slice_get xs (length before)) grown ∙ get_first before t [] ∙ ap Some (of_it 0 t refl) in
+        let old : slice_get after found.0 ≡ Some station = ap (λ (xs : List Station). slice_get xs found.0) grown ∙ get_after_append before (t ∷ []) found.0 found.1 found.2 ∙ ap Some (sym same) in
+        let new : slice_get after (length before) ≡ Some station = ap (λ (xs : List Station). slice_get xs (length before)) grown ∙ appended_is_at_length before t [] ∙ ap Some (of_it 0 t refl) in
         absurd (omega (arith, once found.0 (length before) station old new, slice_get_within before found.0 found.1 found.2))
     go (t ∷ u ∷ more) one grown of_it b e = absurd (omega (arith, one))
 
@@ -147,8 +147,8 @@ module _ (plans : List Plan) where
     pub by_rank : (i : ℕ) (x : OpId) → n ≤ i → slice_get (operations plans) i ≡ Some x → IsNotAfter stations x.rank
 
   -- operations come by rank
-  in_order : (m n : ℕ) (x y : OpId) → m < n → slice_get (operations plans) m ≡ Some x → slice_get (operations plans) n ≡ Some y → x.rank ≤ y.rank
-  in_order m n x y l e f = go (subst (λ (a : OpId). IsBefore a y) (get_or_from_slice_get (operations plans) m x x e) (subst (λ (b : OpId). IsBefore (get_or (operations plans) m x) b) (get_or_from_slice_get (operations plans) n y x f) (operations_in_order plans m n x l (slice_get_within (operations plans) n y f))))
+  operations_by_rank : (m n : ℕ) (x y : OpId) → m < n → slice_get (operations plans) m ≡ Some x → slice_get (operations plans) n ≡ Some y → x.rank ≤ y.rank
+  operations_by_rank m n x y l e f = go (subst (λ (a : OpId). IsBefore a y) (get_or_from_slice_get (operations plans) m x x e) (subst (λ (b : OpId). IsBefore (get_or (operations plans) m x) b) (get_or_from_slice_get (operations plans) n y x f) (operations_in_order plans m n x l (slice_get_within (operations plans) n y f))))
     where
       go : IsBefore x y → x.rank ≤ y.rank
       go (inl less) = omega (arith, less)
@@ -156,19 +156,19 @@ module _ (plans : List Plan) where
 
   module _ (n : ℕ) (stations resources : List Station) (pairs : List Pair) (numbers : List ℕ) (so_far : AreNumberedTo n stations resources pairs numbers) (x : OpId) (o : Op) (at : slice_get (operations plans) n ≡ Some x) (is : op_at plans x ≡ Some o) where
     -- one more operation has its number
-    pub numbered_more : (after more : List Station) (pairs_after : List Pair) (number : ℕ) → IsNumbering after more pairs_after → HasNumber stations after (station_of x o) number → AreNumberedTo (n + 1) after more pairs_after (numbers ++ number ∷ [])
-    numbered_more after more pairs_after number numbering has = record {
+    pub next_operation_numbered : (after more : List Station) (pairs_after : List Pair) (number : ℕ) → IsNumbering after more pairs_after → HasNumber stations after (station_of x o) number → AreNumberedTo (n + 1) after more pairs_after (numbers ++ number ∷ [])
+    next_operation_numbered after more pairs_after number numbering has = record {
       numbering = numbering;
       listed = listed;
       count = omega (arith, length-append numbers (number ∷ []), so_far.count);
       few = omega (arith, so_far.few, sizes.0);
       each = λ i y p l e f. each i y p e f (cases_lt i n) l;
       within = All-push (λ m. m < length after) numbers number (λ k d h. omega (arith, so_far.within k d h, sizes.1)) (slice_get_within after number (station_of x o) has.is);
-      by_rank = λ i y l e. not_after_more stations after (station_of x o) number y.rank has (so_far.by_rank i y (omega (arith, l)) e) (omega (arith, in_order n i x y (omega (arith, l)) at e, station_rank x o));
+      by_rank = λ i y l e. not_after_with_station stations after (station_of x o) number y.rank has (so_far.by_rank i y (omega (arith, l)) e) (omega (arith, operations_by_rank n i x y (omega (arith, l)) at e, station_rank x o));
     }
       where
         sizes : (length after ≤ length stations + 1) × (length stations ≤ length after)
-        sizes = has_longer stations after (station_of x o) number has
+        sizes = numbering_adds_one_at_most stations after (station_of x o) number has
 
         -- with the station of one more operation
         with_one : List Station → OpId → List Station
@@ -176,7 +176,7 @@ module _ (plans : List Plan) where
 
         listed : after ≡ stations_among plans (take (n + 1) (operations plans))
         listed =
-            listed_more stations after (station_of x o) number has numbering.once
+            numbered_is_with_station stations after (station_of x o) number has numbering.once
             ∙ ap₂ with_station so_far.listed (sym (ap (station_as x) is))
             ∙ ap (with_one (stations_among plans (take n (operations plans)))) (sym (get_or_from_slice_get (operations plans) n x x at))
             ∙ sym (fold_more with_one [] (operations plans) n x (slice_get_within (operations plans) n x at))
@@ -184,7 +184,7 @@ module _ (plans : List Plan) where
         each : (i : ℕ) (y : OpId) (p : Op) → slice_get (operations plans) i ≡ Some y → op_at plans y ≡ Some p → (i < n) ⊎ (n ≤ i) → i < n + 1 → slice_get after (slice_index (numbers ++ number ∷ []) i) ≡ Some (station_of y p)
         each i y p e f (inl less) l =
             let same : slice_index (numbers ++ number ∷ []) i ≡ slice_index numbers i = get_or_append_left numbers (number ∷ []) 0 i (omega (arith, less, so_far.count)) in
-            ap (slice_get after) same ∙ has_kept stations after (station_of x o) number has (slice_index numbers i) (station_of y p) (so_far.each i y p less e f)
+            ap (slice_get after) same ∙ numbering_keeps_stations stations after (station_of x o) number has (slice_index numbers i) (station_of y p) (so_far.each i y p less e f)
         each i y p e f (inr no_less) l =
             let here : i ≡ n = omega (arith, l, no_less) in
             let same_op : x ≡ y = same_Some x y (sym at ∙ ap (slice_get (operations plans)) (sym here) ∙ e) in
@@ -193,8 +193,8 @@ module _ (plans : List Plan) where
             ap (slice_get after) last ∙ has.is ∙ (λ i. Some (station_of (same_op i) (same_o i)))
 
   -- the resources of all stations exist
-  pub all_exist : (stations resources : List Station) (pairs : List Pair) → IsNumbering stations resources pairs → DoExist pairs (length resources)
-  all_exist stations resources pairs is s p at =
+  pub numbered_resources_exist : (stations resources : List Station) (pairs : List Pair) → IsNumbering stations resources pairs → DoExist pairs (length resources)
+  numbered_resources_exist stations resources pairs is s p at =
       let few : s < length stations = omega (arith, slice_get_within pairs s p at, is.each) in
       let station : Station = get_or stations s no_station in
       let here : slice_get stations s ≡ Some (get_or stations s no_station) = slice_get-get_or stations s no_station few in
@@ -203,8 +203,8 @@ module _ (plans : List Plan) where
       no_station : Station
       no_station = record { rank = 0; cpu = None; sends = None; receives = None }
 
-  pub numbered_all : (n : ℕ) (stations resources : List Station) (pairs : List Pair) (numbers : List ℕ) → AreNumberedTo n stations resources pairs numbers → n ≡ length (operations plans) → AreStationed plans numbers pairs
-  numbered_all n stations resources pairs numbers to all = record {
+  pub all_operations_stationed : (n : ℕ) (stations resources : List Station) (pairs : List Pair) (numbers : List ℕ) → AreNumberedTo n stations resources pairs numbers → n ≡ length (operations plans) → AreStationed plans numbers pairs
+  all_operations_stationed n stations resources pairs numbers to all = record {
     stations = stations;
     resources = resources;
     numbering = to.numbering;

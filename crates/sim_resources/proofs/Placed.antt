@@ -15,32 +15,32 @@ use Rattle.sim_resources.specs.declared.station.StationNumbers.{StationNumbers}
 use Rattle.sim_resources.specs.Stations.{station_by, station_of, cpu_alone, side_alone}
 use Rattle.sim_resources.specs.Numbering.{AreNumbered}
 use Rattle.sim_resources.specs.Held.{place_among, pair_of, cpu_number, side_number, kind_sends, kind_receives, sends, receives, senders, receivers, IsPlaced}
-use Rattle.sim_resources.proofs.Shares.{share_of, shares-is}
+use Rattle.sim_resources.proofs.Shares.{shares_gives_share, shares-is}
 
 -- an operation is at its index
-at_place : (xs : List OpId) (i : ℕ) (x : OpId) → slice_get xs i ≡ Some x → slice_get xs (place_among xs x) ≡ Some x
+listed_is_at_its_place : (xs : List OpId) (i : ℕ) (x : OpId) → slice_get xs i ≡ Some x → slice_get xs (place_among xs x) ≡ Some x
 unfolding place_among
-at_place [] i x e = absurd (cc e)
-at_place (y ∷ ys) zero x e = rw (same_op_from y x (same_Some y x e)) e
-at_place (y ∷ ys) (suc i) x e =
+listed_is_at_its_place [] i x e = absurd (cc e)
+listed_is_at_its_place (y ∷ ys) zero x e = rw (same_op_from y x (same_Some y x e)) e
+listed_is_at_its_place (y ∷ ys) (suc i) x e =
     elim (cases_op y x) [
       | inl same ↦ rw (same_op_from y x same) (ap Some same)
-      | inr other ↦ rw other (at_place ys i x e)
+      | inr other ↦ rw other (listed_is_at_its_place ys i x e)
     ]
 
-pub place_is : (plans : List Plan) (i : ℕ) (x : OpId) → slice_get (operations plans) i ≡ Some x → place_among (operations plans) x ≡ i
-place_is plans i x e = one_place plans _ i x (at_place (operations plans) i x e) e
+pub index_is_place_among : (plans : List Plan) (i : ℕ) (x : OpId) → slice_get (operations plans) i ≡ Some x → place_among (operations plans) x ≡ i
+index_is_place_among plans i x e = one_place plans _ i x (listed_is_at_its_place (operations plans) i x e) e
 
 -- the index of each operation
-pub listed : (plans : List Plan) (x : OpId) → IsOp plans x → slice_get (operations plans) (place_among (operations plans) x) ≡ Some x
-listed plans x is_op =
+pub op_is_at_its_place : (plans : List Plan) (x : OpId) → IsOp plans x → slice_get (operations plans) (place_among (operations plans) x) ≡ Some x
+op_is_at_its_place plans x is_op =
     let c = (listed_places plans x).1 is_op in
-    at_place (operations plans) c.0 x (slice_get-get_or (operations plans) c.0 x c.1 ∙ ap Some c.2)
+    listed_is_at_its_place (operations plans) c.0 x (slice_get-get_or (operations plans) c.0 x c.1 ∙ ap Some c.2)
 
 -- what is in a filtered list
-pub in_filtered : (test : OpId → Bool) (xs : List OpId) (x : OpId) → Contains (filter test xs) x → Contains xs x × (test x ≡ true)
-in_filtered test [] x c = absurd (omega (arith, c.1))
-in_filtered test (y ∷ ys) x c = go (test y) refl (in_filtered test ys x)
+pub filtered_is_listed_and_passes : (test : OpId → Bool) (xs : List OpId) (x : OpId) → Contains (filter test xs) x → Contains xs x × (test x ≡ true)
+filtered_is_listed_and_passes test [] x c = absurd (omega (arith, c.1))
+filtered_is_listed_and_passes test (y ∷ ys) x c = go (test y) refl (filtered_is_listed_and_passes test ys x)
   where
     more : Contains ys x × (test x ≡ true) → Contains (y ∷ ys) x × (test x ≡ true)
     more r = (contains_more y ys x r.0, r.1)
@@ -53,10 +53,10 @@ in_filtered test (y ∷ ys) x c = go (test y) refl (in_filtered test ys x)
         first (zero, b, f) = (contains_first y ys x f, ap test (sym f) ∙ e)
         first (suc k, b, f) = more (rest (k, omega (arith, b), f))
 
-pub filtered_in : (test : OpId → Bool) (xs : List OpId) (x : OpId) → Contains xs x → test x ≡ true → Contains (filter test xs) x
-filtered_in test [] x c e = absurd (omega (arith, c.1))
-filtered_in test (y ∷ ys) x (zero, b, f) e = rw (ap test f ∙ e) (contains_first y (filter test ys) x f)
-filtered_in test (y ∷ ys) x (suc k, b, f) e = go (test y) refl (filtered_in test ys x (k, omega (arith, b), f) e)
+pub passing_is_in_filtered : (test : OpId → Bool) (xs : List OpId) (x : OpId) → Contains xs x → test x ≡ true → Contains (filter test xs) x
+passing_is_in_filtered test [] x c e = absurd (omega (arith, c.1))
+passing_is_in_filtered test (y ∷ ys) x (zero, b, f) e = rw (ap test f ∙ e) (contains_first y (filter test ys) x f)
+passing_is_in_filtered test (y ∷ ys) x (suc k, b, f) e = go (test y) refl (passing_is_in_filtered test ys x (k, omega (arith, b), f) e)
   where
     go : (b : Bool) → test y ≡ b → Contains (filter test ys) x → Contains (filter test (y ∷ ys)) x
     go false p rest = rw p rest
@@ -72,24 +72,24 @@ tx_at x o = record { rank = x.rank; cpu = None; sends = Some o.nic; receives = N
 abbrev pub rx_at : OpId → Op → Station
 rx_at x o = record { rank = x.rank; cpu = None; sends = None; receives = Some o.nic }
 
-cpu_is : (x : OpId) (o : Op) → cpu_alone (station_of x o) ≡ cpu_at x o
-cpu_is x o = go o.kind
+cpu_alone_is_cpu_at : (x : OpId) (o : Op) → cpu_alone (station_of x o) ≡ cpu_at x o
+cpu_alone_is_cpu_at x o = go o.kind
   where
     go : (k : Kind) → cpu_alone (station_by x o k) ≡ cpu_at x o
     go (Calc n) = refl
     go (Send n t u) = refl
     go (Recv n t u) = refl
 
-tx_is : (x : OpId) (o : Op) → kind_sends o.kind ≡ true → side_alone (station_of x o) ≡ tx_at x o
-tx_is x o = go o.kind
+side_of_send_is_tx_at : (x : OpId) (o : Op) → kind_sends o.kind ≡ true → side_alone (station_of x o) ≡ tx_at x o
+side_of_send_is_tx_at x o = go o.kind
   where
     go : (k : Kind) → kind_sends k ≡ true → side_alone (station_by x o k) ≡ tx_at x o
     go (Calc n) e = absurd (both_ways false refl e)
     go (Send n t u) e = refl
     go (Recv n t u) e = absurd (both_ways false refl e)
 
-rx_is : (x : OpId) (o : Op) → kind_receives o.kind ≡ true → side_alone (station_of x o) ≡ rx_at x o
-rx_is x o = go o.kind
+side_of_receive_is_rx_at : (x : OpId) (o : Op) → kind_receives o.kind ≡ true → side_alone (station_of x o) ≡ rx_at x o
+side_of_receive_is_rx_at x o = go o.kind
   where
     go : (k : Kind) → kind_receives k ≡ true → side_alone (station_by x o k) ≡ rx_at x o
     go (Calc n) e = absurd (both_ways false refl e)
@@ -108,49 +108,49 @@ module _ (plans : List Plan) (s : StationNumbers) (n : AreNumbered plans s) wher
   abbrev pub station : OpId → ℕ
   station x = slice_index s.numbers.items (place_among (operations plans) x)
 
-  station_is : (x : OpId) (o : Op) → op_at plans x ≡ Some o → slice_get n.stationed.stations (station x) ≡ Some (station_of x o)
-  station_is x o is =
-      n.stationed.are (place_among (operations plans) x) x o (listed plans x (is_some_from (op_at plans x) o is)) is
+  number_has_station_of : (x : OpId) (o : Op) → op_at plans x ≡ Some o → slice_get n.stationed.stations (station x) ≡ Some (station_of x o)
+  number_has_station_of x o is =
+      n.stationed.are (place_among (operations plans) x) x o (op_is_at_its_place plans x (is_some_from (op_at plans x) o is)) is
 
-  pair_is : (x : OpId) (o : Op) → op_at plans x ≡ Some o → slice_get s.pairs.items (station x) ≡ Some (pair_of plans s x)
-  pair_is x o is =
+  number_has_pair_of : (x : OpId) (o : Op) → op_at plans x ≡ Some o → slice_get s.pairs.items (station x) ≡ Some (pair_of plans s x)
+  number_has_pair_of x o is =
       slice_get-get_or s.pairs.items (station x) (record { cpu = 0; side = 0 })
-      (omega (arith, slice_get_within n.stationed.stations (station x) (station_of x o) (station_is x o is), n.stationed.numbering.each))
+      (omega (arith, slice_get_within n.stationed.stations (station x) (station_of x o) (number_has_station_of x o is), n.stationed.numbering.each))
 
   uses_cpu : (x : OpId) (o : Op) → op_at plans x ≡ Some o → Uses cpu_at (cpu_number plans s) x
   uses_cpu x o is = record {
     op = o;
     op_is = is;
-    there = n.stationed.numbering.cpus (station x) (station_of x o) (pair_of plans s x) (station_is x o is) (pair_is x o is) ∙ ap Some (cpu_is x o);
-    within = (n.exist (station x) (pair_of plans s x) (pair_is x o is)).0;
+    there = n.stationed.numbering.cpus (station x) (station_of x o) (pair_of plans s x) (number_has_station_of x o is) (number_has_pair_of x o is) ∙ ap Some (cpu_alone_is_cpu_at x o);
+    within = (n.exist (station x) (pair_of plans s x) (number_has_pair_of x o is)).0;
   }
 
   uses_side : (of : OpId → Op → Station) (x : OpId) (o : Op) → op_at plans x ≡ Some o → side_alone (station_of x o) ≡ of x o → Uses of (side_number plans s) x
   uses_side of x o is side = record {
     op = o;
     op_is = is;
-    there = n.stationed.numbering.sides (station x) (station_of x o) (pair_of plans s x) (station_is x o is) (pair_is x o is) ∙ ap Some side;
-    within = (n.exist (station x) (pair_of plans s x) (pair_is x o is)).1;
+    there = n.stationed.numbering.sides (station x) (station_of x o) (pair_of plans s x) (number_has_station_of x o is) (number_has_pair_of x o is) ∙ ap Some side;
+    within = (n.exist (station x) (pair_of plans s x) (number_has_pair_of x o is)).1;
   }
 
-  pub cpu_users : (x : OpId) → Contains (operations plans) x → Uses cpu_at (cpu_number plans s) x
-  cpu_users x c = let o = cases_some (op_at plans x) ((listed_places plans x).0 c) in uses_cpu x o.0 o.1
+  pub operations_use_cpus : (x : OpId) → Contains (operations plans) x → Uses cpu_at (cpu_number plans s) x
+  operations_use_cpus x c = let o = cases_some (op_at plans x) ((listed_places plans x).0 c) in uses_cpu x o.0 o.1
 
-  pub tx_users : (x : OpId) → Contains (senders plans) x → Uses tx_at (side_number plans s) x
-  tx_users x c =
-      let f = in_filtered (λ y. sends (op_at plans y)) (operations plans) x c in
+  pub senders_use_tx_sides : (x : OpId) → Contains (senders plans) x → Uses tx_at (side_number plans s) x
+  senders_use_tx_sides x c =
+      let f = filtered_is_listed_and_passes (λ y. sends (op_at plans y)) (operations plans) x c in
       let o = cases_some (op_at plans x) ((listed_places plans x).0 f.0) in
-      uses_side tx_at x o.0 o.1 (tx_is x o.0 (ap sends (sym o.1) ∙ f.1))
+      uses_side tx_at x o.0 o.1 (side_of_send_is_tx_at x o.0 (ap sends (sym o.1) ∙ f.1))
 
-  pub rx_users : (x : OpId) → Contains (receivers plans) x → Uses rx_at (side_number plans s) x
-  rx_users x c =
-      let f = in_filtered (λ y. receives (op_at plans y)) (operations plans) x c in
+  pub receivers_use_rx_sides : (x : OpId) → Contains (receivers plans) x → Uses rx_at (side_number plans s) x
+  receivers_use_rx_sides x c =
+      let f = filtered_is_listed_and_passes (λ y. receives (op_at plans y)) (operations plans) x c in
       let o = cases_some (op_at plans x) ((listed_places plans x).0 f.0) in
-      uses_side rx_at x o.0 o.1 (rx_is x o.0 (ap receives (sym o.1) ∙ f.1))
+      uses_side rx_at x o.0 o.1 (side_of_receive_is_rx_at x o.0 (ap receives (sym o.1) ∙ f.1))
 
   -- resources of one number are one
-  pub one_resource : (of of' : OpId → Op → Station) (number number' : OpId → ℕ) (x y : OpId) (u : Uses of number x) (v : Uses of' number' y) → number x ≡ number' y → of x u.op ≡ of' y v.op
-  one_resource of of' number number' x y u v same =
+  pub same_number_same_resource : (of of' : OpId → Op → Station) (number number' : OpId → ℕ) (x y : OpId) (u : Uses of number x) (v : Uses of' number' y) → number x ≡ number' y → of x u.op ≡ of' y v.op
+  same_number_same_resource of of' number number' x y u v same =
       same_Some (of x u.op) (of' y v.op) (sym u.there ∙ ap (slice_get n.stationed.resources) same ∙ v.there)
 
   -- users of one sort have the same number exactly if they share
@@ -164,7 +164,7 @@ module _ (plans : List Plan) (s : StationNumbers) (n : AreNumbered plans s) wher
       alike = λ x y c d e.
           let a = uses x c in
           let b = uses y d in
-          let shared = share_of place plans x y e in
+          let shared = shares_gives_share place plans x y e in
           let first = same_Some a.op shared.one (sym a.op_is ∙ shared.one_is) in
           let other = same_Some b.op shared.other (sym b.op_is ∙ shared.other_is) in
           let same : of x a.op ≡ of y b.op = one x y a.op b.op shared.rank (ap place first ∙ shared.number ∙ sym (ap place other)) in
@@ -172,47 +172,47 @@ module _ (plans : List Plan) (s : StationNumbers) (n : AreNumbered plans s) wher
       apart = λ x y c d e.
           let a = uses x c in
           let b = uses y d in
-          let both = parts x y a.op b.op (one_resource of of number number x y a b e) in
+          let both = parts x y a.op b.op (same_number_same_resource of of number number x y a b e) in
           shares-is place plans x y a.op b.op a.op_is b.op_is
           ∙ and_from _ _ (eq-eqb x.rank y.rank both.0) (eq-eqb (place a.op) (place b.op) both.1);
     }
 
   pub cpus_placed : IsPlaced (λ (o : Op). o.cpu) plans (operations plans) (cpu_number plans s) s.resources
   cpus_placed =
-      placed_by (λ (o : Op). o.cpu) (operations plans) cpu_at (cpu_number plans s) cpu_users
+      placed_by (λ (o : Op). o.cpu) (operations plans) cpu_at (cpu_number plans s) operations_use_cpus
       (λ x y o u rank place. λ i. record { rank = rank i; cpu = Some (place i); sends = None; receives = None })
       (λ x y o u e. (ap (λ (t : Station). t.rank) e, same_Some o.cpu u.cpu (ap (λ (t : Station). t.cpu) e)))
 
   pub txs_placed : IsPlaced (λ (o : Op). o.nic) plans (senders plans) (side_number plans s) s.resources
   txs_placed =
-      placed_by (λ (o : Op). o.nic) (senders plans) tx_at (side_number plans s) tx_users
+      placed_by (λ (o : Op). o.nic) (senders plans) tx_at (side_number plans s) senders_use_tx_sides
       (λ x y o u rank place. λ i. record { rank = rank i; cpu = None; sends = Some (place i); receives = None })
       (λ x y o u e. (ap (λ (t : Station). t.rank) e, same_Some o.nic u.nic (ap (λ (t : Station). t.sends) e)))
 
   pub rxs_placed : IsPlaced (λ (o : Op). o.nic) plans (receivers plans) (side_number plans s) s.resources
   rxs_placed =
-      placed_by (λ (o : Op). o.nic) (receivers plans) rx_at (side_number plans s) rx_users
+      placed_by (λ (o : Op). o.nic) (receivers plans) rx_at (side_number plans s) receivers_use_rx_sides
       (λ x y o u rank place. λ i. record { rank = rank i; cpu = None; sends = None; receives = Some (place i) })
       (λ x y o u e. (ap (λ (t : Station). t.rank) e, same_Some o.nic u.nic (ap (λ (t : Station). t.receives) e)))
 
   -- no cpu has the number of a side, and no sending side that of a receiving one
   pub cpu_not_tx : (x y : OpId) → Contains (operations plans) x → Contains (senders plans) y → cpu_number plans s x ≢ side_number plans s y
   cpu_not_tx x y c d e =
-      absurd (cc (ap (λ (t : Station). t.cpu) (one_resource cpu_at tx_at (cpu_number plans s) (side_number plans s) x y (cpu_users x c) (tx_users y d) e)))
+      absurd (cc (ap (λ (t : Station). t.cpu) (same_number_same_resource cpu_at tx_at (cpu_number plans s) (side_number plans s) x y (operations_use_cpus x c) (senders_use_tx_sides y d) e)))
 
   pub cpu_not_rx : (x y : OpId) → Contains (operations plans) x → Contains (receivers plans) y → cpu_number plans s x ≢ side_number plans s y
   cpu_not_rx x y c d e =
-      absurd (cc (ap (λ (t : Station). t.cpu) (one_resource cpu_at rx_at (cpu_number plans s) (side_number plans s) x y (cpu_users x c) (rx_users y d) e)))
+      absurd (cc (ap (λ (t : Station). t.cpu) (same_number_same_resource cpu_at rx_at (cpu_number plans s) (side_number plans s) x y (operations_use_cpus x c) (receivers_use_rx_sides y d) e)))
 
   pub tx_not_rx : (x y : OpId) → Contains (senders plans) x → Contains (receivers plans) y → side_number plans s x ≢ side_number plans s y
   tx_not_rx x y c d e =
-      absurd (cc (ap (λ (t : Station). t.sends) (one_resource tx_at rx_at (side_number plans s) (side_number plans s) x y (tx_users x c) (rx_users y d) e)))
+      absurd (cc (ap (λ (t : Station). t.sends) (same_number_same_resource tx_at rx_at (side_number plans s) (side_number plans s) x y (senders_use_tx_sides x c) (receivers_use_rx_sides y d) e)))
 
   -- the pair that is read at the number that is read
-  pub read_pair : (x : OpId) (i number : ℕ) (pair : Pair) → slice_get (operations plans) i ≡ Some x → i < length (operations plans) → number ≡ get_or s.numbers.items i number → pair ≡ get_or s.pairs.items number pair → pair ≡ pair_of plans s x
-  read_pair x i number pair at below number_is pair_read =
+  pub read_pair_is_pair_of : (x : OpId) (i number : ℕ) (pair : Pair) → slice_get (operations plans) i ≡ Some x → i < length (operations plans) → number ≡ get_or s.numbers.items i number → pair ≡ get_or s.pairs.items number pair → pair ≡ pair_of plans s x
+  read_pair_is_pair_of x i number pair at below number_is pair_read =
       let first : slice_get s.numbers.items i ≡ Some number = slice_get_read s.numbers.items (length s.numbers.items) i number refl (omega (arith, below, n.each)) number_is in
-      let same : station x ≡ number = ap (slice_index s.numbers.items) (place_is plans i x at) ∙ get_or_from_slice_get s.numbers.items i number 0 first in
+      let same : station x ≡ number = ap (slice_index s.numbers.items) (index_is_place_among plans i x at) ∙ get_or_from_slice_get s.numbers.items i number 0 first in
       let o = cases_some (op_at plans x) ((listed_places plans x).0 (i, below, get_or_from_slice_get (operations plans) i x x at)) in
-      let there : slice_get s.pairs.items number ≡ Some (pair_of plans s x) = ap (slice_get s.pairs.items) (sym same) ∙ pair_is x o.0 o.1 in
+      let there : slice_get s.pairs.items number ≡ Some (pair_of plans s x) = ap (slice_get s.pairs.items) (sym same) ∙ number_has_pair_of x o.0 o.1 in
       pair_read ∙ get_or_from_slice_get s.pairs.items number (pair_of plans s x) pair there

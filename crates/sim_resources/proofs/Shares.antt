@@ -16,8 +16,8 @@ module _ (place : Op → ℕ) (plans : List Plan) where
     pub rank : x.rank ≡ y.rank
     pub number : place one ≡ place other
 
-  pub share_of : (x y : OpId) → shares place plans x y ≡ true → Share x y
-  share_of x y e = go (op_at plans x) refl (op_at plans y) refl e
+  pub shares_gives_share : (x y : OpId) → shares place plans x y ≡ true → Share x y
+  shares_gives_share x y e = go (op_at plans x) refl (op_at plans y) refl e
     where
       go : (a : Option Op) → op_at plans x ≡ a → (b : Option Op) → op_at plans y ≡ b → shares_place place x a y b ≡ true → Share x y
       go None p b q e = absurd (both_ways _ refl e)
@@ -37,9 +37,9 @@ module _ (place : Op → ℕ) (plans : List Plan) where
   pub shares-is : (x y : OpId) (o u : Op) → op_at plans x ≡ Some o → op_at plans y ≡ Some u → shares place plans x y ≡ ((x.rank == y.rank) && (place o == place u))
   shares-is x y o u p q = rw (p, q) refl
 
-  pub shares_back : (x y : OpId) → shares place plans x y ≡ true → shares place plans y x ≡ true
-  shares_back x y e =
-      let s = share_of x y e in
+  pub shares_symmetric : (x y : OpId) → shares place plans x y ≡ true → shares place plans y x ≡ true
+  shares_symmetric x y e =
+      let s = shares_gives_share x y e in
       shares-is y x s.other s.one s.other_is s.one_is ∙ and_from _ _ (eq-eqb y.rank x.rank (sym s.rank)) (eq-eqb (place s.other) (place s.one) (sym s.number))
 
   -- of two operations that share, each shares with the same others
@@ -47,7 +47,7 @@ module _ (place : Op → ℕ) (plans : List Plan) where
   shares_alike x y z e = go (op_at plans z) refl
     where
       s : Share x y
-      s = share_of x y e
+      s = shares_gives_share x y e
 
       go : (a : Option Op) → op_at plans z ≡ a → shares place plans z x ≡ shares place plans z y
       go None p = rw p refl
@@ -55,5 +55,5 @@ module _ (place : Op → ℕ) (plans : List Plan) where
           shares-is z x o s.one p s.one_is ∙ (λ i. (z.rank == s.rank i) && (place o == s.number i)) ∙ sym (shares-is z y o s.other p s.other_is)
 
   -- what shares with one operation shares
-  pub shares_on : (x y z : OpId) → shares place plans x y ≡ true → shares place plans x z ≡ true → shares place plans y z ≡ true
-  shares_on x y z first second = sym (shares_alike x z y second) ∙ shares_back x y first
+  pub shares_transitive : (x y z : OpId) → shares place plans x y ≡ true → shares place plans x z ≡ true → shares place plans y z ≡ true
+  shares_transitive x y z first second = sym (shares_alike x z y second) ∙ shares_symmetric x y first

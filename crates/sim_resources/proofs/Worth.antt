@@ -13,8 +13,8 @@ free_at-more : (place : Op → ℕ) (plans plans' : List Plan) (hs hs' : List Ho
 unfolding free_at
 free_at-more place plans plans' hs hs' h y p e = λ i. max (e i) (if shares place (p i) y h.op then h.until else 0)
 
-pub same_then : (r s t : Holds) → SameFreeTimes r s → SameFreeTimes s t → SameFreeTimes r t
-same_then r s t a b = record {
+pub same_free_times_transitive : (r s t : Holds) → SameFreeTimes r s → SameFreeTimes s t → SameFreeTimes r t
+same_free_times_transitive r s t a b = record {
   plans = a.plans ∙ b.plans;
   cpu = λ y. a.cpu y ∙ b.cpu y;
   tx = λ y. a.tx y ∙ b.tx y;
@@ -47,9 +47,9 @@ same_hold_rx r s x until a = record {
 
 pub holds_add_up : HoldsAddUp
 holds_add_up = record {
-  cpu = record { adds = λ now next all x until a b. same_then next (hold_cpu now x until) (hold_cpu all x until) b (same_hold_cpu now all x until a) };
-  tx = record { adds = λ now next all x until a b. same_then next (hold_tx now x until) (hold_tx all x until) b (same_hold_tx now all x until a) };
-  rx = record { adds = λ now next all x until a b. same_then next (hold_rx now x until) (hold_rx all x until) b (same_hold_rx now all x until a) };
+  cpu = record { adds = λ now next all x until a b. same_free_times_transitive next (hold_cpu now x until) (hold_cpu all x until) b (same_hold_cpu now all x until a) };
+  tx = record { adds = λ now next all x until a b. same_free_times_transitive next (hold_tx now x until) (hold_tx all x until) b (same_hold_tx now all x until a) };
+  rx = record { adds = λ now next all x until a b. same_free_times_transitive next (hold_rx now x until) (hold_rx all x until) b (same_hold_rx now all x until a) };
 }
 
 pub others_stay : OthersStay
@@ -57,43 +57,43 @@ unfolding free_at
 others_stay place plans holds h x other = rw other (omega arith)
 
 module _ (place : Op → ℕ) (plans : List Plan) where
-  contains_cases : (h : Hold) (hs : List Hold) (g : Hold) → Contains (h ∷ hs) g → (h ≡ g) ⊎ Contains hs g
-  contains_cases h hs g (zero, b, e) = inl e
-  contains_cases h hs g (suc k, b, e) = inr (k, omega (arith, b), e)
+  contained_in_cons_cases : (h : Hold) (hs : List Hold) (g : Hold) → Contains (h ∷ hs) g → (h ≡ g) ⊎ Contains hs g
+  contained_in_cons_cases h hs g (zero, b, e) = inl e
+  contained_in_cons_cases h hs g (suc k, b, e) = inr (k, omega (arith, b), e)
 
   free_at-on : (h : Hold) (hs : List Hold) (x : OpId) → shares place plans x h.op ≡ true → free_at place plans (h ∷ hs) x ≡ max (free_at place plans hs x) h.until
   unfolding free_at
   free_at-on h hs x on = rw on refl
 
-  never_less : (h : Hold) (hs : List Hold) (x : OpId) → free_at place plans hs x ≤ free_at place plans (h ∷ hs) x
+  hold_never_frees_earlier : (h : Hold) (hs : List Hold) (x : OpId) → free_at place plans hs x ≤ free_at place plans (h ∷ hs) x
   unfolding free_at
-  never_less h hs x = omega arith
+  hold_never_frees_earlier h hs x = omega arith
 
-  bounds : (hs : List Hold) (x : OpId) (g : Hold) → IsOn place plans hs x g → g.until ≤ free_at place plans hs x
-  bounds [] x g on = absurd (omega (arith, on.made.1))
-  bounds (h ∷ hs) x g on =
-      elim (contains_cases h hs g on.made) [
+  holds_end_before_free : (hs : List Hold) (x : OpId) (g : Hold) → IsOn place plans hs x g → g.until ≤ free_at place plans hs x
+  holds_end_before_free [] x g on = absurd (omega (arith, on.made.1))
+  holds_end_before_free (h ∷ hs) x g on =
+      elim (contained_in_cons_cases h hs g on.made) [
         | inl e ↦
             let shared : shares place plans x h.op ≡ true = subst (λ (f : Hold). shares place plans x f.op ≡ true) (sym e) on.shared in
             omega (arith, free_at-on h hs x shared, ap (λ (f : Hold). f.until) e)
         | inr made ↦
-            let rest = bounds hs x g (record { made = made; shared = on.shared }) in
-            omega (arith, rest, never_less h hs x)
+            let rest = holds_end_before_free hs x g (record { made = made; shared = on.shared }) in
+            omega (arith, rest, hold_never_frees_earlier h hs x)
       ]
 
-  kept : (h : Hold) (hs : List Hold) (x : OpId) → free_at place plans (h ∷ hs) x ≡ free_at place plans hs x → (free_at place plans hs x ≡ 0) ⊎ HasLast place plans hs x → (free_at place plans (h ∷ hs) x ≡ 0) ⊎ HasLast place plans (h ∷ hs) x
-  kept h hs x same (inl zero_yet) = inl (same ∙ zero_yet)
-  kept h hs x same (inr l) =
+  equal_free_time_keeps_last : (h : Hold) (hs : List Hold) (x : OpId) → free_at place plans (h ∷ hs) x ≡ free_at place plans hs x → (free_at place plans hs x ≡ 0) ⊎ HasLast place plans hs x → (free_at place plans (h ∷ hs) x ≡ 0) ⊎ HasLast place plans (h ∷ hs) x
+  equal_free_time_keeps_last h hs x same (inl zero_yet) = inl (same ∙ zero_yet)
+  equal_free_time_keeps_last h hs x same (inr l) =
       inr (record {
         last = l.last;
         on = record { made = contains_more h hs l.last l.on.made; shared = l.on.shared };
         ends = l.ends ∙ sym same;
       })
 
-  reached : (hs : List Hold) (x : OpId) → (free_at place plans hs x ≡ 0) ⊎ HasLast place plans hs x
+  free_time_is_zero_or_last : (hs : List Hold) (x : OpId) → (free_at place plans hs x ≡ 0) ⊎ HasLast place plans hs x
   unfolding free_at
-  reached [] x = inl refl
-  reached (h ∷ hs) x =
+  free_time_is_zero_or_last [] x = inl refl
+  free_time_is_zero_or_last (h ∷ hs) x =
       elim (cases_Bool (shares place plans x h.op)) [
         | inl shared ↦ elim (cases_lt (free_at place plans hs x) h.until) [
           | inl later ↦ inr (record {
@@ -101,13 +101,13 @@ module _ (place : Op → ℕ) (plans : List Plan) where
             on = record { made = contains_first h hs h refl; shared = shared };
             ends = rw shared (omega arith);
           })
-          | inr no_later ↦ kept h hs x (rw shared (omega arith)) (reached hs x)
+          | inr no_later ↦ equal_free_time_keeps_last h hs x (rw shared (omega arith)) (free_time_is_zero_or_last hs x)
         ]
-        | inr other ↦ kept h hs x (others_stay place plans hs h x other) (reached hs x)
+        | inr other ↦ equal_free_time_keeps_last h hs x (others_stay place plans hs h x other) (free_time_is_zero_or_last hs x)
       ]
 
 pub free_times_are_greatest : FreeTimesAreGreatest
 free_times_are_greatest place plans holds x = record {
-  bounds = bounds place plans holds x;
-  reached = reached place plans holds x;
+  bounds = holds_end_before_free place plans holds x;
+  reached = free_time_is_zero_or_last place plans holds x;
 }

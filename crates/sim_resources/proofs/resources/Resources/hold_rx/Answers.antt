@@ -6,7 +6,7 @@ use Rattle.goal_graph.proofs.ForCallers.{receive_is_op}
 use Rattle.sim_resources.specs.declared.pair.Pair.{Pair}
 use Rattle.sim_resources.specs.FreeTimes.{Holds}
 use Rattle.sim_resources.proofs.FreeTimes.{raised}
-use Rattle.sim_resources.proofs.HoldLemmas.{rx_within, rx_held}
+use Rattle.sim_resources.proofs.HoldLemmas.{rx_within, raised_time_holds_rx}
 use Rattle.sim_resources.proofs.resources.Resources.hold_rx.Goals as goal
 
 pub pair_of-pair-requires : goal.pair_of-pair-requires
@@ -22,5 +22,5 @@ raise-requires c =
 pub returns : goal.returns
 returns c =
     let items : (with_items c.self.inside.free c.raise.new.times).items ≡ c.raise.new.times = with_items_is c.self.inside.free c.raise.new.times (omega arith) in
-    rw items (rx_held _ _ c.self.invariant.0 c.self.inside.free.items c.self.invariant.1 _ c.self.view_is c.args.id c.args.until c.raise.new.times c.requires
+    rw items (raised_time_holds_rx _ _ c.self.invariant.0 c.self.inside.free.items c.self.invariant.1 _ c.self.view_is c.args.id c.args.until c.raise.new.times c.requires
     (subst (λ (p : Pair). (t : ℕ) → slice_get c.self.inside.free.items p.side ≡ Some t → c.raise.new.times ≡ raised c.self.inside.free.items p.side t c.args.until) c.pair_of-pair.ensures (rw c.deref_mut.ensures.value at c.raise.ensures)))

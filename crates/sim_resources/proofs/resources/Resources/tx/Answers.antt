@@ -3,7 +3,7 @@ use Rattle.goal_graph.specs.Fault.{IsOp}
 use Rattle.goal_graph.proofs.ForCallers.{send_is_op}
 use Rattle.sim_resources.specs.declared.pair.Pair.{Pair}
 use Rattle.sim_resources.specs.FreeTimes.{Holds}
-use Rattle.sim_resources.proofs.HoldLemmas.{tx_within, tx_read}
+use Rattle.sim_resources.proofs.HoldLemmas.{tx_within, read_time_is_tx_free}
 use Rattle.sim_resources.proofs.resources.Resources.tx.Goals as goal
 
 pub pair_of-pair-requires : goal.pair_of-pair-requires
@@ -18,5 +18,5 @@ free-requires c =
 
 pub returns : goal.returns
 returns c =
-    tx_read _ _ c.self.invariant.0 c.self.inside.free.items c.self.invariant.1 _ c.self.view_is c.args.id c.free.result c.requires
+    read_time_is_tx_free _ _ c.self.invariant.0 c.self.inside.free.items c.self.invariant.1 _ c.self.view_is c.args.id c.free.result c.requires
     (subst (λ (p : Pair). (t : ℕ) → slice_get c.self.inside.free.items p.side ≡ Some t → c.free.result ≡ t) c.pair_of-pair.ensures (rw c.deref.ensures.value at c.free.ensures))
