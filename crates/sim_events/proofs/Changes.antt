@@ -21,15 +21,15 @@ use Rattle.sim_events.specs.Cost.{station_of, station_as, cpu_alone, side_alone,
 use Rattle.sim_events.specs.Changes.{AreAtPlaces, AreHeld, HaveChanged, HaveChangedOn}
 use Rattle.sim_events.specs.Queue.{IsOfSchedule, IsSettledBy}
 use Rattle.sim_events.proofs.FreeAfter.{needs}
-use Rattle.sim_events.proofs.Held.{number, resource_at, pair_there}
-use Rattle.sim_events.proofs.Queue.{listed_kind}
+use Rattle.sim_events.proofs.Held.{number, number_has_needed_resource, pair_of_op_exists}
+use Rattle.sim_events.proofs.Queue.{listed_op_exists}
 
 -- where no station has changed its place
-pub still_placed : (queue : Stationed) → AreAtPlaces queue queue
-still_placed queue = record { stations = refl; pairs = refl; turned = refl; free = refl }
+pub same_places_reflexive : (queue : Stationed) → AreAtPlaces queue queue
+same_places_reflexive queue = record { stations = refl; pairs = refl; turned = refl; free = refl }
 
-pub placed_again : (old mid new : Stationed) → AreAtPlaces old mid → AreAtPlaces mid new → AreAtPlaces old new
-placed_again old mid new p q = record {
+pub same_places_transitive : (old mid new : Stationed) → AreAtPlaces old mid → AreAtPlaces mid new → AreAtPlaces old new
+same_places_transitive old mid new p q = record {
   stations = q.stations ∙ p.stations;
   pairs = q.pairs ∙ p.pairs;
   turned = q.turned ∙ p.turned;
@@ -37,35 +37,35 @@ placed_again old mid new p q = record {
 }
 
 -- the same of equal places
-returned_at : (pairs pairs' : List Pair) (turned turned' : List Bool) (free free' holds returns : List ℕ) → pairs' ≡ pairs → turned' ≡ turned → free' ≡ free → HaveReturned pairs turned free holds returns → HaveReturned pairs' turned' free' holds returns
-returned_at pairs pairs' turned turned' free free' holds returns p t f have =
+returned_in_equal_parts : (pairs pairs' : List Pair) (turned turned' : List Bool) (free free' holds returns : List ℕ) → pairs' ≡ pairs → turned' ≡ turned → free' ≡ free → HaveReturned pairs turned free holds returns → HaveReturned pairs' turned' free' holds returns
+returned_in_equal_parts pairs pairs' turned turned' free free' holds returns p t f have =
     subst (λ ps. HaveReturned ps turned' free' holds returns) (sym p) (subst (λ bs. HaveReturned pairs bs free' holds returns) (sym t) (subst (λ fs. HaveReturned pairs turned fs holds returns) (sym f) have))
 
-held_at : (plans : List Plan) (h : List Timed) (old new : Stationed) (holds : List ℕ) → new.stations ≡ old.stations → new.pairs ≡ old.pairs → AreHeld plans h old holds → AreHeld plans h new holds
-held_at plans h old new holds stations pairs held = record {
+held_in_equal_parts : (plans : List Plan) (h : List Timed) (old new : Stationed) (holds : List ℕ) → new.stations ≡ old.stations → new.pairs ≡ old.pairs → AreHeld plans h old holds → AreHeld plans h new holds
+held_in_equal_parts plans h old new holds stations pairs held = record {
   cpus = λ i x o at is. (λ j. slice_index holds (pair_at (pairs j) (slice_index (stations j) i)).cpu) ∙ held.cpus i x o at is;
   sides = λ i x o at is. (λ j. slice_index holds (pair_at (pairs j) (slice_index (stations j) i)).side) ∙ held.sides i x o at is;
 }
 
 module _ (plans : List Plan) (h : List Timed) (old new : Stationed) (all : ℕ) (changed : HaveChanged plans h old all) where
-  pub changed_placed : AreAtPlaces old new → HaveChanged plans h new all
-  changed_placed p = record {
+  pub changed_at_same_places : AreAtPlaces old new → HaveChanged plans h new all
+  changed_at_same_places p = record {
     holds = changed.holds;
     returns = changed.returns;
-    held = held_at plans h old new changed.holds p.stations p.pairs changed.held;
-    returned = returned_at old.pairs new.pairs old.turned new.turned old.free new.free changed.holds changed.returns p.pairs p.turned p.free changed.returned;
+    held = held_in_equal_parts plans h old new changed.holds p.stations p.pairs changed.held;
+    returned = returned_in_equal_parts old.pairs new.pairs old.turned new.turned old.free new.free changed.holds changed.returns p.pairs p.turned p.free changed.returned;
     counted = changed.counted ∙ ap (λ bs. changes bs changed.returns) (sym p.turned);
   }
 
   -- as the least key is found
-  pub changed_moved : (before after : ℕ) → new.stations ≡ old.stations → new.pairs ≡ old.pairs → new.free ≡ old.free → ((holds returns : List ℕ) → HaveReturned old.pairs old.turned old.free holds returns → HaveMoved old.pairs old.free holds old.turned new.turned returns before after) → HaveChangedOn plans h new all before after
-  changed_moved before after stations pairs free moved = record {
+  pub changed_as_least_is_found : (before after : ℕ) → new.stations ≡ old.stations → new.pairs ≡ old.pairs → new.free ≡ old.free → ((holds returns : List ℕ) → HaveReturned old.pairs old.turned old.free holds returns → HaveMoved old.pairs old.free holds old.turned new.turned returns before after) → HaveChangedOn plans h new all before after
+  changed_as_least_is_found before after stations pairs free moved = record {
     now = changes new.turned m.now;
     changed = record {
       holds = changed.holds;
       returns = m.now;
-      held = held_at plans h old new changed.holds stations pairs changed.held;
-      returned = returned_at old.pairs new.pairs new.turned new.turned old.free new.free changed.holds m.now pairs refl free m.have;
+      held = held_in_equal_parts plans h old new changed.holds stations pairs changed.held;
+      returned = returned_in_equal_parts old.pairs new.pairs new.turned new.turned old.free new.free changed.holds m.now pairs refl free m.have;
       counted = refl;
     };
     counted = omega (arith, m.counted, changed.counted);
@@ -75,15 +75,15 @@ module _ (plans : List Plan) (h : List Timed) (old new : Stationed) (all : ℕ) 
       m = moved changed.holds changed.returns changed.returned
 
 -- what an action holds
-apart : (s r : Station) → (r ≡ s → ⊥) → same_station s r ≡ false
-apart s r d = elim (cases_Bool (same_station s r)) [ inl t ↦ absurd (d (sym (same_station_true s r t))) | inr f ↦ f ]
+unequal_is_not_same_station : (s r : Station) → (r ≡ s → ⊥) → same_station s r ≡ false
+unequal_is_not_same_station s r d = elim (cases_Bool (same_station s r)) [ inl t ↦ absurd (d (sym (same_station_true s r t))) | inr f ↦ f ]
 
 module _ (plans : List Plan) (h : List Timed) (a : Timed) where
-  one_more : (r : Station) → times_held plans (a ∷ h) r ≡ cond (holds_as r a (op_at plans a.op)) 1 0 + times_held plans h r
-  one_more r = sum_by-cons (λ (b : Timed). cond (holds_as r b (op_at plans b.op)) 1 0) a h
+  times_held_after_action : (r : Station) → times_held plans (a ∷ h) r ≡ cond (holds_as r a (op_at plans a.op)) 1 0 + times_held plans h r
+  times_held_after_action r = sum_by-cons (λ (b : Timed). cond (holds_as r b (op_at plans b.op)) 1 0) a h
 
-  counts : (r : Station) (b : Bool) → holds_as r a (op_at plans a.op) ≡ b → times_held plans (a ∷ h) r ≡ cond b 1 0 + times_held plans h r
-  counts r b e = one_more r ∙ ap (λ (c : Bool). cond c 1 0 + times_held plans h r) e
+  times_held_by_answer : (r : Station) (b : Bool) → holds_as r a (op_at plans a.op) ≡ b → times_held plans (a ∷ h) r ≡ cond b 1 0 + times_held plans h r
+  times_held_by_answer r b e = times_held_after_action r ∙ ap (λ (c : Bool). cond c 1 0 + times_held plans h r) e
 
   -- what waits for nothing holds nothing
   holds_nothing : waits_for_room a.class ≡ false → (r : Station) (o : Option Op) → holds_as r a o ≡ false
@@ -111,21 +111,21 @@ module _ (plans : List Plan) (h : List Timed) (a : Timed) where
     and_false true = refl
     and_false false = refl
 
-    holds_no : (r : Station) → (r ≡ cpu_alone (station_of a.op p) → ⊥) → (r ≡ side_alone (station_of a.op p) → ⊥) → holds_as r a (op_at plans a.op) ≡ false
-    holds_no r c s =
+    holds_no_other_resource : (r : Station) → (r ≡ cpu_alone (station_of a.op p) → ⊥) → (r ≡ side_alone (station_of a.op p) → ⊥) → holds_as r a (op_at plans a.op) ≡ false
+    holds_no_other_resource r c s =
         ap (holds_as r a) is_p
-        ∙ ap₂ (λ (b d : Bool). waits_for_room a.class && (b || d)) (apart (cpu_alone (station_of a.op p)) r c) (apart (side_alone (station_of a.op p)) r s)
+        ∙ ap₂ (λ (b d : Bool). waits_for_room a.class && (b || d)) (unequal_is_not_same_station (cpu_alone (station_of a.op p)) r c) (unequal_is_not_same_station (side_alone (station_of a.op p)) r s)
         ∙ and_false (waits_for_room a.class)
 
 module _ (plans : List Plan) (costs : CostModel) (h : List Timed) (a : Timed) (queue : Stationed) (q : IsOfSchedule plans costs h queue) (slot : ℕ) (here : slice_get (operations plans) slot ≡ Some a.op) where
   -- what was known of one of the two resources
-  held_by : (holds : List ℕ) → AreHeld plans h queue holds → (i : ℕ) (x : OpId) (o : Op) → slice_get (operations plans) i ≡ Some x → op_at plans x ≡ Some o → (b : Bool) → slice_index holds (number b (pair_of queue i)) ≡ times_held plans h (needs b (station_of x o))
-  held_by holds held i x o at is false = held.cpus i x o at is
-  held_by holds held i x o at is true = held.sides i x o at is
+  held_by_number : (holds : List ℕ) → AreHeld plans h queue holds → (i : ℕ) (x : OpId) (o : Op) → slice_get (operations plans) i ≡ Some x → op_at plans x ≡ Some o → (b : Bool) → slice_index holds (number b (pair_of queue i)) ≡ times_held plans h (needs b (station_of x o))
+  held_by_number holds held i x o at is false = held.cpus i x o at is
+  held_by_number holds held i x o at is true = held.sides i x o at is
 
   module _ (p : Op) (is_p : op_at plans a.op ≡ Some p) (w : waits_for_room a.class ≡ true) (holds : List ℕ) (resources : length holds ≡ length queue.free) (held : AreHeld plans h queue holds) where
-    held_now : (i : ℕ) (x : OpId) (o : Op) → slice_get (operations plans) i ≡ Some x → op_at plans x ≡ Some o → (b : Bool) → slice_index (held_once_more holds (pair_of queue slot)) (number b (pair_of queue i)) ≡ times_held plans (a ∷ h) (needs b (station_of x o))
-    held_now i x o at is b = go (cases_eq n (pair_of queue slot).side) (cases_eq n (pair_of queue slot).cpu)
+    held_number_after_action : (i : ℕ) (x : OpId) (o : Op) → slice_get (operations plans) i ≡ Some x → op_at plans x ≡ Some o → (b : Bool) → slice_index (held_once_more holds (pair_of queue slot)) (number b (pair_of queue i)) ≡ times_held plans (a ∷ h) (needs b (station_of x o))
+    held_number_after_action i x o at is b = go (cases_eq n (pair_of queue slot).side) (cases_eq n (pair_of queue slot).cpu)
       where
         n : ℕ
         n = number b (pair_of queue i)
@@ -134,16 +134,16 @@ module _ (plans : List Plan) (costs : CostModel) (h : List Timed) (a : Timed) (q
         r = needs b (station_of x o)
 
         exist : ((pair_of queue slot).cpu < length queue.free) × ((pair_of queue slot).side < length queue.free)
-        exist = q.exist (slice_index queue.stations slot) (pair_of queue slot) (pair_there plans costs queue.stations queue.pairs q.stationed slot a.op p here is_p)
+        exist = q.exist (slice_index queue.stations slot) (pair_of queue slot) (pair_of_op_exists plans costs queue.stations queue.pairs q.stationed slot a.op p here is_p)
 
         theirs : slice_get q.stationed.resources n ≡ Some r
-        theirs = resource_at plans costs queue.stations queue.pairs q.stationed i x o at is b
+        theirs = number_has_needed_resource plans costs queue.stations queue.pairs q.stationed i x o at is b
 
         at_side : slice_get q.stationed.resources (pair_of queue slot).side ≡ Some (side_alone (station_of a.op p))
-        at_side = resource_at plans costs queue.stations queue.pairs q.stationed slot a.op p here is_p true
+        at_side = number_has_needed_resource plans costs queue.stations queue.pairs q.stationed slot a.op p here is_p true
 
         at_cpu : slice_get q.stationed.resources (pair_of queue slot).cpu ≡ Some (cpu_alone (station_of a.op p))
-        at_cpu = resource_at plans costs queue.stations queue.pairs q.stationed slot a.op p here is_p false
+        at_cpu = number_has_needed_resource plans costs queue.stations queue.pairs q.stationed slot a.op p here is_p false
 
         cpu_more : ℕ
         cpu_more = slice_index holds (pair_of queue slot).cpu + 1
@@ -152,12 +152,12 @@ module _ (plans : List Plan) (costs : CostModel) (h : List Timed) (a : Timed) (q
         side_more = slice_index holds (pair_of queue slot).side + 1
 
         was : slice_index holds n ≡ times_held plans h r
-        was = held_by holds held i x o at is b
+        was = held_by_number holds held i x o at is b
 
         go : (n ≡ (pair_of queue slot).side) ⊎ (n ≢ (pair_of queue slot).side) → (n ≡ (pair_of queue slot).cpu) ⊎ (n ≢ (pair_of queue slot).cpu) → slice_index (held_once_more holds (pair_of queue slot)) n ≡ times_held plans (a ∷ h) r
         go (inl e) other =
             let one : r ≡ side_alone (station_of a.op p) = same_Some _ _ (sym theirs ∙ ap (slice_get q.stationed.resources) e ∙ at_side) in
-            let more = counts plans h a r true (holds_side plans h a p is_p w r one) in
+            let more = times_held_by_answer plans h a r true (holds_side plans h a p is_p w r one) in
             let now : slice_index (held_once_more holds (pair_of queue slot)) n ≡ side_more = ap (slice_index (held_once_more holds (pair_of queue slot))) e ∙ get_or-set_same (set_once) (pair_of queue slot).side side_more 0 (omega (arith, exist.1, resources, length-set holds (pair_of queue slot).cpu cpu_more)) in
             omega (arith, now, more, was, ap (slice_index holds) e)
           where
@@ -165,43 +165,43 @@ module _ (plans : List Plan) (costs : CostModel) (h : List Timed) (a : Timed) (q
             set_once = set holds (pair_of queue slot).cpu cpu_more
         go (inr d) (inl e) =
             let one : r ≡ cpu_alone (station_of a.op p) = same_Some _ _ (sym theirs ∙ ap (slice_get q.stationed.resources) e ∙ at_cpu) in
-            let more = counts plans h a r true (holds_cpu plans h a p is_p w r one) in
+            let more = times_held_by_answer plans h a r true (holds_cpu plans h a p is_p w r one) in
             let now : slice_index (held_once_more holds (pair_of queue slot)) n ≡ cpu_more = get_or-set_other (set holds (pair_of queue slot).cpu cpu_more) (pair_of queue slot).side n side_more 0 d ∙ ap (slice_index (set holds (pair_of queue slot).cpu cpu_more)) e ∙ get_or-set_same holds (pair_of queue slot).cpu cpu_more 0 (omega (arith, exist.0, resources)) in
             omega (arith, now, more, was, ap (slice_index holds) e)
         go (inr d) (inr f) =
             let no_cpu : r ≡ cpu_alone (station_of a.op p) → ⊥ = λ same. f (q.stationed.numbering.resources_once n (pair_of queue slot).cpu r theirs (at_cpu ∙ ap Some (sym same))) in
             let no_side : r ≡ side_alone (station_of a.op p) → ⊥ = λ same. d (q.stationed.numbering.resources_once n (pair_of queue slot).side r theirs (at_side ∙ ap Some (sym same))) in
-            let more = counts plans h a r false (holds_no plans h a p is_p r no_cpu no_side) in
+            let more = times_held_by_answer plans h a r false (holds_no_other_resource plans h a p is_p r no_cpu no_side) in
             let now : slice_index (held_once_more holds (pair_of queue slot)) n ≡ slice_index holds n = get_or-set_other (set holds (pair_of queue slot).cpu cpu_more) (pair_of queue slot).side n side_more 0 d ∙ get_or-set_other holds (pair_of queue slot).cpu n cpu_more 0 f in
             omega (arith, now, more, was)
 
-    held_more : AreHeld plans (a ∷ h) queue (held_once_more holds (pair_of queue slot))
-    held_more = record {
-      cpus = λ i x o at is. held_now i x o at is false;
-      sides = λ i x o at is. held_now i x o at is true;
+    held_after_action : AreHeld plans (a ∷ h) queue (held_once_more holds (pair_of queue slot))
+    held_after_action = record {
+      cpus = λ i x o at is. held_number_after_action i x o at is false;
+      sides = λ i x o at is. held_number_after_action i x o at is true;
     }
 
   -- what is held by an action that waits for nothing
   held_at_once : waits_for_room a.class ≡ false → (holds : List ℕ) → AreHeld plans h queue holds → AreHeld plans (a ∷ h) queue holds
   held_at_once w holds held = record {
-    cpus = λ i x o at is. omega (arith, held.cpus i x o at is, counts plans h a (cpu_alone (station_of x o)) false (holds_nothing plans h a w (cpu_alone (station_of x o)) (op_at plans a.op)));
-    sides = λ i x o at is. omega (arith, held.sides i x o at is, counts plans h a (side_alone (station_of x o)) false (holds_nothing plans h a w (side_alone (station_of x o)) (op_at plans a.op)));
+    cpus = λ i x o at is. omega (arith, held.cpus i x o at is, times_held_by_answer plans h a (cpu_alone (station_of x o)) false (holds_nothing plans h a w (cpu_alone (station_of x o)) (op_at plans a.op)));
+    sides = λ i x o at is. omega (arith, held.sides i x o at is, times_held_by_answer plans h a (side_alone (station_of x o)) false (holds_nothing plans h a w (side_alone (station_of x o)) (op_at plans a.op)));
   }
 
   -- as an action has happened
-  pub changed_settled : (c s : ℕ) (new : Stationed) → IsSettledBy c s slot a queue new → (all : ℕ) → HaveChanged plans h queue all → HaveChanged plans (a ∷ h) new all
-  changed_settled c s new settled all changed = elim (cases_Bool (waits_for_room a.class)) [ inl w ↦ holding w | inr w ↦ at_once w ]
+  pub changed_after_action : (c s : ℕ) (new : Stationed) → IsSettledBy c s slot a queue new → (all : ℕ) → HaveChanged plans h queue all → HaveChanged plans (a ∷ h) new all
+  changed_after_action c s new settled all changed = elim (cases_Bool (waits_for_room a.class)) [ inl w ↦ holding w | inr w ↦ at_once w ]
     where
       counted : all ≡ changes new.turned changed.returns
       counted = changed.counted ∙ ap (λ bs. changes bs changed.returns) (sym settled.turned)
 
       holding : waits_for_room a.class ≡ true → HaveChanged plans (a ∷ h) new all
       holding w =
-          let o = listed_kind plans costs slot a.op here in
+          let o = listed_op_exists plans costs slot a.op here in
           record {
             holds = held_once_more changed.holds (pair_of queue slot);
             returns = changed.returns;
-            held = held_at plans (a ∷ h) queue new (held_once_more changed.holds (pair_of queue slot)) settled.stations settled.pairs (held_more o.0 o.1 w changed.holds changed.returned.resources changed.held);
+            held = held_in_equal_parts plans (a ∷ h) queue new (held_once_more changed.holds (pair_of queue slot)) settled.stations settled.pairs (held_after_action o.0 o.1 w changed.holds changed.returned.resources changed.held);
             returned = settled.returned w changed.holds changed.returns changed.returned;
             counted = counted;
           }
@@ -210,14 +210,14 @@ module _ (plans : List Plan) (costs : CostModel) (h : List Timed) (a : Timed) (q
       at_once w = record {
         holds = changed.holds;
         returns = changed.returns;
-        held = held_at plans (a ∷ h) queue new changed.holds settled.stations settled.pairs (held_at_once w changed.holds changed.held);
-        returned = returned_at queue.pairs new.pairs queue.turned new.turned queue.free new.free changed.holds changed.returns settled.pairs settled.turned (settled.same_free w) changed.returned;
+        held = held_in_equal_parts plans (a ∷ h) queue new changed.holds settled.stations settled.pairs (held_at_once w changed.holds changed.held);
+        returned = returned_in_equal_parts queue.pairs new.pairs queue.turned new.turned queue.free new.free changed.holds changed.returns settled.pairs settled.turned (settled.same_free w) changed.returned;
         counted = counted;
       }
 
 -- before anything has happened
-pub changed_none : (plans : List Plan) (queue : Stationed) (resources stations : ℕ) → HaveReturned queue.pairs queue.turned queue.free (replicate resources 0) (replicate stations 0) → (all : ℕ) × HaveChanged plans [] queue all
-changed_none plans queue resources stations returned = (
+pub changed_at_start : (plans : List Plan) (queue : Stationed) (resources stations : ℕ) → HaveReturned queue.pairs queue.turned queue.free (replicate resources 0) (replicate stations 0) → (all : ℕ) × HaveChanged plans [] queue all
+changed_at_start plans queue resources stations returned = (
   changes queue.turned (replicate stations 0),
   record {
     holds = replicate resources 0;
@@ -232,8 +232,8 @@ changed_none plans queue resources stations returned = (
     zero_at n k = elim (cases_lt k n) [ inl l ↦ get_or-replicate n k 0 0 l | inr l ↦ get_or_past (replicate n 0) k 0 (omega (arith, l, length-replicate {A = ℕ} n 0)) ]
 
 -- the stations of operations are theirs
-with_cases : (stations : List Station) (s t : Station) (n : ℕ) → slice_get (with_station stations s) n ≡ Some t → (slice_get stations n ≡ Some t) ⊎ (t ≡ s)
-with_cases stations s t n e = go (list_any (same_station s) stations) e
+station_earlier_or_added : (stations : List Station) (s t : Station) (n : ℕ) → slice_get (with_station stations s) n ≡ Some t → (slice_get stations n ≡ Some t) ⊎ (t ≡ s)
+station_earlier_or_added stations s t n e = go (list_any (same_station s) stations) e
   where
     go : (b : Bool) → slice_get (if b then stations else stations ++ s ∷ []) n ≡ Some t → (slice_get stations n ≡ Some t) ⊎ (t ≡ s)
     go true e = inl e
@@ -249,10 +249,10 @@ module _ (plans : List Plan) where
   abbrev more : List Station → OpId → List Station
   more stations x = with_station stations (station_as x (op_at plans x))
 
-  among : (ops : List OpId) (stations : List Station) (t : Station) (n : ℕ) → slice_get (fold more stations ops) n ≡ Some t → ((m : ℕ) × (slice_get stations m ≡ Some t)) ⊎ IsOfOne ops t
-  among [] stations t n e = inl (n, e)
-  among (x ∷ ops) stations t n e = elim (among ops (more stations x) t n e) [
-    | inl was ↦ first was.0 (with_cases stations (station_as x (op_at plans x)) t was.0 was.1)
+  folded_station_is_of_op : (ops : List OpId) (stations : List Station) (t : Station) (n : ℕ) → slice_get (fold more stations ops) n ≡ Some t → ((m : ℕ) × (slice_get stations m ≡ Some t)) ⊎ IsOfOne ops t
+  folded_station_is_of_op [] stations t n e = inl (n, e)
+  folded_station_is_of_op (x ∷ ops) stations t n e = elim (folded_station_is_of_op ops (more stations x) t n e) [
+    | inl was ↦ first was.0 (station_earlier_or_added stations (station_as x (op_at plans x)) t was.0 was.1)
     | inr one ↦ inr (record { slot = suc one.slot; op = one.op; at = one.at; is = one.is })
   ]
     where
@@ -260,8 +260,8 @@ module _ (plans : List Plan) where
       first m (inl was) = inl (m, was)
       first m (inr own) = inr (record { slot = 0; op = x; at = refl; is = own })
 
-  pub of_one : (ops : List OpId) (t : Station) (n : ℕ) → slice_get (stations_among plans ops) n ≡ Some t → IsOfOne ops t
-  of_one ops t n e = elim (among ops [] t n e) [ inl none ↦ absurd (omega (arith, slice_get_within [] none.0 t none.1)) | inr one ↦ one ]
+  pub listed_station_is_of_op : (ops : List OpId) (t : Station) (n : ℕ) → slice_get (stations_among plans ops) n ≡ Some t → IsOfOne ops t
+  listed_station_is_of_op ops t n e = elim (folded_station_is_of_op ops [] t n e) [ inl none ↦ absurd (omega (arith, slice_get_within [] none.0 t none.1)) | inr one ↦ one ]
 
 -- sums over lists whose elements count alike
 sums_alike : {X Y : Type 0} (f : X → ℕ) (g : Y → ℕ) (xs : List X) (ys : List Y) → length xs ≡ length ys → ((n : ℕ) (x : X) (y : Y) → slice_get xs n ≡ Some x → slice_get ys n ≡ Some y → f x ≡ g y) → sum_by f xs ≡ sum_by g ys
@@ -274,8 +274,8 @@ sums_alike f g (x ∷ xs) [] l each = absurd (omega (arith, l))
 
 -- stations have changed their places no more often than what has happened allows
 module _ (plans : List Plan) (costs : CostModel) (h : List Timed) (queue : Stationed) (st : AreStationed plans queue.stations queue.pairs) where
-  pub changed_most : (all : ℕ) → HaveChanged plans h queue all → all ≤ most_moves plans h
-  changed_most all changed =
+  pub changes_at_most_moves : (all : ℕ) → HaveChanged plans h queue all → all ≤ most_moves plans h
+  changes_at_most_moves all changed =
       let few = few_changes queue.pairs queue.turned queue.free changed.holds changed.returns changed.returned in
       let alike = sums_alike of_pair of_station queue.pairs (stations_among plans (operations plans)) (st.numbering.each ∙ ap length st.listed) each in
       omega (arith, few, alike, changed.counted)
@@ -288,8 +288,8 @@ module _ (plans : List Plan) (costs : CostModel) (h : List Timed) (queue : Stati
 
       each : (n : ℕ) (p : Pair) (s : Station) → slice_get queue.pairs n ≡ Some p → slice_get (stations_among plans (operations plans)) n ≡ Some s → of_pair p ≡ of_station s
       each n p s at_p at_s =
-          let one = of_one plans (operations plans) s n at_s in
-          let o = listed_kind plans costs one.slot one.op one.at in
+          let one = listed_station_is_of_op plans (operations plans) s n at_s in
+          let o = listed_op_exists plans costs one.slot one.op one.at in
           let own : s ≡ station_of one.op o.0 = one.is ∙ ap (station_as one.op) o.1 in
           let there : slice_get st.stations n ≡ Some (station_of one.op o.0) = ap (λ xs. slice_get xs n) st.listed ∙ at_s ∙ ap Some own in
           let same : slice_index queue.stations one.slot ≡ n = st.numbering.once _ n (station_of one.op o.0) (st.are one.slot one.op o.0 one.at o.1) there in

@@ -108,12 +108,12 @@ spent_by_count_of_keys k queue = sum_of_costs_of_keys k queue.keys (cost k queue
     zero_more i = omega arith
 
 -- all keys together
-pub spent_most : (k : ℕ) (queue : Stationed) → spent k queue ≤ length queue.keys * (10 * k + 16)
-spent_most k queue =
+pub spent_by_all_slots : (k : ℕ) (queue : Stationed) → spent k queue ≤ length queue.keys * (10 * k + 16)
+spent_by_all_slots k queue =
     omega (arith, spent_by_count_of_keys k queue, mul-le-mul_right {m = count_by is_some queue.keys} {n = length queue.keys} (10 * k + 16) (count_by-le-length is_some queue.keys))
 
 -- keys that have not begun to wait have cost more than it will cost that they do
-pub waiting_paid : (k : ℕ) (queue : Stationed) → count_ahead queue.stands ≤ count_by is_some queue.keys → cost_of_waiting k queue.stands ≤ spent k queue
-waiting_paid k queue few =
+pub waiting_costs_at_most_spent : (k : ℕ) (queue : Stationed) → count_ahead queue.stands ≤ count_by is_some queue.keys → cost_of_waiting k queue.stands ≤ spent k queue
+waiting_costs_at_most_spent k queue few =
     let wait = mul-le-mul_right {m = count_ahead queue.stands} {n = count_by is_some queue.keys} (8 * k + 12) few in
     omega (arith, wait, spent_by_count_of_keys k queue)

@@ -22,33 +22,33 @@ use Rattle.sim_resources.specs.declared.station.Station.{Station}
 use Rattle.sim_events.specs.Cost.{station_by, station_of, cpu_alone, side_alone}
 
 -- two operations of one rank at one place are at the same place as others
-same_places : (place : Op → ℕ) (x y z : OpId) (o p : Op) (q : Option Op) → x.rank ≡ y.rank → place o ≡ place p → same_place place x (Some o) z q ≡ same_place place y (Some p) z q
-same_places place x y z o p None e f = refl
-same_places place x y z o p (Some q) e f =
+equal_places_share_alike : (place : Op → ℕ) (x y z : OpId) (o p : Op) (q : Option Op) → x.rank ≡ y.rank → place o ≡ place p → same_place place x (Some o) z q ≡ same_place place y (Some p) z q
+equal_places_share_alike place x y z o p None e f = refl
+equal_places_share_alike place x y z o p (Some q) e f =
     ap₂ (λ (b c : Bool). b && c) (ap (λ r. r == z.rank) e) (ap (λ n. n == place q) f)
 
 module _ (plans : List Plan) (costs : CostModel) (x y : OpId) (o p : Op) (is_o : op_at plans x ≡ Some o) (is_p : op_at plans y ≡ Some p) (rank : x.rank ≡ y.rank) where
-  at_place : (place : Op → ℕ) → place o ≡ place p → (z : OpId) → same_place place x (op_at plans x) z (op_at plans z) ≡ same_place place y (op_at plans y) z (op_at plans z)
-  at_place place e z =
-      ap (λ a. same_place place x a z (op_at plans z)) is_o ∙ same_places place x y z o p (op_at plans z) rank e ∙ sym (ap (λ a. same_place place y a z (op_at plans z)) is_p)
+  ops_at_one_place_share_alike : (place : Op → ℕ) → place o ≡ place p → (z : OpId) → same_place place x (op_at plans x) z (op_at plans z) ≡ same_place place y (op_at plans y) z (op_at plans z)
+  ops_at_one_place_share_alike place e z =
+      ap (λ a. same_place place x a z (op_at plans z)) is_o ∙ equal_places_share_alike place x y z o p (op_at plans z) rank e ∙ sym (ap (λ a. same_place place y a z (op_at plans z)) is_p)
 
-  one_cpu : o.cpu ≡ p.cpu → (h : List Timed) → cpu plans costs h x ≡ cpu plans costs h y
+  same_cpu_free_alike : o.cpu ≡ p.cpu → (h : List Timed) → cpu plans costs h x ≡ cpu plans costs h y
   unfolding cpu
-  one_cpu e [] = refl
-  one_cpu e (a ∷ h) =
-      ap₂ (λ (n : ℕ) (b : Bool). max n (if holds_cpu a.class && b then a.time + cpu_hold plans costs h a.class a.op (kind_at plans a.op) else 0)) (one_cpu e h) (at_place (λ (q : Op). q.cpu) e a.op)
+  same_cpu_free_alike e [] = refl
+  same_cpu_free_alike e (a ∷ h) =
+      ap₂ (λ (n : ℕ) (b : Bool). max n (if holds_cpu a.class && b then a.time + cpu_hold plans costs h a.class a.op (kind_at plans a.op) else 0)) (same_cpu_free_alike e h) (ops_at_one_place_share_alike (λ (q : Op). q.cpu) e a.op)
 
-  one_tx : o.nic ≡ p.nic → (h : List Timed) → tx plans costs h x ≡ tx plans costs h y
+  same_nic_tx_free_alike : o.nic ≡ p.nic → (h : List Timed) → tx plans costs h x ≡ tx plans costs h y
   unfolding tx
-  one_tx e [] = refl
-  one_tx e (a ∷ h) =
-      ap₂ (λ (n : ℕ) (b : Bool). max n (if holds_tx a.class (kind_at plans a.op) && b then a.time + tx_hold plans costs a.class a.op (kind_at plans a.op) else 0)) (one_tx e h) (at_place (λ (q : Op). q.nic) e a.op)
+  same_nic_tx_free_alike e [] = refl
+  same_nic_tx_free_alike e (a ∷ h) =
+      ap₂ (λ (n : ℕ) (b : Bool). max n (if holds_tx a.class (kind_at plans a.op) && b then a.time + tx_hold plans costs a.class a.op (kind_at plans a.op) else 0)) (same_nic_tx_free_alike e h) (ops_at_one_place_share_alike (λ (q : Op). q.nic) e a.op)
 
-  one_rx : o.nic ≡ p.nic → (h : List Timed) → rx plans costs h x ≡ rx plans costs h y
+  same_nic_rx_free_alike : o.nic ≡ p.nic → (h : List Timed) → rx plans costs h x ≡ rx plans costs h y
   unfolding rx
-  one_rx e [] = refl
-  one_rx e (a ∷ h) =
-      ap₂ (λ (n : ℕ) (b : Bool). max n (if holds_rx a.class && b then a.time + rx_hold plans costs h a.class a.op (kind_at plans a.op) else 0)) (one_rx e h) (at_place (λ (q : Op). q.nic) e a.op)
+  same_nic_rx_free_alike e [] = refl
+  same_nic_rx_free_alike e (a ∷ h) =
+      ap₂ (λ (n : ℕ) (b : Bool). max n (if holds_rx a.class && b then a.time + rx_hold plans costs h a.class a.op (kind_at plans a.op) else 0)) (same_nic_rx_free_alike e h) (ops_at_one_place_share_alike (λ (q : Op). q.nic) e a.op)
 
 -- one of the two resources of a station, and when that of an operation of this kind is free
 abbrev pub needs : Bool → Station → Station
@@ -69,46 +69,46 @@ abbrev receiver_of : OpId → Op → Station
 receiver_of x o = record { rank = x.rank; cpu = None; sends = None; receives = Some o.nic }
 
 module _ (plans : List Plan) (costs : CostModel) (h : List Timed) (x y : OpId) (o p : Op) (is_o : op_at plans x ≡ Some o) (is_p : op_at plans y ≡ Some p) where
-  at_cpu : (b : Bool) (k : Kind) → needs b (station_by x o k) ≡ cpu_of y p → free_at plans costs h b x k ≡ cpu plans costs h y
-  at_cpu false (Calc n) e = one_cpu plans costs x y o p is_o is_p (ap (λ (s : Station). s.rank) e) (same_Some o.cpu p.cpu (ap (λ (s : Station). s.cpu) e)) h
-  at_cpu false (Send n t u) e = one_cpu plans costs x y o p is_o is_p (ap (λ (s : Station). s.rank) e) (same_Some o.cpu p.cpu (ap (λ (s : Station). s.cpu) e)) h
-  at_cpu false (Recv n t u) e = one_cpu plans costs x y o p is_o is_p (ap (λ (s : Station). s.rank) e) (same_Some o.cpu p.cpu (ap (λ (s : Station). s.cpu) e)) h
-  at_cpu true (Calc n) e = one_cpu plans costs x y o p is_o is_p (ap (λ (s : Station). s.rank) e) (same_Some o.cpu p.cpu (ap (λ (s : Station). s.cpu) e)) h
-  at_cpu true (Send n t u) e = let f = ap (λ (s : Station). s.cpu) e in absurd (cc)
-  at_cpu true (Recv n t u) e = let f = ap (λ (s : Station). s.cpu) e in absurd (cc)
+  needed_cpu_is_free_time : (b : Bool) (k : Kind) → needs b (station_by x o k) ≡ cpu_of y p → free_at plans costs h b x k ≡ cpu plans costs h y
+  needed_cpu_is_free_time false (Calc n) e = same_cpu_free_alike plans costs x y o p is_o is_p (ap (λ (s : Station). s.rank) e) (same_Some o.cpu p.cpu (ap (λ (s : Station). s.cpu) e)) h
+  needed_cpu_is_free_time false (Send n t u) e = same_cpu_free_alike plans costs x y o p is_o is_p (ap (λ (s : Station). s.rank) e) (same_Some o.cpu p.cpu (ap (λ (s : Station). s.cpu) e)) h
+  needed_cpu_is_free_time false (Recv n t u) e = same_cpu_free_alike plans costs x y o p is_o is_p (ap (λ (s : Station). s.rank) e) (same_Some o.cpu p.cpu (ap (λ (s : Station). s.cpu) e)) h
+  needed_cpu_is_free_time true (Calc n) e = same_cpu_free_alike plans costs x y o p is_o is_p (ap (λ (s : Station). s.rank) e) (same_Some o.cpu p.cpu (ap (λ (s : Station). s.cpu) e)) h
+  needed_cpu_is_free_time true (Send n t u) e = let f = ap (λ (s : Station). s.cpu) e in absurd (cc)
+  needed_cpu_is_free_time true (Recv n t u) e = let f = ap (λ (s : Station). s.cpu) e in absurd (cc)
 
-  at_sender : (b : Bool) (k : Kind) → needs b (station_by x o k) ≡ sender_of y p → free_at plans costs h b x k ≡ tx plans costs h y
-  at_sender false (Calc n) e = let f = ap (λ (s : Station). s.cpu) e in absurd (cc)
-  at_sender false (Send n t u) e = let f = ap (λ (s : Station). s.cpu) e in absurd (cc)
-  at_sender false (Recv n t u) e = let f = ap (λ (s : Station). s.cpu) e in absurd (cc)
-  at_sender true (Calc n) e = let f = ap (λ (s : Station). s.cpu) e in absurd (cc)
-  at_sender true (Send n t u) e = one_tx plans costs x y o p is_o is_p (ap (λ (s : Station). s.rank) e) (same_Some o.nic p.nic (ap (λ (s : Station). s.sends) e)) h
-  at_sender true (Recv n t u) e = let f = ap (λ (s : Station). s.sends) e in absurd (cc)
+  needed_tx_is_free_time : (b : Bool) (k : Kind) → needs b (station_by x o k) ≡ sender_of y p → free_at plans costs h b x k ≡ tx plans costs h y
+  needed_tx_is_free_time false (Calc n) e = let f = ap (λ (s : Station). s.cpu) e in absurd (cc)
+  needed_tx_is_free_time false (Send n t u) e = let f = ap (λ (s : Station). s.cpu) e in absurd (cc)
+  needed_tx_is_free_time false (Recv n t u) e = let f = ap (λ (s : Station). s.cpu) e in absurd (cc)
+  needed_tx_is_free_time true (Calc n) e = let f = ap (λ (s : Station). s.cpu) e in absurd (cc)
+  needed_tx_is_free_time true (Send n t u) e = same_nic_tx_free_alike plans costs x y o p is_o is_p (ap (λ (s : Station). s.rank) e) (same_Some o.nic p.nic (ap (λ (s : Station). s.sends) e)) h
+  needed_tx_is_free_time true (Recv n t u) e = let f = ap (λ (s : Station). s.sends) e in absurd (cc)
 
-  at_receiver : (b : Bool) (k : Kind) → needs b (station_by x o k) ≡ receiver_of y p → free_at plans costs h b x k ≡ rx plans costs h y
-  at_receiver false (Calc n) e = let f = ap (λ (s : Station). s.cpu) e in absurd (cc)
-  at_receiver false (Send n t u) e = let f = ap (λ (s : Station). s.cpu) e in absurd (cc)
-  at_receiver false (Recv n t u) e = let f = ap (λ (s : Station). s.cpu) e in absurd (cc)
-  at_receiver true (Calc n) e = let f = ap (λ (s : Station). s.cpu) e in absurd (cc)
-  at_receiver true (Send n t u) e = let f = ap (λ (s : Station). s.sends) e in absurd (cc)
-  at_receiver true (Recv n t u) e = one_rx plans costs x y o p is_o is_p (ap (λ (s : Station). s.rank) e) (same_Some o.nic p.nic (ap (λ (s : Station). s.receives) e)) h
+  needed_rx_is_free_time : (b : Bool) (k : Kind) → needs b (station_by x o k) ≡ receiver_of y p → free_at plans costs h b x k ≡ rx plans costs h y
+  needed_rx_is_free_time false (Calc n) e = let f = ap (λ (s : Station). s.cpu) e in absurd (cc)
+  needed_rx_is_free_time false (Send n t u) e = let f = ap (λ (s : Station). s.cpu) e in absurd (cc)
+  needed_rx_is_free_time false (Recv n t u) e = let f = ap (λ (s : Station). s.cpu) e in absurd (cc)
+  needed_rx_is_free_time true (Calc n) e = let f = ap (λ (s : Station). s.cpu) e in absurd (cc)
+  needed_rx_is_free_time true (Send n t u) e = let f = ap (λ (s : Station). s.sends) e in absurd (cc)
+  needed_rx_is_free_time true (Recv n t u) e = same_nic_rx_free_alike plans costs x y o p is_o is_p (ap (λ (s : Station). s.rank) e) (same_Some o.nic p.nic (ap (λ (s : Station). s.receives) e)) h
 
-  free_by : (b c : Bool) (k l : Kind) → needs b (station_by x o k) ≡ needs c (station_by y p l) → free_at plans costs h b x k ≡ free_at plans costs h c y l
-  free_by b false k (Calc n) e = at_cpu b k e
-  free_by b false k (Send n t u) e = at_cpu b k e
-  free_by b false k (Recv n t u) e = at_cpu b k e
-  free_by b true k (Calc n) e = at_cpu b k e
-  free_by b true k (Send n t u) e = at_sender b k e
-  free_by b true k (Recv n t u) e = at_receiver b k e
+  same_need_by_kind_free_alike : (b c : Bool) (k l : Kind) → needs b (station_by x o k) ≡ needs c (station_by y p l) → free_at plans costs h b x k ≡ free_at plans costs h c y l
+  same_need_by_kind_free_alike b false k (Calc n) e = needed_cpu_is_free_time b k e
+  same_need_by_kind_free_alike b false k (Send n t u) e = needed_cpu_is_free_time b k e
+  same_need_by_kind_free_alike b false k (Recv n t u) e = needed_cpu_is_free_time b k e
+  same_need_by_kind_free_alike b true k (Calc n) e = needed_cpu_is_free_time b k e
+  same_need_by_kind_free_alike b true k (Send n t u) e = needed_tx_is_free_time b k e
+  same_need_by_kind_free_alike b true k (Recv n t u) e = needed_rx_is_free_time b k e
 
   -- what needs one resource finds it free at one time
-  pub one_free : (b c : Bool) → needs b (station_of x o) ≡ needs c (station_of y p) → free_at plans costs h b x o.kind ≡ free_at plans costs h c y p.kind
-  one_free b c e = free_by b c o.kind p.kind e
+  pub same_need_free_alike : (b c : Bool) → needs b (station_of x o) ≡ needs c (station_of y p) → free_at plans costs h b x o.kind ≡ free_at plans costs h c y p.kind
+  same_need_free_alike b c e = same_need_by_kind_free_alike b c o.kind p.kind e
 
 -- the times of an operation, by its kind
-pub side_is : (plans : List Plan) (costs : CostModel) (h : List Timed) (x : OpId) (o : Op) → op_at plans x ≡ Some o → side plans costs h x ≡ side_of plans costs h x (Some o.kind)
+pub side_by_kind : (plans : List Plan) (costs : CostModel) (h : List Timed) (x : OpId) (o : Op) → op_at plans x ≡ Some o → side plans costs h x ≡ side_of plans costs h x (Some o.kind)
 unfolding kind_at
-side_is plans costs h x o is = ap (λ (q : Option Op). side_of plans costs h x (option_map (λ (p : Op). p.kind) q)) is
+side_by_kind plans costs h x o is = ap (λ (q : Option Op). side_of plans costs h x (option_map (λ (p : Op). p.kind) q)) is
 
 module _ (plans : List Plan) (costs : CostModel) (a : Timed) (h : List Timed) where
   -- no time falls
@@ -127,33 +127,33 @@ module _ (plans : List Plan) (costs : CostModel) (a : Timed) (h : List Timed) wh
   side_grows x = side_of_grows x (kind_at plans x)
 
   module _ (possible : Possible plans costs h a) (x : OpId) (o q : Op) (is_o : op_at plans x ≡ Some o) (is_q : op_at plans a.op ≡ Some q) where
-    stays : (n m : ℕ) (b : Bool) → (b ≡ true → ⊥) → max n (if b then m else 0) ≡ n
-    stays n m true apart = absurd (apart refl)
-    stays n m false apart = omega arith
+    max_without_hold : (n m : ℕ) (b : Bool) → (b ≡ true → ⊥) → max n (if b then m else 0) ≡ n
+    max_without_hold n m true apart = absurd (apart refl)
+    max_without_hold n m false apart = omega arith
 
-    place_true : (place : Op → ℕ) → same_place place x (op_at plans x) a.op (op_at plans a.op) ≡ true → (x.rank ≡ a.op.rank) × (place o ≡ place q)
-    place_true place e =
+    same_place_means_equal : (place : Op → ℕ) → same_place place x (op_at plans x) a.op (op_at plans a.op) ≡ true → (x.rank ≡ a.op.rank) × (place o ≡ place q)
+    same_place_means_equal place e =
         let t : same_place place x (Some o) a.op (Some q) ≡ true = ap₂ (λ (u v : Option Op). same_place place x u a.op v) (sym is_o) (sym is_q) ∙ e in
         let parts = and_parts (x.rank == a.op.rank) (place o == place q) t in
         (eqb-true x.rank a.op.rank parts.0, eqb-true (place o) (place q) parts.1)
 
     -- the kind of the action's operation
-    kind_is : kind_at plans a.op ≡ Some q.kind
+    kind_of_action_op : kind_at plans a.op ≡ Some q.kind
     unfolding kind_at
-    kind_is = ap (option_map (λ (p : Op). p.kind)) is_q
+    kind_of_action_op = ap (option_map (λ (p : Op). p.kind)) is_q
 
     cpu_stays : (cpu_of x o ≡ cpu_of a.op q → ⊥) → cpu plans costs (a ∷ h) x ≡ cpu plans costs h x
     unfolding cpu
-    cpu_stays apart = stays _ _ (holds_cpu a.class && same_place (λ (p : Op). p.cpu) x (op_at plans x) a.op (op_at plans a.op)) (λ e. apart (at (place_true (λ (p : Op). p.cpu) (and_parts (holds_cpu a.class) _ e).1)))
+    cpu_stays apart = max_without_hold _ _ (holds_cpu a.class && same_place (λ (p : Op). p.cpu) x (op_at plans x) a.op (op_at plans a.op)) (λ e. apart (at (same_place_means_equal (λ (p : Op). p.cpu) (and_parts (holds_cpu a.class) _ e).1)))
       where
         at : (x.rank ≡ a.op.rank) × (o.cpu ≡ q.cpu) → cpu_of x o ≡ cpu_of a.op q
         at e = λ i. record { rank = e.0 i; cpu = Some (e.1 i); sends = None; receives = None }
 
     tx_stays : (sender_of x o ≡ side_alone (station_of a.op q) → ⊥) → tx plans costs (a ∷ h) x ≡ tx plans costs h x
     unfolding tx
-    tx_stays apart = stays _ _ (holds_tx a.class (kind_at plans a.op) && same_place (λ (p : Op). p.nic) x (op_at plans x) a.op (op_at plans a.op)) (λ e.
+    tx_stays apart = max_without_hold _ _ (holds_tx a.class (kind_at plans a.op) && same_place (λ (p : Op). p.nic) x (op_at plans x) a.op (op_at plans a.op)) (λ e.
         let both = and_parts (holds_tx a.class (kind_at plans a.op)) _ e in
-        apart (at a.class q.kind (ap (holds_tx a.class) (sym kind_is) ∙ both.0) (place_true (λ (p : Op). p.nic) both.1)))
+        apart (at a.class q.kind (ap (holds_tx a.class) (sym kind_of_action_op) ∙ both.0) (same_place_means_equal (λ (p : Op). p.nic) both.1)))
       where
         at : (c : Class) (k : Kind) → holds_tx c (Some k) ≡ true → (x.rank ≡ a.op.rank) × (o.nic ≡ q.nic) → sender_of x o ≡ side_alone (station_by a.op q k)
         at Begin (Send n t u) w e = λ i. record { rank = e.0 i; cpu = None; sends = Some (e.1 i); receives = None }
@@ -162,11 +162,11 @@ module _ (plans : List Plan) (costs : CostModel) (a : Timed) (h : List Timed) wh
 
     rx_stays : (receiver_of x o ≡ side_alone (station_of a.op q) → ⊥) → rx plans costs (a ∷ h) x ≡ rx plans costs h x
     unfolding rx
-    rx_stays apart = stays _ _ (holds_rx a.class && same_place (λ (p : Op). p.nic) x (op_at plans x) a.op (op_at plans a.op)) (λ e.
+    rx_stays apart = max_without_hold _ _ (holds_rx a.class && same_place (λ (p : Op). p.nic) x (op_at plans x) a.op (op_at plans a.op)) (λ e.
         let both = and_parts (holds_rx a.class) _ e in
         let serves : allowed plans (is_eager plans costs) (plain h) Serve a.op ≡ true = subst (λ (d : Class). allowed plans (is_eager plans costs) (plain h) d a.op ≡ true) (is_serve a.class both.0) possible.allowed in
         let receive = (allowed_serve plans (is_eager plans costs) (plain h) a.op serves).0 in
-        apart (at q.kind (same_Some q.kind _ (sym kind_is ∙ receive.kind)) (place_true (λ (p : Op). p.nic) both.1)))
+        apart (at q.kind (same_Some q.kind _ (sym kind_of_action_op ∙ receive.kind)) (same_place_means_equal (λ (p : Op). p.nic) both.1)))
       where
         is_serve : (c : Class) → holds_rx c ≡ true → c ≡ Serve
         is_serve Serve w = refl
@@ -236,8 +236,8 @@ module _ (plans : List Plan) (costs : CostModel) (a : Timed) (h : List Timed) wh
       go (Some (Recv n t u)) = rx_at_once x w
 
 -- what an operation waits for is free when both of its resources are
-pub both_are : (plans : List Plan) (costs : CostModel) (h : List Timed) (x : OpId) → (is_op : (k : Kind) × (kind_at plans x ≡ Some k)) → free plans costs h x ≡ max (cpu plans costs h x) (side plans costs h x)
-both_are plans costs h x op =
+pub free_is_later_of_both : (plans : List Plan) (costs : CostModel) (h : List Timed) (x : OpId) → (is_op : (k : Kind) × (kind_at plans x ≡ Some k)) → free plans costs h x ≡ max (cpu plans costs h x) (side plans costs h x)
+free_is_later_of_both plans costs h x op =
     ap (free_of plans costs h x) op.1 ∙ go op.0 ∙ sym (ap (λ (k : Option Kind). max (cpu plans costs h x) (side_of plans costs h x k)) op.1)
   where
     go : (k : Kind) → free_of plans costs h x (Some k) ≡ max (cpu plans costs h x) (side_of plans costs h x (Some k))

@@ -16,7 +16,7 @@ use Rattle.sim_state.specs.Free.{side}
 use Rattle.sim_resources.specs.Numbering.{AreStationed}
 use Rattle.sim_events.specs.Cost.{station_of, cpu_alone, side_alone}
 use Rattle.sim_events.specs.Queue.{AreFree, IsOfSchedule}
-use Rattle.sim_events.proofs.FreeAfter.{needs, free_at, one_free, side_is, cpu_grows, side_grows, free_stays, cpu_at_once, side_at_once}
+use Rattle.sim_events.proofs.FreeAfter.{needs, free_at, same_need_free_alike, side_by_kind, cpu_grows, side_grows, free_stays, cpu_at_once, side_at_once}
 
 -- the number of one of the two resources of a pair
 abbrev pub number : Bool → Pair → ℕ
@@ -25,8 +25,8 @@ number true p = p.side
 
 module _ (plans : List Plan) (costs : CostModel) where
   -- the resource of an operation is the one of its number
-  pub resource_at : (numbers : List ℕ) (pairs : List Pair) (st : AreStationed plans numbers pairs) (i : ℕ) (x : OpId) (o : Op) → slice_get (operations plans) i ≡ Some x → op_at plans x ≡ Some o → (b : Bool) → slice_get st.resources (number b (pair_at pairs (slice_index numbers i))) ≡ Some (needs b (station_of x o))
-  resource_at numbers pairs st i x o at is b =
+  pub number_has_needed_resource : (numbers : List ℕ) (pairs : List Pair) (st : AreStationed plans numbers pairs) (i : ℕ) (x : OpId) (o : Op) → slice_get (operations plans) i ≡ Some x → op_at plans x ≡ Some o → (b : Bool) → slice_get st.resources (number b (pair_at pairs (slice_index numbers i))) ≡ Some (needs b (station_of x o))
+  number_has_needed_resource numbers pairs st i x o at is b =
       let here = st.are i x o at is in
       let few : slice_index numbers i < length pairs = omega (arith, st.numbering.each, slice_get_within st.stations (slice_index numbers i) (station_of x o) here) in
       let pair : slice_get pairs (slice_index numbers i) ≡ Some (pair_at pairs (slice_index numbers i)) = slice_get-get_or pairs (slice_index numbers i) (record { cpu = 0; side = 0 }) few in
@@ -37,55 +37,55 @@ module _ (plans : List Plan) (costs : CostModel) where
       go true here pair = st.numbering.sides (slice_index numbers i) (station_of x o) _ here pair
 
   -- the pair of an operation is one of those that there are
-  pub pair_there : (numbers : List ℕ) (pairs : List Pair) (st : AreStationed plans numbers pairs) (i : ℕ) (x : OpId) (o : Op) → slice_get (operations plans) i ≡ Some x → op_at plans x ≡ Some o → slice_get pairs (slice_index numbers i) ≡ Some (pair_at pairs (slice_index numbers i))
-  pair_there numbers pairs st i x o at is =
+  pub pair_of_op_exists : (numbers : List ℕ) (pairs : List Pair) (st : AreStationed plans numbers pairs) (i : ℕ) (x : OpId) (o : Op) → slice_get (operations plans) i ≡ Some x → op_at plans x ≡ Some o → slice_get pairs (slice_index numbers i) ≡ Some (pair_at pairs (slice_index numbers i))
+  pair_of_op_exists numbers pairs st i x o at is =
       slice_get-get_or pairs (slice_index numbers i) (record { cpu = 0; side = 0 }) (omega (arith, st.numbering.each, slice_get_within st.stations (slice_index numbers i) (station_of x o) (st.are i x o at is)))
 
   -- what a queue knows of one of the two resources of an operation
   pub free_by_number : (h : List Timed) (queue : Stationed) → AreFree plans costs h queue → (i : ℕ) (x : OpId) (o : Op) → slice_get (operations plans) i ≡ Some x → op_at plans x ≡ Some o → (b : Bool) → slice_index queue.free (number b (pair_of queue i)) ≡ free_at plans costs h b x o.kind
   free_by_number h queue free i x o at is false = free.cpus i x at
-  free_by_number h queue free i x o at is true = free.sides i x at ∙ side_is plans costs h x o is
+  free_by_number h queue free i x o at is true = free.sides i x at ∙ side_by_kind plans costs h x o is
 
   module _ (h : List Timed) (a : Timed) (possible : Possible plans costs h a) (queue : Stationed) (q : IsOfSchedule plans costs h queue) (slot : ℕ) (here : slice_get (operations plans) slot ≡ Some a.op) (p : Op) (is_p : op_at plans a.op ≡ Some p) where
     -- no free time falls
-    pub later : (c s : ℕ) → c ≡ cpu plans costs (a ∷ h) a.op → s ≡ side plans costs (a ∷ h) a.op → IsLater queue.free (pair_of queue slot) c s
-    later c s ce se = record {
+    pub held_times_are_later : (c s : ℕ) → c ≡ cpu plans costs (a ∷ h) a.op → s ≡ side plans costs (a ∷ h) a.op → IsLater queue.free (pair_of queue slot) c s
+    held_times_are_later c s ce se = record {
       cpu_later = omega (arith, ce, q.free.cpus slot a.op here, cpu_grows plans costs a h a.op);
       side_later = go (cases_eq (pair_of queue slot).side (pair_of queue slot).cpu);
     }
       where
         exist : ((pair_of queue slot).cpu < length queue.free) × ((pair_of queue slot).side < length queue.free)
-        exist = q.exist (slice_index queue.stations slot) (pair_of queue slot) (pair_there queue.stations queue.pairs q.stationed slot a.op p here is_p)
+        exist = q.exist (slice_index queue.stations slot) (pair_of queue slot) (pair_of_op_exists queue.stations queue.pairs q.stationed slot a.op p here is_p)
 
         same : (pair_of queue slot).side ≡ (pair_of queue slot).cpu → side plans costs (a ∷ h) a.op ≡ cpu plans costs (a ∷ h) a.op
         same e =
-            let at_side = resource_at queue.stations queue.pairs q.stationed slot a.op p here is_p true in
-            let at_cpu = resource_at queue.stations queue.pairs q.stationed slot a.op p here is_p false in
+            let at_side = number_has_needed_resource queue.stations queue.pairs q.stationed slot a.op p here is_p true in
+            let at_cpu = number_has_needed_resource queue.stations queue.pairs q.stationed slot a.op p here is_p false in
             let one : needs true (station_of a.op p) ≡ needs false (station_of a.op p) = same_Some _ _ (sym at_side ∙ ap (slice_get q.stationed.resources) e ∙ at_cpu) in
-            side_is plans costs (a ∷ h) a.op p is_p ∙ one_free plans costs (a ∷ h) a.op a.op p p is_p is_p true false one
+            side_by_kind plans costs (a ∷ h) a.op p is_p ∙ same_need_free_alike plans costs (a ∷ h) a.op a.op p p is_p is_p true false one
 
         go : ((pair_of queue slot).side ≡ (pair_of queue slot).cpu) ⊎ ((pair_of queue slot).side ≢ (pair_of queue slot).cpu) → slice_index (slice_set queue.free (pair_of queue slot).cpu c) (pair_of queue slot).side ≤ s
         go (inl e) = omega (arith, ap (slice_index (slice_set queue.free (pair_of queue slot).cpu c)) e, get_or-set_same queue.free (pair_of queue slot).cpu c 0 exist.0, ce, se, same e)
         go (inr d) = omega (arith, get_or-set_other queue.free (pair_of queue slot).cpu (pair_of queue slot).side c 0 d, q.free.sides slot a.op here, se, side_grows plans costs a h a.op)
 
     module _ (c s : ℕ) (ce : c ≡ cpu plans costs (a ∷ h) a.op) (se : s ≡ side plans costs (a ∷ h) a.op) where
-      free_now : (i : ℕ) (x : OpId) (o : Op) → slice_get (operations plans) i ≡ Some x → op_at plans x ≡ Some o → (b : Bool) → slice_index (held queue.free (pair_of queue slot) c s) (number b (pair_of queue i)) ≡ free_at plans costs (a ∷ h) b x o.kind
-      free_now i x o at is b = go (cases_eq n (pair_of queue slot).side) (cases_eq n (pair_of queue slot).cpu)
+      number_free_after_hold : (i : ℕ) (x : OpId) (o : Op) → slice_get (operations plans) i ≡ Some x → op_at plans x ≡ Some o → (b : Bool) → slice_index (held queue.free (pair_of queue slot) c s) (number b (pair_of queue i)) ≡ free_at plans costs (a ∷ h) b x o.kind
+      number_free_after_hold i x o at is b = go (cases_eq n (pair_of queue slot).side) (cases_eq n (pair_of queue slot).cpu)
         where
           n : ℕ
           n = number b (pair_of queue i)
 
           exist : ((pair_of queue slot).cpu < length queue.free) × ((pair_of queue slot).side < length queue.free)
-          exist = q.exist (slice_index queue.stations slot) (pair_of queue slot) (pair_there queue.stations queue.pairs q.stationed slot a.op p here is_p)
+          exist = q.exist (slice_index queue.stations slot) (pair_of queue slot) (pair_of_op_exists queue.stations queue.pairs q.stationed slot a.op p here is_p)
 
           theirs : slice_get q.stationed.resources n ≡ Some (needs b (station_of x o))
-          theirs = resource_at queue.stations queue.pairs q.stationed i x o at is b
+          theirs = number_has_needed_resource queue.stations queue.pairs q.stationed i x o at is b
 
           at_side : slice_get q.stationed.resources (pair_of queue slot).side ≡ Some (side_alone (station_of a.op p))
-          at_side = resource_at queue.stations queue.pairs q.stationed slot a.op p here is_p true
+          at_side = number_has_needed_resource queue.stations queue.pairs q.stationed slot a.op p here is_p true
 
           at_cpu : slice_get q.stationed.resources (pair_of queue slot).cpu ≡ Some (cpu_alone (station_of a.op p))
-          at_cpu = resource_at queue.stations queue.pairs q.stationed slot a.op p here is_p false
+          at_cpu = number_has_needed_resource queue.stations queue.pairs q.stationed slot a.op p here is_p false
 
           set_once : List ℕ
           set_once = slice_set queue.free (pair_of queue slot).cpu c
@@ -94,20 +94,20 @@ module _ (plans : List Plan) (costs : CostModel) where
           go (inl e) other =
               let one : needs b (station_of x o) ≡ needs true (station_of a.op p) = same_Some _ _ (sym theirs ∙ ap (slice_get q.stationed.resources) e ∙ at_side) in
               let fits : (pair_of queue slot).side < length (slice_set queue.free (pair_of queue slot).cpu c) = omega (arith, exist.1, length-set queue.free (pair_of queue slot).cpu c) in
-              ap (slice_index (slice_set (slice_set queue.free (pair_of queue slot).cpu c) (pair_of queue slot).side s)) e ∙ get_or-set_same (slice_set queue.free (pair_of queue slot).cpu c) (pair_of queue slot).side s 0 fits ∙ se ∙ side_is plans costs (a ∷ h) a.op p is_p ∙ sym (one_free plans costs (a ∷ h) x a.op o p is is_p b true one)
+              ap (slice_index (slice_set (slice_set queue.free (pair_of queue slot).cpu c) (pair_of queue slot).side s)) e ∙ get_or-set_same (slice_set queue.free (pair_of queue slot).cpu c) (pair_of queue slot).side s 0 fits ∙ se ∙ side_by_kind plans costs (a ∷ h) a.op p is_p ∙ sym (same_need_free_alike plans costs (a ∷ h) x a.op o p is is_p b true one)
           go (inr d) (inl e) =
               let one : needs b (station_of x o) ≡ needs false (station_of a.op p) = same_Some _ _ (sym theirs ∙ ap (slice_get q.stationed.resources) e ∙ at_cpu) in
-              get_or-set_other (slice_set queue.free (pair_of queue slot).cpu c) (pair_of queue slot).side n s 0 d ∙ ap (slice_index (slice_set queue.free (pair_of queue slot).cpu c)) e ∙ get_or-set_same queue.free (pair_of queue slot).cpu c 0 exist.0 ∙ ce ∙ sym (one_free plans costs (a ∷ h) x a.op o p is is_p b false one)
+              get_or-set_other (slice_set queue.free (pair_of queue slot).cpu c) (pair_of queue slot).side n s 0 d ∙ ap (slice_index (slice_set queue.free (pair_of queue slot).cpu c)) e ∙ get_or-set_same queue.free (pair_of queue slot).cpu c 0 exist.0 ∙ ce ∙ sym (same_need_free_alike plans costs (a ∷ h) x a.op o p is is_p b false one)
           go (inr d) (inr f) =
               let no_cpu : needs b (station_of x o) ≡ cpu_alone (station_of a.op p) → ⊥ = λ same. f (q.stationed.numbering.resources_once n (pair_of queue slot).cpu _ theirs (at_cpu ∙ ap Some (sym same))) in
               let no_side : needs b (station_of x o) ≡ side_alone (station_of a.op p) → ⊥ = λ same. d (q.stationed.numbering.resources_once n (pair_of queue slot).side _ theirs (at_side ∙ ap Some (sym same))) in
               get_or-set_other (slice_set queue.free (pair_of queue slot).cpu c) (pair_of queue slot).side n s 0 d ∙ get_or-set_other queue.free (pair_of queue slot).cpu n c 0 f ∙ free_by_number h queue q.free i x o at is b ∙ sym (free_stays plans costs a h possible x o p is is_p b no_cpu no_side)
 
       -- so they are right after an action that holds what it needs
-      pub free_held : (new : Stationed) → new.stations ≡ queue.stations → new.pairs ≡ queue.pairs → new.free ≡ held queue.free (pair_of queue slot) c s → AreFree plans costs (a ∷ h) new
-      free_held new stations pairs free = record {
-        cpus = λ i x at. (λ j. slice_index (free j) (pair_at (pairs j) (slice_index (stations j) i)).cpu) ∙ free_now i x (op i x at).0 at (op i x at).1 false;
-        sides = λ i x at. (λ j. slice_index (free j) (pair_at (pairs j) (slice_index (stations j) i)).side) ∙ free_now i x (op i x at).0 at (op i x at).1 true ∙ sym (side_is plans costs (a ∷ h) x (op i x at).0 (op i x at).1);
+      pub free_times_after_hold : (new : Stationed) → new.stations ≡ queue.stations → new.pairs ≡ queue.pairs → new.free ≡ held queue.free (pair_of queue slot) c s → AreFree plans costs (a ∷ h) new
+      free_times_after_hold new stations pairs free = record {
+        cpus = λ i x at. (λ j. slice_index (free j) (pair_at (pairs j) (slice_index (stations j) i)).cpu) ∙ number_free_after_hold i x (op i x at).0 at (op i x at).1 false;
+        sides = λ i x at. (λ j. slice_index (free j) (pair_at (pairs j) (slice_index (stations j) i)).side) ∙ number_free_after_hold i x (op i x at).0 at (op i x at).1 true ∙ sym (side_by_kind plans costs (a ∷ h) x (op i x at).0 (op i x at).1);
       }
         where
           op : (i : ℕ) (x : OpId) → slice_get (operations plans) i ≡ Some x → (o : Op) × (op_at plans x ≡ Some o)

@@ -6,5 +6,5 @@ use Rattle.goal_graph.proofs.ForCallers.{less_tested}
 use Rattle.sim_order.specs.Events.{event_before}
 use Rattle.sim_order.proofs.ForCallers.{event_by_key}
 
-pub before_event : (a b : Timed) → IsLess (key a) (key b) → event_before a b ≡ true
-before_event a b l = event_by_key a b ∙ less_tested (key a) (key b) l
+pub less_is_event_before : (a b : Timed) → IsLess (key a) (key b) → event_before a b ≡ true
+less_is_event_before a b l = event_by_key a b ∙ less_tested (key a) (key b) l

@@ -35,15 +35,15 @@ use Rattle.sim_events.specs.Queue.{AreFree, IsOfSchedule, IsQueueBut, IsQueue, H
 use Rattle.sim_events.proofs.Awaited.{IsConcerned, newly_allowed}
 use Rattle.sim_events.proofs.Done.{serve_or_not, served_is_done, begun_calc_is_done, arrived_is_done, received_is_done}
 use Rattle.sim_state.specs.Tasks.{IsLast}
-use Rattle.sim_events.proofs.Keys.{before_event}
-use Rattle.sim_events.proofs.Stays.{time_after, free_first}
-use Rattle.sim_events.proofs.FreeAfter.{both_are}
-use Rattle.sim_events.proofs.Held.{free_held, free_at_once}
+use Rattle.sim_events.proofs.Keys.{less_is_event_before}
+use Rattle.sim_events.proofs.Stays.{time_after, free_before_possible}
+use Rattle.sim_events.proofs.FreeAfter.{free_is_later_of_both}
+use Rattle.sim_events.proofs.Held.{free_times_after_hold, free_at_once}
 
 -- a slot that has no key
-pub no_key : (k : Option Timed) → is_some k ≡ false → k ≡ None
-no_key None e = refl
-no_key (Some k) e = absurd (both_ways true e refl)
+pub not_some_is_none : (k : Option Timed) → is_some k ≡ false → k ≡ None
+not_some_is_none None e = refl
+not_some_is_none (Some k) e = absurd (both_ways true e refl)
 
 -- the time of a key once room is free at f
 abbrev pub time_then : ℕ → Timed → ℕ
@@ -51,15 +51,15 @@ time_then f k = if waits_for_room k.class then max k.time f else k.time
 
 module _ (plans : List Plan) (costs : CostModel) where
   -- what is listed is an operation of some kind
-  pub listed_kind : (i : ℕ) (x : OpId) → slice_get (operations plans) i ≡ Some x → (o : Op) × (op_at plans x ≡ Some o)
-  listed_kind i x at =
+  pub listed_op_exists : (i : ℕ) (x : OpId) → slice_get (operations plans) i ≡ Some x → (o : Op) × (op_at plans x ≡ Some o)
+  listed_op_exists i x at =
       let a = listed_op plans x (i, slice_get_within (operations plans) i x at, get_or_from_slice_get (operations plans) i x x at) in (a.op, a.is)
 
   -- both resources of an operation are free, as a queue knows it
-  pub free_known : (h : List Timed) (queue : Stationed) → AreFree plans costs h queue → (i : ℕ) (x : OpId) → slice_get (operations plans) i ≡ Some x → both_free queue.free (pair_of queue i) ≡ free plans costs h x
-  free_known h queue known i x at =
-      let o = listed_kind i x at in
-      ap₂ max (known.cpus i x at) (known.sides i x at) ∙ sym (both_are plans costs h x (o.0.kind, kind_from_op plans x o.0 o.0.kind o.1 refl))
+  pub both_free_is_free_time : (h : List Timed) (queue : Stationed) → AreFree plans costs h queue → (i : ℕ) (x : OpId) → slice_get (operations plans) i ≡ Some x → both_free queue.free (pair_of queue i) ≡ free plans costs h x
+  both_free_is_free_time h queue known i x at =
+      let o = listed_op_exists i x at in
+      ap₂ max (known.cpus i x at) (known.sides i x at) ∙ sym (free_is_later_of_both plans costs h x (o.0.kind, kind_from_op plans x o.0 o.0.kind o.1 refl))
 
   -- one more action
   module _ (h : List Timed) (a : Timed) (run : IsRun plans costs h) (possible : Possible plans costs h a) where
@@ -67,18 +67,18 @@ module _ (plans : List Plan) (costs : CostModel) where
     unfolding plain
     interleaving = (run_interleaving plans costs h run, possible.allowed)
 
-    newly : (c : Class) (x : OpId) → allowed plans (is_eager plans costs) (plain (a ∷ h)) c x ≡ true → (allowed plans (is_eager plans costs) (plain h) c x ≡ true) ⊎ IsConcerned plans (plain (a ∷ h)) (plain_act a) x
+    newly_allowed_is_concerned : (c : Class) (x : OpId) → allowed plans (is_eager plans costs) (plain (a ∷ h)) c x ≡ true → (allowed plans (is_eager plans costs) (plain h) c x ≡ true) ⊎ IsConcerned plans (plain (a ∷ h)) (plain_act a) x
     unfolding plain
-    newly c x e = newly_allowed plans (is_eager plans costs) (plain_act a) (plain h) interleaving c x e
+    newly_allowed_is_concerned c x e = newly_allowed plans (is_eager plans costs) (plain_act a) (plain h) interleaving c x e
 
-    stays : (c : Class) (x : OpId) → ¬ (x ≡ a.op) → allowed plans (is_eager plans costs) (plain h) c x ≡ true → allowed plans (is_eager plans costs) (plain (a ∷ h)) c x ≡ true
+    other_stays_allowed : (c : Class) (x : OpId) → ¬ (x ≡ a.op) → allowed plans (is_eager plans costs) (plain h) c x ≡ true → allowed plans (is_eager plans costs) (plain (a ∷ h)) c x ≡ true
     unfolding plain
-    stays c x d e =
+    other_stays_allowed c x d e =
         elim (cases_op a.op x) [ inl s ↦ absurd (d (sym s)) | inr o ↦ allowed_stays plans (is_eager plans costs) (plain_act a) (plain h) c x (other_op plans costs h a c x o) e ]
 
     -- its operation is done, where it is the last of that
-    own_is_done : (c : Class) (x : OpId) → x ≡ a.op → allowed plans (is_eager plans costs) (plain (a ∷ h)) c x ≡ true → IsLast plans costs a → ⊥
-    own_is_done c x e t last = go last (subst (λ (y : OpId). allowed plans (is_eager plans costs) (plain (a ∷ h)) c y ≡ true) e t)
+    last_action_ends_own_op : (c : Class) (x : OpId) → x ≡ a.op → allowed plans (is_eager plans costs) (plain (a ∷ h)) c x ≡ true → IsLast plans costs a → ⊥
+    last_action_ends_own_op c x e t last = go last (subst (λ (y : OpId). allowed plans (is_eager plans costs) (plain (a ∷ h)) c y ≡ true) e t)
       where
         -- it was allowed as an action of its class, and has happened now
         was : (d : Class) → a.class ≡ d → allowed plans (is_eager plans costs) (plain h) d a.op ≡ true
@@ -93,10 +93,10 @@ module _ (plans : List Plan) (costs : CostModel) where
             received_is_done plans (is_eager plans costs) (plain (a ∷ h)) a.op interleaving (allowed_serve plans (is_eager plans costs) (plain h) a.op (was Serve is)).0 (happened_this plans costs h a Serve is) c may
 
     -- what it concerns is due, but a send whose message is taken, which is done
-    due : (c : Class) (x : OpId) → allowed plans (is_eager plans costs) (plain (a ∷ h)) c x ≡ true → IsConcerned plans (plain (a ∷ h)) (plain_act a) x → IsDueAfter plans costs (a ∷ h) a x
-    due c x t (inl e) = inl ((λ last. own_is_done c x e t last), e)
-    due c x t (inr (inr w)) = inr (inr w)
-    due c x t (inr (inl p)) = elim (serve_or_not a.class) [ inl e ↦ absurd (taken e) | inr n ↦ inr (inl (n, p)) ]
+    concerned_is_due : (c : Class) (x : OpId) → allowed plans (is_eager plans costs) (plain (a ∷ h)) c x ≡ true → IsConcerned plans (plain (a ∷ h)) (plain_act a) x → IsDueAfter plans costs (a ∷ h) a x
+    concerned_is_due c x t (inl e) = inl ((λ last. last_action_ends_own_op c x e t last), e)
+    concerned_is_due c x t (inr (inr w)) = inr (inr w)
+    concerned_is_due c x t (inr (inl p)) = elim (serve_or_not a.class) [ inl e ↦ absurd (taken e) | inr n ↦ inr (inl (n, p)) ]
       where
         taken : a.class ≡ Serve → ⊥
         taken e =
@@ -109,20 +109,20 @@ module _ (plans : List Plan) (costs : CostModel) where
       where
         go : ((c : Class) × (allowed plans (is_eager plans costs) (plain (a ∷ h)) c x ≡ true)) ⊎ ((c : Class) → allowed plans (is_eager plans costs) (plain (a ∷ h)) c x ≡ false) → IsIdle plans costs (a ∷ h) x ⊎ IsDueAfter plans costs (a ∷ h) a x
         go (inr none) = inl none
-        go (inl (c, t)) = elim (newly c x t) [ inl was ↦ absurd (both_ways _ (idle c) was) | inr new ↦ inr (due c x t new) ]
+        go (inl (c, t)) = elim (newly_allowed_is_concerned c x t) [ inl was ↦ absurd (both_ways _ (idle c) was) | inr new ↦ inr (concerned_is_due c x t new) ]
 
     -- its operation is idle, or it is due
-    own_after : (x : OpId) → x ≡ a.op → IsIdle plans costs (a ∷ h) x ⊎ IsDueAfter plans costs (a ∷ h) a x
-    own_after x e = go (find_class (λ c. allowed plans (is_eager plans costs) (plain (a ∷ h)) c x))
+    own_is_idle_or_due : (x : OpId) → x ≡ a.op → IsIdle plans costs (a ∷ h) x ⊎ IsDueAfter plans costs (a ∷ h) a x
+    own_is_idle_or_due x e = go (find_class (λ c. allowed plans (is_eager plans costs) (plain (a ∷ h)) c x))
       where
         go : ((c : Class) × (allowed plans (is_eager plans costs) (plain (a ∷ h)) c x ≡ true)) ⊎ ((c : Class) → allowed plans (is_eager plans costs) (plain (a ∷ h)) c x ≡ false) → IsIdle plans costs (a ∷ h) x ⊎ IsDueAfter plans costs (a ∷ h) a x
         go (inr none) = inl none
-        go (inl (c, t)) = inr (due c x t (inl e))
+        go (inl (c, t)) = inr (concerned_is_due c x t (inl e))
 
     -- the possible action of another operation, once it knows when room is free
-    possible_then : (x : OpId) (k : Timed) (f : ℕ) → ¬ (x ≡ a.op) → k.op ≡ x → Possible plans costs h k → f ≡ free plans costs (a ∷ h) x → Possible plans costs (a ∷ h) (at_time (time_then f k) k)
-    possible_then x k f d op p e = record {
-      allowed = stays k.class k.op (λ s. d (sym op ∙ s)) p.allowed;
+    possible_once_room_is_free : (x : OpId) (k : Timed) (f : ℕ) → ¬ (x ≡ a.op) → k.op ≡ x → Possible plans costs h k → f ≡ free plans costs (a ∷ h) x → Possible plans costs (a ∷ h) (at_time (time_then f k) k)
+    possible_once_room_is_free x k f d op p e = record {
+      allowed = other_stays_allowed k.class k.op (λ s. d (sym op ∙ s)) p.allowed;
       time = ap₂ (λ (n m : ℕ). if waits_for_room k.class then max n m else n) p.time (e ∙ ap (free plans costs (a ∷ h)) (sym op)) ∙ sym (time_after plans costs a h run k.class k.op p.allowed);
     }
 
@@ -148,7 +148,7 @@ module _ (plans : List Plan) (costs : CostModel) where
         raised i x e (Some k) d at was is =
             let own = q.possible i x k at was in
             let same : at_time (time_then (free plans costs (a ∷ h) x) k) k ≡ e = same_Some _ e is in
-            subst (λ (b : Timed). (b.op ≡ x) × Possible plans costs (a ∷ h) b) same (own.0, possible_then x k (free plans costs (a ∷ h) x) (other_place plans i slot x a.op at here d) own.0 own.1 refl)
+            subst (λ (b : Timed). (b.op ≡ x) × Possible plans costs (a ∷ h) b) same (own.0, possible_once_room_is_free x k (free plans costs (a ∷ h) x) (other_place plans i slot x a.op at here d) own.0 own.1 refl)
 
         is_possible : (i : ℕ) (x : OpId) (e : Timed) → slice_get (operations plans) i ≡ Some x → key_at new.keys i ≡ Some e → (i ≡ slot) ⊎ (i ≢ slot) → (e.op ≡ x) × Possible plans costs (a ∷ h) e
         is_possible i x e at has (inl s) =
@@ -160,7 +160,7 @@ module _ (plans : List Plan) (costs : CostModel) where
         idle_then i x None at was is = elim (q.idle i x at was) [ inl idle ↦ idle_stays x idle | inr never ↦ absurd never ]
 
         is_idle : (i : ℕ) (x : OpId) → slice_get (operations plans) i ≡ Some x → key_at new.keys i ≡ None → (i ≡ slot) ⊎ (i ≢ slot) → IsIdle plans costs (a ∷ h) x ⊎ IsDueAfter plans costs (a ∷ h) a x
-        is_idle i x at none (inl s) = own_after x (same_Some x a.op (sym at ∙ ap (slice_get (operations plans)) s ∙ here))
+        is_idle i x at none (inl s) = own_is_idle_or_due x (same_Some x a.op (sym at ∙ ap (slice_get (operations plans)) s ∙ here))
         is_idle i x at none (inr d) = idle_then i x (key_at old.keys i) at refl (sym (settled.others i x d at) ∙ none)
 
     -- if it waited for nothing, the others are unchanged
@@ -187,13 +187,13 @@ module _ (plans : List Plan) (costs : CostModel) where
 
         unmoved : (i : ℕ) (x : OpId) → slice_get (operations plans) i ≡ Some x → free plans costs (a ∷ h) x ≡ free plans costs h x
         unmoved i x at =
-            sym (free_known (a ∷ h) new known i x at) ∙ (λ j. both_free (same j) (pair_at (pairs j) (slice_index (stations j) i))) ∙ free_known h old q.of_it.free i x at
+            sym (both_free_is_free_time (a ∷ h) new known i x at) ∙ (λ j. both_free (same j) (pair_at (pairs j) (slice_index (stations j) i))) ∙ both_free_is_free_time h old q.of_it.free i x at
 
         kept : (i : ℕ) (x : OpId) → slice_get (operations plans) i ≡ Some x → (was : Option Timed) → key_at old.keys i ≡ was → was ≡ option_map (λ (k : Timed). at_time (time_then (free plans costs (a ∷ h) x) k) k) was
         kept i x at None was = refl
         kept i x at (Some k) was =
             let own = q.possible i x k at was in
-            ap Some (λ j. record { time = go (waits_for_room k.class) (λ w2. free_first plans costs h k.class k.op w2 own.1.allowed) own.1.time (unmoved i x at) (ap (free plans costs h) own.0) j; class = k.class; op = k.op })
+            ap Some (λ j. record { time = go (waits_for_room k.class) (λ w2. free_before_possible plans costs h k.class k.op w2 own.1.allowed) own.1.time (unmoved i x at) (ap (free plans costs h) own.0) j; class = k.class; op = k.op })
           where
             go : (r : Bool) → (r ≡ true → free plans costs h k.op ≤ time plans costs h k.class k.op) → k.time ≡ time plans costs h k.class k.op → free plans costs (a ∷ h) x ≡ free plans costs h x → free plans costs h k.op ≡ free plans costs h x → k.time ≡ (if r then max k.time (free plans costs (a ∷ h) x) else k.time)
             go true first at_time stays_free op = omega (arith, first refl, at_time, stays_free, op)
@@ -216,19 +216,19 @@ module _ (plans : List Plan) (costs : CostModel) where
         longer = ap length same ∙ length-set (slice_set old.free (pair_of old slot).cpu c) (pair_of old slot).side s ∙ length-set old.free (pair_of old slot).cpu c
 
         o : (o : Op) × (op_at plans a.op ≡ Some o)
-        o = listed_kind slot a.op here
+        o = listed_op_exists slot a.op here
 
         known : AreFree plans costs (a ∷ h) new
-        known = free_held plans costs h a possible old q.of_it slot here o.0 o.1 c s ce se new stations pairs same
+        known = free_times_after_hold plans costs h a possible old q.of_it slot here o.0 o.1 c s ce se new stations pairs same
 
         both : (i : ℕ) (x : OpId) → slice_get (operations plans) i ≡ Some x → both_free new.free (pair_of old i) ≡ free plans costs (a ∷ h) x
         both i x at =
-            (λ j. both_free new.free (pair_at (sym pairs j) (slice_index (sym stations j) i))) ∙ free_known (a ∷ h) new known i x at
+            (λ j. both_free new.free (pair_at (sym pairs j) (slice_index (sym stations j) i))) ∙ both_free_is_free_time (a ∷ h) new known i x at
 
   module _ (h : List Timed) where
     -- where an operation has got its key it is no longer due
-    pub refreshed : (Due Later : OpId → Type 0) (old new : Stationed) (x : OpId) → IsQueueBut plans costs h Due old → IsRefreshed plans costs h x old new → ((y : OpId) → IsOp plans y → Due y → ¬ (y ≡ x) → Later y) → IsQueueBut plans costs h Later new
-    refreshed Due Later old new x q r still = record {
+    pub refreshed_is_no_longer_due : (Due Later : OpId → Type 0) (old new : Stationed) (x : OpId) → IsQueueBut plans costs h Due old → IsRefreshed plans costs h x old new → ((y : OpId) → IsOp plans y → Due y → ¬ (y ≡ x) → Later y) → IsQueueBut plans costs h Later new
+    refreshed_is_no_longer_due Due Later old new x q r still = record {
       of_it = record {
         each = ap length r.put ∙ length-set old.keys r.slot r.key ∙ q.of_it.each;
         stationed = subst (λ (ps : List Pair). AreStationed plans new.stations ps) (sym r.pairs) (subst (λ (ns : List ℕ). AreStationed plans ns old.pairs) (sym r.stations) q.of_it.stationed);
@@ -276,8 +276,8 @@ module _ (plans : List Plan) (costs : CostModel) where
     possible_keys Due queue q = fewer_due Due (λ y. Unit {0}) queue q (λ y is due. tt)
 
     -- where all are due an empty queue will do
-    pub all_due : (Due : OpId → Type 0) (queue : Stationed) → IsOfSchedule plans costs h queue → IsEmptyMap queue.keys → ((y : OpId) → IsOp plans y → Due y) → IsQueueBut plans costs h Due queue
-    all_due Due queue of_it empty every = record {
+    pub empty_queue_with_all_due : (Due : OpId → Type 0) (queue : Stationed) → IsOfSchedule plans costs h queue → IsEmptyMap queue.keys → ((y : OpId) → IsOp plans y → Due y) → IsQueueBut plans costs h Due queue
+    empty_queue_with_all_due Due queue of_it empty every = record {
       of_it = of_it;
       possible = λ i y k at has. let none : key_at queue.keys i ≡ None = empty i in absurd (cc);
       idle = λ i y at none. inr (every y (listed_exists plans i y at));
@@ -305,8 +305,8 @@ module _ (plans : List Plan) (costs : CostModel) where
       InQueue e = (slot : ℕ) × (key_at queue.keys slot ≡ Some e)
 
       -- each possible action is in the queue
-      each_bound : (b : Timed) → Possible plans costs h b → HasBound InQueue b
-      each_bound b p = go (key_at queue.keys slot) refl
+      possible_has_bound_in_queue : (b : Timed) → Possible plans costs h b → HasBound InQueue b
+      possible_has_bound_in_queue b p = go (key_at queue.keys slot) refl
         where
           listed : Contains (operations plans) b.op
           listed = allowed_listed plans (is_eager plans costs) (plain h) b.class b.op p.allowed
@@ -333,29 +333,29 @@ module _ (plans : List Plan) (costs : CostModel) where
               }
 
       -- an empty queue: nothing is possible
-      pub finished : IsEmptyMap queue.keys → IsFinished plans costs h
-      finished empty b p =
-          let e = each_bound b p in
+      pub empty_queue_is_finished : IsEmptyMap queue.keys → IsFinished plans costs h
+      empty_queue_is_finished empty b p =
+          let e = possible_has_bound_in_queue b p in
           let none : key_at queue.keys e.queued.0 ≡ None = empty e.queued.0 in
           let some : key_at queue.keys e.queued.0 ≡ Some e.entry = e.queued.1 in
           absurd (cc)
 
       -- the least key is next
-      pub least_next : (slot : ℕ) (e : Timed) → IsLeast event_before queue.keys slot e → IsNext plans costs h e
-      least_next slot e least =
-          least_is_next plans costs InQueue h e each_bound (λ k queued l. both_ways _ (least.least queued.0 k queued.1) (before_event k e l)) (key_found (λ x. ⊥) queue slot e q least.has).possible
+      pub least_key_is_next : (slot : ℕ) (e : Timed) → IsLeast event_before queue.keys slot e → IsNext plans costs h e
+      least_key_is_next slot e least =
+          least_is_next plans costs InQueue h e possible_has_bound_in_queue (λ k queued l. both_ways _ (least.least queued.0 k queued.1) (less_is_event_before k e l)) (key_found (λ x. ⊥) queue slot e q least.has).possible
 
     -- where nothing is possible the queue is empty
-    pub empty_from : (queue : Stationed) → IsQueue plans costs h queue → IsFinished plans costs h → IsEmptyMap queue.keys
-    empty_from queue q none slot = go (key_at queue.keys slot) refl
+    pub finished_queue_is_empty : (queue : Stationed) → IsQueue plans costs h queue → IsFinished plans costs h → IsEmptyMap queue.keys
+    finished_queue_is_empty queue q none slot = go (key_at queue.keys slot) refl
       where
         go : (k : Option Timed) → key_at queue.keys slot ≡ k → k ≡ None
         go None e = refl
         go (Some k) e = absurd (none k (key_found (λ x. ⊥) queue slot k q e).possible)
 
     -- each key is of the operation of its slot
-    pub of_slots : (Due : OpId → Type 0) (queue : Stationed) (known : List Plan) → IsQueueBut plans costs h Due queue → known ≡ plans → AreOfSlots (operations known) queue.keys
-    of_slots Due queue known q same slot k has =
+    pub keys_are_of_their_slots : (Due : OpId → Type 0) (queue : Stationed) (known : List Plan) → IsQueueBut plans costs h Due queue → known ≡ plans → AreOfSlots (operations known) queue.keys
+    keys_are_of_their_slots Due queue known q same slot k has =
         ap (λ (ps : List Plan). slice_get (operations ps) slot) same ∙ (key_found Due queue slot k q has).is_slot
 
     -- where keys, stations and free times are the same it is the same queue
@@ -400,8 +400,8 @@ module _ (plans : List Plan) (costs : CostModel) where
 
         exact : when_free old.free (pair_of old slot) a ≡ a
         exact =
-            let known_free : both_free old.free (pair_of old slot) ≡ free plans costs h a.op = free_known h old q.of_it.free slot x at_slot ∙ ap (free plans costs h) (sym own.0) in
-            λ j. record { time = go (waits_for_room a.class) _ (λ w. free_first plans costs h a.class a.op w own.1.allowed) known_free own.1.time j; class = a.class; op = a.op }
+            let known_free : both_free old.free (pair_of old slot) ≡ free plans costs h a.op = both_free_is_free_time h old q.of_it.free slot x at_slot ∙ ap (free plans costs h) (sym own.0) in
+            λ j. record { time = go (waits_for_room a.class) _ (λ w. free_before_possible plans costs h a.class a.op w own.1.allowed) known_free own.1.time j; class = a.class; op = a.op }
 
     -- an operation that has its key is unchanged
     same_key : (x : OpId) (known : List Plan) (slot : ℕ) (queue : Stationed) → known ≡ plans → slice_get (operations known) slot ≡ Some x → IsEnabledActionOf plans costs h x (key_at queue.keys slot) → IsRefreshed plans costs h x queue queue
@@ -428,18 +428,18 @@ module _ (plans : List Plan) (costs : CostModel) where
     -- what is idle has none
     pub idle_kept : (x : OpId) (known : List Plan) (slot : ℕ) (enabled : Option Timed) (queue : Stationed) → known ≡ plans → slice_get (operations known) slot ≡ Some x → IsEnabledActionOf plans costs h x enabled → enabled ≡ None → is_some (key_at queue.keys slot) ≡ false → IsRefreshed plans costs h x queue queue
     idle_kept x known slot enabled queue same at is e none =
-        same_key x known slot queue same at (subst (IsEnabledActionOf plans costs h x) (e ∙ sym (no_key (key_at queue.keys slot) none)) is)
+        same_key x known slot queue same at (subst (IsEnabledActionOf plans costs h x) (e ∙ sym (not_some_is_none (key_at queue.keys slot) none)) is)
 
-  first_cpu : (x : OpId) → 0 ≡ cpu plans costs [] x
+  cpu_free_at_start : (x : OpId) → 0 ≡ cpu plans costs [] x
   unfolding cpu
-  first_cpu x = refl
+  cpu_free_at_start x = refl
 
-  first_side : (x : OpId) (k : Option Kind) → 0 ≡ side_of plans costs [] x k
+  side_free_at_start : (x : OpId) (k : Option Kind) → 0 ≡ side_of plans costs [] x k
   unfolding cpu tx rx
-  first_side x None = refl
-  first_side x (Some (Calc n)) = refl
-  first_side x (Some (Send n t u)) = refl
-  first_side x (Some (Recv n t u)) = refl
+  side_free_at_start x None = refl
+  side_free_at_start x (Some (Calc n)) = refl
+  side_free_at_start x (Some (Send n t u)) = refl
+  side_free_at_start x (Some (Recv n t u)) = refl
 
   -- a new queue is one of its schedule, before anything has happened
   pub new_queue : (numbers : List ℕ) (pairs : List Pair) (resources : ℕ) (queue : Stationed) → AreStationed plans numbers pairs → DoExist pairs resources → queue ≡ record { keys = replicate (length numbers) None; stations = numbers; stands = replicate (length numbers) Nowhere; pairs = pairs; turned = replicate (length pairs) false; free = replicate resources 0; found = None } → IsOfSchedule plans costs [] queue
@@ -448,8 +448,8 @@ module _ (plans : List Plan) (costs : CostModel) where
     stationed = stationed;
     exist = subst (λ (n : ℕ). DoExist pairs n) (sym (length-replicate {A = ℕ} resources 0)) exist;
     free = record {
-      cpus = λ slot x at. zero_at resources (pair_at pairs (slice_index numbers slot)).cpu ∙ first_cpu x;
-      sides = λ slot x at. zero_at resources (pair_at pairs (slice_index numbers slot)).side ∙ first_side x (kind_at plans x);
+      cpus = λ slot x at. zero_at resources (pair_at pairs (slice_index numbers slot)).cpu ∙ cpu_free_at_start x;
+      sides = λ slot x at. zero_at resources (pair_at pairs (slice_index numbers slot)).side ∙ side_free_at_start x (kind_at plans x);
     };
   })
     where

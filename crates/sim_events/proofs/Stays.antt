@@ -42,9 +42,9 @@ module _ (plans : List Plan) (costs : CostModel) (h : List Timed) where
   not_possible_before_free Serve x (Some (Send bytes to tag)) w m = absurd (cc)
   not_possible_before_free Serve x (Some (Recv room from tag)) w m = omega arith
 
-  pub free_first : (class : Class) (x : OpId) → waits_for_room class ≡ true → allowed plans (is_eager plans costs) (plain h) class x ≡ true → free plans costs h x ≤ time plans costs h class x
+  pub free_before_possible : (class : Class) (x : OpId) → waits_for_room class ≡ true → allowed plans (is_eager plans costs) (plain h) class x ≡ true → free plans costs h x ≤ time plans costs h class x
   unfolding time allowed
-  free_first class x w a =
+  free_before_possible class x w a =
       let both = and_parts (not (happened class x (plain h))) (may plans (is_eager plans costs) (plain h) class x (kind_at plans x)) a in
       not_possible_before_free class x (kind_at plans x) w both.1
 

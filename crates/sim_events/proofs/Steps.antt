@@ -12,12 +12,12 @@ use Rattle.sim_queue.specs.Map.{IsEmptyMap}
 use Rattle.sim_state.specs.Engine.{RunSoFar}
 use Rattle.sim_events.specs.Queue.{IsQueue, IsQueueBut, IsSettledBy, IsDueAfter}
 use Rattle.sim_state.proofs.ForCallers.{possible_exists}
-use Rattle.sim_events.proofs.Held.{later}
-use Rattle.sim_events.proofs.Queue.{listed_kind, finished, empty_from}
+use Rattle.sim_events.proofs.Held.{held_times_are_later}
+use Rattle.sim_events.proofs.Queue.{listed_op_exists, empty_queue_is_finished, finished_queue_is_empty}
 use Rattle.sim_events.specs.Changes.{HaveChanged}
 use Rattle.std.proofs.lemmas.List.Sums.{sum_by-cons}
 use Rattle.sim_events.specs.Cost.{given_by, reads_of_run}
-use Rattle.sim_events.proofs.Changes.{changed_settled}
+use Rattle.sim_events.proofs.Changes.{changed_after_action}
 use Rattle.sim_events.proofs.Settled.{due_after_settled}
 
 module _ {C : Type 0} (model : C → CostModel) where
@@ -40,13 +40,13 @@ module _ {C : Type 0} (model : C → CostModel) where
   -- what it holds is free later
   pub later_after : (old new : RunSoFar C) (a : Timed) (queued : Stationed) (slot : ℕ) → new ≡ record { plans = old.plans; costs = old.costs; history = a ∷ old.history } → NextAt old a → QueueAt old queued → slice_get (operations old.plans) slot ≡ Some a.op → IsLater queued.free (pair_of queued slot) (cpu new.plans (model new.costs) new.history a.op) (side new.plans (model new.costs) new.history a.op)
   later_after old new a queued slot e next q here =
-      let o = listed_kind old.plans (model old.costs) slot a.op here in
-      subst (λ (v : RunSoFar C). IsLater queued.free (pair_of queued slot) (cpu v.plans (model v.costs) v.history a.op) (side v.plans (model v.costs) v.history a.op)) (sym e) (later old.plans (model old.costs) old.history a next.possible queued q.of_it slot here o.0 o.1 _ _ refl refl)
+      let o = listed_op_exists old.plans (model old.costs) slot a.op here in
+      subst (λ (v : RunSoFar C). IsLater queued.free (pair_of queued slot) (cpu v.plans (model v.costs) v.history a.op) (side v.plans (model v.costs) v.history a.op)) (sym e) (held_times_are_later old.plans (model old.costs) old.history a next.possible queued q.of_it slot here o.0 o.1 _ _ refl refl)
 
   -- how often stations have changed their places stays
   pub changed_after : (old new : RunSoFar C) (a : Timed) (queued settled : Stationed) (slot : ℕ) → new ≡ record { plans = old.plans; costs = old.costs; history = a ∷ old.history } → QueueAt old queued → slice_get (operations old.plans) slot ≡ Some a.op → IsSettledBy (cpu new.plans (model new.costs) new.history a.op) (side new.plans (model new.costs) new.history a.op) slot a queued settled → (all : ℕ) → HaveChanged old.plans old.history queued all → HaveChanged new.plans new.history settled all
   changed_after old new a queued settled slot e q here by all changed =
-      subst (λ (v : RunSoFar C). HaveChanged v.plans v.history settled all) (sym e) (changed_settled old.plans (model old.costs) old.history a queued q.of_it slot here _ _ settled by all changed)
+      subst (λ (v : RunSoFar C). HaveChanged v.plans v.history settled all) (sym e) (changed_after_action old.plans (model old.costs) old.history a queued q.of_it slot here _ _ settled by all changed)
 
   -- with one more action a look is counted at the needs whose moment it may give
   pub looks_after_action : (old new : RunSoFar C) (a : Timed) → new ≡ record { plans = old.plans; costs = old.costs; history = a ∷ old.history } → reads_of_run new.plans new.history ≡ given_by old.plans a + reads_of_run old.plans old.history
@@ -69,4 +69,4 @@ module _ {C : Type 0} (model : C → CostModel) where
   pub finished_iff_queue_empty : (v w : RunSoFar C) (queued : Stationed) (T : Type 0) → v ≡ w → RunAt w → QueueAt v queued → (T ↔ IsEmptyMap queued.keys) → T ↔ IsFinished w.plans (model w.costs) w.history
   finished_iff_queue_empty v w queued T e run q empty =
       let queue : QueueAt w queued = subst (λ (u : RunSoFar C). QueueAt u queued) e q in
-      (λ t. finished w.plans (model w.costs) w.history run queued queue (empty.0 t), λ f. empty.1 (empty_from w.plans (model w.costs) w.history queued queue f))
+      (λ t. empty_queue_is_finished w.plans (model w.costs) w.history run queued queue (empty.0 t), λ f. empty.1 (finished_queue_is_empty w.plans (model w.costs) w.history queued queue f))

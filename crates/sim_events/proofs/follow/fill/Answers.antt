@@ -3,8 +3,8 @@ use Rattle.goal_graph.specs.declared.action.OpId.{OpId}
 use Rattle.goal_graph.specs.Schedule.{Plan, operations}
 use Rattle.goal_graph.specs.Fault.{IsOp}
 use Rattle.goal_graph.proofs.ForCallers.{listed_places, unread_after_next, nothing_after_end}
-use Rattle.sim_events.proofs.Changes.{still_placed, placed_again}
-use Rattle.sim_events.proofs.Queue.{all_due, possible_keys, fewer_due, refreshed}
+use Rattle.sim_events.proofs.Changes.{same_places_reflexive, same_places_transitive}
+use Rattle.sim_events.proofs.Queue.{empty_queue_with_all_due, possible_keys, fewer_due, refreshed_is_no_longer_due}
 use Rattle.sim_events.proofs.follow.fill.Goals as goal
 
 abbrev first : OpId
@@ -13,7 +13,7 @@ first = record { rank = 0; op = 0 }
 pub loop-id-init : goal.loop-id-init
 loop-id-init g c =
     let plans = c.args.state.now.plans in
-    (all_due plans _ _ (Contains (operations plans)) _ c.requires.of_it c.requires.empty (λ y is. (listed_places plans y).1 is), λ k few. omega arith, still_placed c.args.queue.now)
+    (empty_queue_with_all_due plans _ _ (Contains (operations plans)) _ c.requires.of_it c.requires.empty (λ y is. (listed_places plans y).1 is), λ k few. omega arith, same_places_reflexive c.args.queue.now)
 
 pub refresh-requires : goal.refresh-requires
 refresh-requires g c =
@@ -29,7 +29,7 @@ loop-id-preserved g c =
     let items = c.operations-id-items.ensures.all ∙ ap operations c.sched.ensures in
     let k = c.loop-id.id-index in
     let within = subst (λ (xs : List OpId). k < length xs) items c.loop-id-test.true in
-    (refreshed plans _ _ _ _ _ _ _ c.loop-id.invariant.0 c.refresh.ensures.queue (λ y is left differ. unread_after_next (operations plans) k first y within left (λ e. differ (e ∙ ap (λ (xs : List OpId). get_or xs k first) (sym items)))), λ k few. omega (arith, c.loop-id.invariant.1 k few, c.refresh.ensures.counted k (omega (arith, few, c.loop-id.invariant.0.of_it.each, c.requires.of_it.each))), placed_again c.args.queue.now _ _ c.loop-id.invariant.2 c.refresh.ensures.placed)
+    (refreshed_is_no_longer_due plans _ _ _ _ _ _ _ c.loop-id.invariant.0 c.refresh.ensures.queue (λ y is left differ. unread_after_next (operations plans) k first y within left (λ e. differ (e ∙ ap (λ (xs : List OpId). get_or xs k first) (sym items)))), λ k few. omega (arith, c.loop-id.invariant.1 k few, c.refresh.ensures.counted k (omega (arith, few, c.loop-id.invariant.0.of_it.each, c.requires.of_it.each))), same_places_transitive c.args.queue.now _ _ c.loop-id.invariant.2 c.refresh.ensures.placed)
 
 pub returns-clause-queue : goal.returns-clause-queue
 returns-clause-queue g c =

@@ -1,5 +1,5 @@
 use Rattle.std.proofs.Common.{inl, inr}
-use Rattle.sim_events.proofs.Queue.{possible_keys, refreshed, fewer_due}
+use Rattle.sim_events.proofs.Queue.{possible_keys, refreshed_is_no_longer_due, fewer_due}
 use Rattle.sim_events.proofs.follow.follow_own.Goals as goal
 
 pub refresh-requires : goal.refresh-requires
@@ -7,7 +7,7 @@ refresh-requires g c = record { exists = c.requires.exists; possible = possible_
 
 pub returns-clause-queue : goal.returns-clause-queue
 returns-clause-queue g c =
-    refreshed _ _ _ _ _ _ _ _ c.requires.rest c.refresh.ensures.queue (λ y o due differ. elim due [ inl own ↦ absurd (differ own.1) | inr rest ↦ rest ])
+    refreshed_is_no_longer_due _ _ _ _ _ _ _ _ c.requires.rest c.refresh.ensures.queue (λ y o due differ. elim due [ inl own ↦ absurd (differ own.1) | inr rest ↦ rest ])
 
 pub returns-then-is_last-clause-queue : goal.returns-then-is_last-clause-queue
 returns-then-is_last-clause-queue g c =

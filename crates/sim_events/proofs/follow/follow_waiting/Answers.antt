@@ -7,8 +7,8 @@ use Rattle.goal_graph.specs.Schedule.{needed}
 use Rattle.goal_graph.specs.Concerned.{waiting_on}
 use Rattle.sim_state.specs.Awaited.{gives}
 use Rattle.sim_events.proofs.Awaited.{awaiting_after_next, awaiting_after_other_moment, none_awaiting_past_end}
-use Rattle.sim_events.proofs.Changes.{placed_again}
-use Rattle.sim_events.proofs.Queue.{possible_keys, refreshed, fewer_due}
+use Rattle.sim_events.proofs.Changes.{same_places_transitive}
+use Rattle.sim_events.proofs.Queue.{possible_keys, refreshed_is_no_longer_due, fewer_due}
 use Rattle.sim_events.proofs.follow.follow_waiting.Goals as goal
 
 abbrev none : Need
@@ -28,7 +28,7 @@ loop-need-preserved g c =
     let items = c.requires.whom c.in_default.not-Arrive in
     let k = c.loop-need.need-index in
     let within = subst (λ (ds : List Need). k < length ds) items c.loop-need-test.true in
-    (refreshed plans _ _ _ _ _ _ _ c.loop-need.invariant.0 c.refresh.ensures.queue (λ y is n differ. awaiting_after_next (waiting_on plans id) k none c.args.action.class id y within n (λ e. differ (e ∙ ap (λ (ds : List Need). needed id (get_or ds k none)) (sym items)))), λ k few. let same = c.loop-need.invariant.0.of_it.each in let first = c.requires.rest.of_it.each in omega (arith, c.loop-need.invariant.1 k few, c.refresh.ensures.counted k (omega (arith, few, same, first))), placed_again c.args.queue.now _ _ c.loop-need.invariant.2 c.refresh.ensures.placed)
+    (refreshed_is_no_longer_due plans _ _ _ _ _ _ _ c.loop-need.invariant.0 c.refresh.ensures.queue (λ y is n differ. awaiting_after_next (waiting_on plans id) k none c.args.action.class id y within n (λ e. differ (e ∙ ap (λ (ds : List Need). needed id (get_or ds k none)) (sym items)))), λ k few. let same = c.loop-need.invariant.0.of_it.each in let first = c.requires.rest.of_it.each in omega (arith, c.loop-need.invariant.1 k few, c.refresh.ensures.counted k (omega (arith, few, same, first))), same_places_transitive c.args.queue.now _ _ c.loop-need.invariant.2 c.refresh.ensures.placed)
 
 pub loop-need-preserved-then-not-gives : goal.loop-need-preserved-then-not-gives
 loop-need-preserved-then-not-gives g c =

@@ -2,7 +2,7 @@ use Rattle.std.proofs.Common.{◌<◌, List, length, ap, ◌∙◌, sym, subst, 
 use Rattle.std.proofs.lemmas.List.{length-set}
 use Rattle.goal_graph.specs.Schedule.{Plan, operations}
 use Rattle.goal_graph.specs.Fault.{IsOp}
-use Rattle.sim_events.proofs.Queue.{no_key, key_kept, idle_kept, put_enabled}
+use Rattle.sim_events.proofs.Queue.{not_some_is_none, key_kept, idle_kept, put_enabled}
 use Rattle.sim_events.proofs.Costs.{spent_put}
 use Rattle.sim_state.proofs.ForCallers.{possible_exists}
 use Rattle.sim_state.specs.Enabled.{IsEnabledActionOf}
@@ -20,7 +20,7 @@ has-requires g c =
 pub put-requires : goal.put-requires
 put-requires g c = record {
   slot_in = omega (arith, c.index-slot.ensures.below, c.requires.possible.of_it.each, ap (λ (ps : List Plan). length (operations ps)) c.sched.ensures);
-  free = no_key _ (sym c.has.ensures ∙ c.if-has.false);
+  free = not_some_is_none _ (sym c.has.ensures ∙ c.if-has.false);
 }
 
 -- it has a key already
@@ -41,6 +41,6 @@ returns-in-Some-clause-counted g c =
     λ k few.
     let within : c.index-slot.result < length c.args.queue.now.keys = omega (arith, c.index-slot.ensures.below, c.requires.possible.of_it.each, ap (λ (ps : List Plan). length (operations ps)) c.sched.ensures) in
     let each = ap length c.put.ensures.put ∙ length-set c.args.queue.now.keys c.index-slot.result _ in
-    let free = no_key _ (sym c.has.ensures ∙ c.if-has.false) in
+    let free = not_some_is_none _ (sym c.has.ensures ∙ c.if-has.false) in
     let more = spent_put k c.args.queue.now c.put.new.self c.index-slot.result each within _ c.put.ensures.put free in
     omega (arith, c.put.ensures.counted k few, more)

@@ -6,7 +6,7 @@ use Rattle.sim_resources.specs.Numbering.{DoExist, AreStationed}
 use Rattle.sim_events.specs.Queue.{IsOfSchedule}
 use Rattle.sim_stations.specs.Moves.{HaveReturned}
 use Rattle.sim_events.specs.Changes.{HaveChanged}
-use Rattle.sim_events.proofs.Changes.{changed_none}
+use Rattle.sim_events.proofs.Changes.{changed_at_start}
 use Rattle.sim_events.proofs.Queue.{new_queue}
 use Rattle.sim_events.proofs.pending.queue_of.Goals as goal
 
@@ -26,4 +26,4 @@ returns-clause-of_it g c =
 
 pub returns-clause-changed : goal.returns-clause-changed
 returns-clause-changed g c =
-    if_ok (λ q. HaveReturned q.pairs q.turned q.free (replicate c.stations-stations.result.now.resources 0) (replicate (length c.deref-2.result.now) 0)) (λ q. (all : ℕ) × HaveChanged c.args.state.now.plans [] q all) c.new.result c.new.ensures.returned (λ q returned. changed_none c.args.state.now.plans q c.stations-stations.result.now.resources (length c.deref-2.result.now) returned)
+    if_ok (λ q. HaveReturned q.pairs q.turned q.free (replicate c.stations-stations.result.now.resources 0) (replicate (length c.deref-2.result.now) 0)) (λ q. (all : ℕ) × HaveChanged c.args.state.now.plans [] q all) c.new.result c.new.ensures.returned (λ q returned. changed_at_start c.args.state.now.plans q c.stations-stations.result.now.resources (length c.deref-2.result.now) returned)

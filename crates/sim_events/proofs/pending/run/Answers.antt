@@ -1,8 +1,8 @@
 use Rattle.std.proofs.Common.{◌*◌, ◌+◌, length, sym, ap, ◌∙◌, arith}
 use Rattle.goal_graph.specs.Schedule.{operations}
-use Rattle.sim_events.proofs.Changes.{changed_most}
+use Rattle.sim_events.proofs.Changes.{changes_at_most_moves}
 use Rattle.sim_events.proofs.Costs.{spent_none}
-use Rattle.sim_events.proofs.Queue.{empty_from}
+use Rattle.sim_events.proofs.Queue.{finished_queue_is_empty}
 use Rattle.sim_events.proofs.Runs.{stepped_plans, stepped_costs, stepped_length, empty_step_is_finished, step_leaves_fewer, no_action_counts_zero, look_with_action_is_free, look_costs_at_most_three}
 use Rattle.sim_events.proofs.pending.run.Goals as goal
 
@@ -50,7 +50,7 @@ returns-clause-counted g c =
     let stepped = c.step.ensures.stepped in
     let none = sym c.is_some.ensures ∙ c.steps-test.false in
     let finished = empty_step_is_finished model _ _ c.step.result none stepped in
-    let empty = empty_from _ _ _ c.step.new.queue c.step.ensures.pending.0 finished in
+    let empty = finished_queue_is_empty _ _ _ c.step.new.queue c.step.ensures.pending.0 finished in
     let step = c.step.ensures.counted k (omega (arith, few, ap (λ ps. length (operations ps)) c.steps.invariant.1)) in
     let more = stepped_length model _ _ c.step.result stepped in
     omega (arith, c.steps.invariant.3 k few, step, ap (λ n. n * (18 * k + 29)) more, ap (λ n. n * (18 * k + 29)) (no_action_counts_zero c.step.result none), spent_none k c.step.new.queue empty, look_costs_at_most_three c.step.result)
@@ -65,7 +65,7 @@ returns-clause-moved g c =
     let first = c.requires.pending.1 in
     let so_far = c.steps.invariant.4 first.0 first.1 in
     let now = c.step.ensures.moved so_far.now so_far.changed in
-    let most = changed_most c.step.new.state.plans (g.C.Costs.model c.step.new.state.costs) c.step.new.state.history c.step.new.queue c.step.ensures.pending.0.of_it.stationed now.now now.changed in
+    let most = changes_at_most_moves c.step.new.state.plans (g.C.Costs.model c.step.new.state.costs) c.step.new.state.history c.step.new.queue c.step.ensures.pending.0.of_it.stationed now.now now.changed in
     omega (arith, so_far.counted, now.counted, most)
 
 pub returns-clause-needed : goal.returns-clause-needed

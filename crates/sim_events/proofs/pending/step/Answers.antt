@@ -7,7 +7,7 @@ use Rattle.goal_graph.specs.Fault.{IsOp}
 use Rattle.sim_events.specs.Comparisons.{count_of, last_look}
 use Rattle.sim_events.proofs.Costs.{spent_same}
 use Rattle.sim_events.proofs.Settled.{spent_settled}
-use Rattle.sim_events.proofs.Changes.{changed_placed}
+use Rattle.sim_events.proofs.Changes.{changed_at_same_places}
 use Rattle.sim_events.proofs.Steps.{next_is_of_an_op, plans_after, op_after, due_after, later_after, changed_after, looks_after_action}
 use Rattle.sim_events.proofs.pending.step.Goals as goal
 
@@ -65,14 +65,14 @@ returns-clause-pending g c =
     let first = c.requires.pending.1 in
     let found = c.next.ensures.moved first.0 first.1 in
     let settled = changed_after g.C.Costs.model c.args.state.now c.perform.new.self c.in_ok-slot.action c.next.new.queue c.settle.new.queue c.in_ok-slot.slot c.perform.ensures.performed c.in_ok-slot.ensures.queue c.in_ok-slot.ensures.slot c.settle.ensures.settled found.now found.changed in
-    (c.follow.ensures.queue, (found.now, changed_placed _ _ _ c.follow.new.queue found.now settled c.follow.ensures.placed))
+    (c.follow.ensures.queue, (found.now, changed_at_same_places _ _ _ c.follow.new.queue found.now settled c.follow.ensures.placed))
 
 pub returns-clause-moved : goal.returns-clause-moved
 returns-clause-moved g c =
     λ all changed.
     let found = c.next.ensures.moved all changed in
     let settled = changed_after g.C.Costs.model c.args.state.now c.perform.new.self c.in_ok-slot.action c.next.new.queue c.settle.new.queue c.in_ok-slot.slot c.perform.ensures.performed c.in_ok-slot.ensures.queue c.in_ok-slot.ensures.slot c.settle.ensures.settled found.now found.changed in
-    record { now = found.now; changed = changed_placed _ _ _ c.follow.new.queue found.now settled c.follow.ensures.placed; counted = found.counted }
+    record { now = found.now; changed = changed_at_same_places _ _ _ c.follow.new.queue found.now settled c.follow.ensures.placed; counted = found.counted }
 
 pub returns-in_err-slot-clause-pending : goal.returns-in_err-slot-clause-pending
 returns-in_err-slot-clause-pending g c =
