@@ -9,7 +9,7 @@ use Rattle.goal_lexer.specs.Sound.{IsRun}
 use Rattle.goal_lexer.specs.State.{LexState}
 use Rattle.goal_lexer.specs.Stands.{Stands, handed, so_far, begins_run}
 use Rattle.goal_lexer.specs.Ahead.{IsAhead}
-use Rattle.goal_lexer.proofs.StandsLaws.{goes_on, went_on, stands_on, begins_run-take}
+use Rattle.goal_lexer.proofs.StandsLaws.{scanned_of_continued, scanned_by_result, stands_where_scanned, begins_run-take}
 
 -- the tokens are inside the piece
 pub ahead_within : (place : ℕ) (piece : List ℕ) (n : ℕ) (e : Bool) (ts : List Token) → IsAhead place piece n e ts → n ≤ length piece
@@ -28,8 +28,8 @@ stands_ahead place n was false rest tokens text stands apart some ahead =
     let long = length-take n rest in
     let at : length (text ++ front) ≡ place + n = omega (arith, length-append text front, stands.place, ahead.0) in
     let went : scanned (text ++ front) ≡ (Between, before ++ tokens) =
-    went_on Between Between place was text front tokens stands (λ is. begins_run-take n rest (apart is)) (λ _. omega (arith, ahead.0)) ahead.1 in
-    (stands_on Between (place + n) text front (before ++ tokens) at went tt, ap (λ (r : Scanned). r.1) went)
+    scanned_by_result Between Between place was text front tokens stands (λ is. begins_run-take n rest (apart is)) (λ _. omega (arith, ahead.0)) ahead.1 in
+    (stands_where_scanned Between (place + n) text front (before ++ tokens) at went tt, ap (λ (r : Scanned). r.1) went)
 stands_ahead place n was true rest tokens text stands apart some ahead =
     let front = take n rest in
     let before = (so_far was text).1 in
@@ -37,7 +37,7 @@ stands_ahead place n was true rest tokens text stands apart some ahead =
     let long = length-take n rest in
     let at : length (text ++ front) ≡ place + n = omega (arith, length-append text front, stands.place, ahead.0) in
     let went : scanned (text ++ front) ≡ after_tokens before run =
-    goes_on Between place was text front stands (λ is. begins_run-take n rest (apart is)) (λ _. omega (arith, ahead.0)) in
+    scanned_of_continued Between place was text front stands (λ is. begins_run-take n rest (apart is)) (λ _. omega (arith, ahead.0)) in
     let over : ended (length (text ++ front)) (scanned (text ++ front)) ≡ (Between, before ++ tokens) =
     ap (ended (length (text ++ front))) went
     ∙ ap (λ (k : ℕ). ended k (after_tokens before run)) at
@@ -53,13 +53,13 @@ stands_ahead place n was true rest tokens text stands apart some ahead =
     )
 
 -- the same, with the lexer's state given by its parts
-pub goes_ahead : (mode : Mode) (place : ℕ) (was : Bool) (lexer : LexState) →
+pub stands_ahead_by_parts : (mode : Mode) (place : ℕ) (was : Bool) (lexer : LexState) →
     ◌≡◌ {A = LexState} (record { mode = mode; place = place; ends_run = was }) lexer → lexer.mode ≡ Between →
     (n : ℕ) (rest : List ℕ) (e : Bool) (tokens : List Token) (text : List ℕ) →
     (lexer.ends_run ≡ true → begins_run rest ≡ false) → 0 < n → IsAhead lexer.place rest n e tokens → Stands lexer text →
     Stands (record { mode = mode; place = place + n; ends_run = e }) (text ++ take n rest)
     × (handed (record { mode = mode; place = place + n; ends_run = e }) (text ++ take n rest) ≡ handed lexer text ++ tokens)
-goes_ahead mode place was lexer view_is between n rest e tokens text apart some ahead stands =
+stands_ahead_by_parts mode place was lexer view_is between n rest e tokens text apart some ahead stands =
     let same : mode ≡ Between = ap (λ (s : LexState). s.mode) view_is ∙ between in
     subst (λ (s : LexState). (s.ends_run ≡ true → begins_run rest ≡ false) → IsAhead s.place rest n e tokens → Stands s text →
     Stands (record { mode = mode; place = place + n; ends_run = e }) (text ++ take n rest)

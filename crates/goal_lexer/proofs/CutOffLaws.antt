@@ -9,12 +9,12 @@ use Rattle.goal_lexer.specs.State.{LexState}
 use Rattle.goal_lexer.specs.Stands.{Stands}
 use Rattle.goal_lexer.specs.Pieces.{spelled}
 use Rattle.goal_lexer.specs.Open.{IsOpen, IsTaken, IsCutOff}
-use Rattle.goal_lexer.proofs.StandsLaws.{finishes}
+use Rattle.goal_lexer.proofs.StandsLaws.{lexed_at_end}
 use Rattle.goal_lexer.proofs.TakenLaws.{stands_is_taken}
 
-pub cut_off : (lexer : LexState) (text : List ℕ) (at : ℕ) → Stands lexer text → (lexed text).1 ≡ Some at → IsCutOff text at
-cut_off lexer text at stands fault =
-    by lexer.mode taken.opened (sym (ap (λ (r : List Token × Option ℕ). r.1) (finishes lexer.mode lexer.place lexer.ends_run text stands)) ∙ fault)
+pub fault_at_end_is_cut_off : (lexer : LexState) (text : List ℕ) (at : ℕ) → Stands lexer text → (lexed text).1 ≡ Some at → IsCutOff text at
+fault_at_end_is_cut_off lexer text at stands fault =
+    by lexer.mode taken.opened (sym (ap (λ (r : List Token × Option ℕ). r.1) (lexed_at_end lexer.mode lexer.place lexer.ends_run text stands)) ∙ fault)
   where
     taken : IsTaken lexer text
     taken = stands_is_taken lexer text stands

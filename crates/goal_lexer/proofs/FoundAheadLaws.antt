@@ -92,11 +92,11 @@ digit_value (a ∷ b ∷ cs) long most =
     sym (ap (λ (ys : List ℕ). number_value (take 1 ys)) (take_rest (a ∷ b ∷ cs) 1) ∙ value_of_one b most)
 
 -- a digit is at most `9`
-pub most_of_digit : (c : ℕ) → is_digit c ≡ true → c ≤ 57
-most_of_digit c is = grind (arith, nat_tests)
+pub digit_is_at_most_57 : (c : ℕ) → is_digit c ≡ true → c ≤ 57
+digit_is_at_most_57 c is = grind (arith, nat_tests)
 
-first : (k : ℕ) → k < 1 → 0 ≡ k
-first k few = omega (arith, few)
+below_one_is_zero : (k : ℕ) → k < 1 → 0 ≡ k
+below_one_is_zero k few = omega (arith, few)
 
 -- one digit after a space
 pub one_digit_ahead : (place value : ℕ) (piece : List ℕ) → 2 < length piece → get_or piece 0 0 ≡ 32 → is_digit (get_or piece 1 0) ≡ true →
@@ -104,9 +104,9 @@ pub one_digit_ahead : (place value : ℕ) (piece : List ℕ) → 2 < length piec
     IsAhead place piece 2 true (record { kind = Number value; start = place + 1; end = place + 2 } ∷ [])
 one_digit_ahead place value piece long blank digit most ends is =
     digits_ahead place 1 1 value piece
-    (omega (arith, long), λ k few. subst (λ (j : ℕ). is_blank (get_or piece j 0) ≡ true) (first k few) (ap is_blank blank))
+    (omega (arith, long), λ k few. subst (λ (j : ℕ). is_blank (get_or piece j 0) ≡ true) (below_one_is_zero k few) (ap is_blank blank))
     (omega arith) long (omega arith)
-    (λ k few. subst (λ (j : ℕ). is_digit (get_or (behind 1 piece) j 0) ≡ true) (first k few) (ap is_digit (get_or-behind piece 1 0) ∙ digit))
+    (λ k few. subst (λ (j : ℕ). is_digit (get_or (behind 1 piece) j 0) ≡ true) (below_one_is_zero k few) (ap is_digit (get_or-behind piece 1 0) ∙ digit))
     ends
     (is ∙ digit_value piece (omega (arith, long)) most)
 
@@ -159,13 +159,13 @@ each_of_4 P one two three four (suc (suc (suc zero))) few = four
 each_of_4 P one two three four (suc (suc (suc (suc k)))) few = absurd (omega (arith, few))
 
 -- one space is a blank
-one_space : (piece : List ℕ) → 1 ≤ length piece → get_or piece 0 0 ≡ 32 → AreBlanks piece 1
-one_space piece long blank =
-    (long, λ k few. subst (λ (j : ℕ). is_blank (get_or piece j 0) ≡ true) (first k few) (ap is_blank blank))
+one_space_is_blank : (piece : List ℕ) → 1 ≤ length piece → get_or piece 0 0 ≡ 32 → AreBlanks piece 1
+one_space_is_blank piece long blank =
+    (long, λ k few. subst (λ (j : ℕ). is_blank (get_or piece j 0) ≡ true) (below_one_is_zero k few) (ap is_blank blank))
 
 -- the digit at that place after a space
-digit_there : (piece : List ℕ) (k : ℕ) → is_digit (get_or piece (1 + k) 0) ≡ true → is_digit (get_or (behind 1 piece) k 0) ≡ true
-digit_there piece k is = ap is_digit (get_or-behind piece 1 k) ∙ is
+digit_after_space : (piece : List ℕ) (k : ℕ) → is_digit (get_or piece (1 + k) 0) ≡ true → is_digit (get_or (behind 1 piece) k 0) ≡ true
+digit_after_space piece k is = ap is_digit (get_or-behind piece 1 k) ∙ is
 
 -- two, three and four digits after a space
 pub two_digits_ahead : (place value : ℕ) (piece : List ℕ) → 3 < length piece → get_or piece 0 0 ≡ 32 →
@@ -173,9 +173,9 @@ pub two_digits_ahead : (place value : ℕ) (piece : List ℕ) → 3 < length pie
     value ≡ (get_or piece 1 0 - 48) * 10 + (get_or piece 2 0 - 48) →
     IsAhead place piece 3 true (record { kind = Number value; start = place + 1; end = place + 3 } ∷ [])
 two_digits_ahead place value piece long blank one two ends is =
-    digits_ahead place 1 2 value piece (one_space piece (omega (arith, long)) blank) (omega arith) long (omega arith)
-    (each_of_2 (λ (k : ℕ). is_digit (get_or (behind 1 piece) k 0) ≡ true) (digit_there piece 0 one) (digit_there piece 1 two)) ends
-    (is ∙ digits_value_2 piece (omega (arith, long)) (most_of_digit _ one) (most_of_digit _ two))
+    digits_ahead place 1 2 value piece (one_space_is_blank piece (omega (arith, long)) blank) (omega arith) long (omega arith)
+    (each_of_2 (λ (k : ℕ). is_digit (get_or (behind 1 piece) k 0) ≡ true) (digit_after_space piece 0 one) (digit_after_space piece 1 two)) ends
+    (is ∙ digits_value_2 piece (omega (arith, long)) (digit_is_at_most_57 _ one) (digit_is_at_most_57 _ two))
 
 pub three_digits_ahead : (place value : ℕ) (piece : List ℕ) → 4 < length piece → get_or piece 0 0 ≡ 32 →
     is_digit (get_or piece 1 0) ≡ true → is_digit (get_or piece 2 0) ≡ true → is_digit (get_or piece 3 0) ≡ true →
@@ -183,9 +183,9 @@ pub three_digits_ahead : (place value : ℕ) (piece : List ℕ) → 4 < length p
     value ≡ ((get_or piece 1 0 - 48) * 10 + (get_or piece 2 0 - 48)) * 10 + (get_or piece 3 0 - 48) →
     IsAhead place piece 4 true (record { kind = Number value; start = place + 1; end = place + 4 } ∷ [])
 three_digits_ahead place value piece long blank one two three ends is =
-    digits_ahead place 1 3 value piece (one_space piece (omega (arith, long)) blank) (omega arith) long (omega arith)
-    (each_of_3 (λ (k : ℕ). is_digit (get_or (behind 1 piece) k 0) ≡ true) (digit_there piece 0 one) (digit_there piece 1 two) (digit_there piece 2 three)) ends
-    (is ∙ digits_value_3 piece (omega (arith, long)) (most_of_digit _ one) (most_of_digit _ two) (most_of_digit _ three))
+    digits_ahead place 1 3 value piece (one_space_is_blank piece (omega (arith, long)) blank) (omega arith) long (omega arith)
+    (each_of_3 (λ (k : ℕ). is_digit (get_or (behind 1 piece) k 0) ≡ true) (digit_after_space piece 0 one) (digit_after_space piece 1 two) (digit_after_space piece 2 three)) ends
+    (is ∙ digits_value_3 piece (omega (arith, long)) (digit_is_at_most_57 _ one) (digit_is_at_most_57 _ two) (digit_is_at_most_57 _ three))
 
 pub four_digits_ahead : (place value : ℕ) (piece : List ℕ) → 5 < length piece → get_or piece 0 0 ≡ 32 →
     is_digit (get_or piece 1 0) ≡ true → is_digit (get_or piece 2 0) ≡ true → is_digit (get_or piece 3 0) ≡ true →
@@ -193,10 +193,10 @@ pub four_digits_ahead : (place value : ℕ) (piece : List ℕ) → 5 < length pi
     value ≡ (((get_or piece 1 0 - 48) * 10 + (get_or piece 2 0 - 48)) * 10 + (get_or piece 3 0 - 48)) * 10 + (get_or piece 4 0 - 48) →
     IsAhead place piece 5 true (record { kind = Number value; start = place + 1; end = place + 5 } ∷ [])
 four_digits_ahead place value piece long blank one two three four ends is =
-    digits_ahead place 1 4 value piece (one_space piece (omega (arith, long)) blank) (omega arith) long (omega arith)
-    (each_of_4 (λ (k : ℕ). is_digit (get_or (behind 1 piece) k 0) ≡ true) (digit_there piece 0 one) (digit_there piece 1 two) (digit_there piece 2 three)
-    (digit_there piece 3 four)) ends
-    (is ∙ digits_value_4 piece (omega (arith, long)) (most_of_digit _ one) (most_of_digit _ two) (most_of_digit _ three) (most_of_digit _ four))
+    digits_ahead place 1 4 value piece (one_space_is_blank piece (omega (arith, long)) blank) (omega arith) long (omega arith)
+    (each_of_4 (λ (k : ℕ). is_digit (get_or (behind 1 piece) k 0) ≡ true) (digit_after_space piece 0 one) (digit_after_space piece 1 two) (digit_after_space piece 2 three)
+    (digit_after_space piece 3 four)) ends
+    (is ∙ digits_value_4 piece (omega (arith, long)) (digit_is_at_most_57 _ one) (digit_is_at_most_57 _ two) (digit_is_at_most_57 _ three) (digit_is_at_most_57 _ four))
 
 -- a size after blanks
 pub size_found : (place blanks count value : ℕ) (piece : List ℕ) → AreBlanks piece blanks → 0 < count →
@@ -217,13 +217,13 @@ pub one_digit_size : (place value : ℕ) (piece : List ℕ) → 3 < length piece
     get_or piece 2 0 ≡ 98 → is_run_byte (get_or piece 3 0) ≡ false → value ≡ get_or piece 1 0 - 48 →
     IsAhead place piece 3 true (record { kind = Size value; start = place + 1; end = place + 3 } ∷ [])
 one_digit_size place value piece long blank digit mark ends is =
-    size_found place 1 1 value piece (one_space piece (omega (arith, long)) blank) (omega arith) long (omega arith)
-    (λ k few. subst (λ (j : ℕ). is_digit (get_or (behind 1 piece) j 0) ≡ true) (first k few) (digit_there piece 0 digit)) mark ends
-    (is ∙ digit_value piece (omega (arith, long)) (most_of_digit _ digit))
+    size_found place 1 1 value piece (one_space_is_blank piece (omega (arith, long)) blank) (omega arith) long (omega arith)
+    (λ k few. subst (λ (j : ℕ). is_digit (get_or (behind 1 piece) j 0) ≡ true) (below_one_is_zero k few) (digit_after_space piece 0 digit)) mark ends
+    (is ∙ digit_value piece (omega (arith, long)) (digit_is_at_most_57 _ digit))
 
 -- a run byte above `9` is no digit
-pub letter_of_run : (c : ℕ) → is_run_byte c ≡ true → 57 < c → begins_word c ≡ true
-letter_of_run c is high = left (begins_word c) (is_digit c) is (grind (arith, nat_tests))
+pub run_byte_above_9_begins_word : (c : ℕ) → is_run_byte c ≡ true → 57 < c → begins_word c ≡ true
+run_byte_above_9_begins_word c is high = left (begins_word c) (is_digit c) is (grind (arith, nat_tests))
   where
     left : (a b : Bool) → (a || b) ≡ true → b ≡ false → a ≡ true
     left true b is off = refl
@@ -258,19 +258,19 @@ Each-all test (x ∷ xs) all =
     let parts = and_parts (test x) (list_all test xs) all in
     (parts.0, Each-all test xs parts.1)
 
-are_word : (word : List ℕ) → is_word word ≡ true → AreWord word
-are_word [] is = absurd (false≢true is)
-are_word (c ∷ cs) is =
+is_word_means_word : (word : List ℕ) → is_word word ≡ true → AreWord word
+is_word_means_word [] is = absurd (false≢true is)
+is_word_means_word (c ∷ cs) is =
     let parts = and_parts (begins_word c) (list_all is_run_byte cs) is in
     (parts.0, Each-all is_run_byte cs parts.1)
 
-word_each : (word : List ℕ) → AreWord word → Each is_run_byte word
-word_each [] are = absurd are
-word_each (c ∷ cs) are = let begins = are.0 in (rw begins, are.1)
+word_has_run_bytes : (word : List ℕ) → AreWord word → Each is_run_byte word
+word_has_run_bytes [] are = absurd are
+word_has_run_bytes (c ∷ cs) are = let begins = are.0 in (rw begins, are.1)
 
-word_some : (word : List ℕ) → AreWord word → 0 < length word
-word_some [] are = absurd are
-word_some (c ∷ cs) are = omega arith
+word_is_not_empty : (word : List ℕ) → AreWord word → 0 < length word
+word_is_not_empty [] are = absurd are
+word_is_not_empty (c ∷ cs) are = omega arith
 
 -- the word itself, after blanks
 pub word_found : (place blanks : ℕ) (piece word : List ℕ) → AreBlanks piece blanks → is_word word ≡ true → length word ≤ 64 →
@@ -281,15 +281,15 @@ pub word_found : (place blanks : ℕ) (piece word : List ℕ) → AreBlanks piec
 word_found place blanks piece word are is short inside same ends =
     let run = behind blanks piece in
     let at = place + blanks in
-    let parts = are_word word is in
+    let parts = is_word_means_word word is in
     let few : length word < length run = omega (arith, length-behind piece blanks) in
     let front : take (length word) run ≡ word = ap (take (length word)) (take_rest piece blanks) ∙ same in
     run_ahead place blanks (length word) (blanks + length word) piece (word_kind word) are refl (
-      word_some word parts,
+      word_is_not_empty word parts,
       few,
       ap begins_run (drop_more run (length word) 0 few) ∙ ap is_run_byte (get_or-behind piece blanks (length word)) ∙ ends,
       refl,
-      (Run at word Word, ap (scan Between at) front ∙ scan_of_run at word Word (word_each word parts) parts short, refl),
+      (Run at word Word, ap (scan Between at) front ∙ scan_of_run at word Word (word_has_run_bytes word parts) parts short, refl),
     )
 
 -- a colon at the front
@@ -304,9 +304,9 @@ colon_found (c ∷ cs) some is place =
     )
 
 -- four more bytes that are the same in both
-pub four_more : (xs ys : List ℕ) (n : ℕ) → take n xs ≡ take n ys → bytes_eq (take 4 (behind n xs)) (take 4 (behind n ys)) ≡ true →
+pub four_more_bytes_agree : (xs ys : List ℕ) (n : ℕ) → take n xs ≡ take n ys → bytes_eq (take 4 (behind n xs)) (take 4 (behind n ys)) ≡ true →
     take (n + 4) xs ≡ take (n + 4) ys
-four_more xs ys n same alike =
+four_more_bytes_agree xs ys n same alike =
     let front : take 4 (behind n xs) ≡ take 4 (behind n ys) = same_bytes (take 4 (behind n xs)) (take 4 (behind n ys)) alike in
     let xs_is = take-add n 4 xs in
     let ys_is = take-add n 4 ys in
@@ -331,6 +331,6 @@ spaced_found place (c ∷ cs) (s ∷ ss) space is short inside same ends =
     let long : 1 + length ss ≡ length (s ∷ ss) = omega arith in
     subst (λ (n : ℕ). IsAhead place (c ∷ cs) n true (record { kind = word_kind ss; start = place + 1; end = place + n } ∷ [])) long
     (word_found place 1 (c ∷ cs) ss
-    (omega arith, λ k few. subst (λ (j : ℕ). is_blank (get_or (c ∷ cs) j 0) ≡ true) (first k few) (ap is_blank space_first))
+    (omega arith, λ k few. subst (λ (j : ℕ). is_blank (get_or (c ∷ cs) j 0) ≡ true) (below_one_is_zero k few) (ap is_blank space_first))
     is (omega (arith, short)) (omega (arith, inside)) behind_first
     (subst (λ (n : ℕ). is_run_byte (get_or (c ∷ cs) n 0) ≡ false) (sym long) ends))

@@ -9,7 +9,7 @@ use Rattle.goal_lexer.specs.Scan.{Scanned, scan, scanned, closing, ended, fault_
 use Rattle.goal_lexer.specs.Sound.{IsSound}
 use Rattle.goal_lexer.specs.State.{LexState}
 use Rattle.goal_lexer.specs.Stands.{Stands, handed, so_far, begins_run}
-use Rattle.goal_lexer.proofs.StandsLaws.{scanned-append, goes_on, finishes, no_fault_in_run}
+use Rattle.goal_lexer.proofs.StandsLaws.{scanned-append, scanned_of_continued, lexed_at_end, no_fault_in_run}
 
 -- bytes that close what is open
 mode_can_be_closed : (mode : Mode) (place : ℕ) → IsSound mode → (more : List ℕ) × (fault_at_end (scan mode place more).0 ≡ None)
@@ -46,13 +46,13 @@ tokens_are_first_from : (mode : Mode) (place : ℕ) (ends : Bool) (text more : L
 tokens_are_first_from mode place ends text [] stands apart = (
   closing place mode,
   ap (λ (t : List ℕ). (lexed t).0) (append-nil text)
-      ∙ ap (λ (r : List Token × Option ℕ). r.0) (finishes mode place ends text stands),
+      ∙ ap (λ (r : List Token × Option ℕ). r.0) (lexed_at_end mode place ends text stands),
 )
 tokens_are_first_from mode place ends text (c ∷ cs) stands apart =
     let end = length (text ++ c ∷ cs) in
     let rest = scan mode place (c ∷ cs) in (
       rest.1 ++ closing end rest.0,
-      ap (λ (r : Scanned). (ended end r).1) (goes_on mode place ends text (c ∷ cs) stands apart (λ _. omega arith))
+      ap (λ (r : Scanned). (ended end r).1) (scanned_of_continued mode place ends text (c ∷ cs) stands apart (λ _. omega arith))
           ∙ append_assoc (so_far ends text).1 rest.1 (closing end rest.0),
     )
 

@@ -161,9 +161,9 @@ nothing_at_rest None place rest ends = subst NothingBegins (sym ends) nothing_at
 nothing_at_rest (Some at) place rest ends = ends.2
 
 -- however a text is cut into pieces up to where nothing begins, its tokens and its fault are those of the scan
-pub only_reading : (text : List ℕ) (pieces : List Piece) (rest : List ℕ) → IsCutInto text pieces rest → NothingBegins rest →
+pub cut_is_only_reading : (text : List ℕ) (pieces : List Piece) (rest : List ℕ) → IsCutInto text pieces rest → NothingBegins rest →
     ((lexed text).0 ≡ tokens_of 0 pieces) × EndsWith (lexed text).1 (length (spelled pieces)) rest
-only_reading text pieces rest cut nothing =
+cut_is_only_reading text pieces rest cut nothing =
     let reading = reading_of text in
     let place : 0 + length (spelled reading.pieces) ≡ length (spelled reading.pieces) = omega arith in
     let known = cuts_equal reading.pieces pieces reading.rest rest (sym reading.cut.whole ∙ cut.whole) reading.cut.right cut.right

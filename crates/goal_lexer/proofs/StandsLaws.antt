@@ -39,16 +39,16 @@ scan_past_run mode place c cs run apart =
     ∙ ap (λ (ts : List Token). (rest.0, ts)) (append_assoc (closing place mode) made.1 rest.1)
 
 -- the scan of a continued text is the lexer's scan of the bytes that continue it
-pub goes_on : (mode : Mode) (place : ℕ) (ends : Bool) (text xs : List ℕ) →
+pub scanned_of_continued : (mode : Mode) (place : ℕ) (ends : Bool) (text xs : List ℕ) →
     Stands (record { mode = mode; place = place; ends_run = ends }) text →
     (ends ≡ true → begins_run xs ≡ false) → (ends ≡ true → 0 < length xs) →
     scanned (text ++ xs) ≡ after_tokens (so_far ends text).1 (scan mode place xs)
-goes_on mode place false text xs stands apart some =
+scanned_of_continued mode place false text xs stands apart some =
     scanned-append text xs
     ∙ ap (λ (m : Mode). after_tokens (scanned text).1 (scan m (length text) xs)) stands.open_there
     ∙ ap (λ (p : ℕ). after_tokens (scanned text).1 (scan mode p xs)) stands.place
-goes_on mode place true text [] stands apart some = absurd (omega (arith, some refl))
-goes_on mode place true text (c ∷ cs) stands apart some =
+scanned_of_continued mode place true text [] stands apart some = absurd (omega (arith, some refl))
+scanned_of_continued mode place true text (c ∷ cs) stands apart some =
     let open_mode = (scanned text).0 in
     let before = (scanned text).1 in
     let tokens = closing (length text) open_mode in
@@ -60,18 +60,18 @@ goes_on mode place true text (c ∷ cs) stands apart some =
     ∙ ap (λ (p : ℕ). after_tokens (before ++ tokens) (scan mode p (c ∷ cs))) stands.place
 
 -- the scan of a continued text, where the lexer's scan of the continuation is known
-pub went_on : (mode new : Mode) (place : ℕ) (ends : Bool) (text xs : List ℕ) (tokens : List Token) →
+pub scanned_by_result : (mode new : Mode) (place : ℕ) (ends : Bool) (text xs : List ℕ) (tokens : List Token) →
     Stands (record { mode = mode; place = place; ends_run = ends }) text →
     (ends ≡ true → begins_run xs ≡ false) → (ends ≡ true → 0 < length xs) →
     scan mode place xs ≡ (new, tokens) → scanned (text ++ xs) ≡ (new, (so_far ends text).1 ++ tokens)
-went_on mode new place ends text xs tokens stands apart some scan_is =
-    goes_on mode place ends text xs stands apart some ∙ ap (after_tokens (so_far ends text).1) scan_is
+scanned_by_result mode new place ends text xs tokens stands apart some scan_is =
+    scanned_of_continued mode place ends text xs stands apart some ∙ ap (after_tokens (so_far ends text).1) scan_is
 
 -- no run was returned: the lexer keeps what is open
-pub stands_on : (new : Mode) (place : ℕ) (text xs : List ℕ) (tokens : List Token) → length (text ++ xs) ≡ place →
+pub stands_where_scanned : (new : Mode) (place : ℕ) (text xs : List ℕ) (tokens : List Token) → length (text ++ xs) ≡ place →
     scanned (text ++ xs) ≡ (new, tokens) → IsSound new →
     Stands (record { mode = new; place = place; ends_run = false }) (text ++ xs)
-stands_on new place text xs tokens at_place scan_is sound =
+stands_where_scanned new place text xs tokens at_place scan_is sound =
     record { place = at_place; open_there = ap (λ (r : Scanned). r.0) scan_is; run_there = tt; sound = sound }
 
 -- what the token of a run says of what was open
@@ -140,13 +140,13 @@ no_fault_in_run (BlockComment start closes) run = absurd run
 no_fault_in_run (Failed at) run = absurd run
 
 -- what the lexer returns at the end of the text
-pub finishes : (mode : Mode) (place : ℕ) (ends : Bool) (text : List ℕ) →
+pub lexed_at_end : (mode : Mode) (place : ℕ) (ends : Bool) (text : List ℕ) →
     Stands (record { mode = mode; place = place; ends_run = ends }) text →
     lexed text ≡ ((so_far ends text).1 ++ closing place mode, fault_at_end mode)
-finishes mode place false text stands =
+lexed_at_end mode place false text stands =
     ap (λ (m : Mode). ((scanned text).1 ++ closing (length text) m, fault_at_end m)) stands.open_there
     ∙ ap (λ (p : ℕ). ((scanned text).1 ++ closing p mode, fault_at_end mode)) stands.place
-finishes mode place true text stands =
+lexed_at_end mode place true text stands =
     let handed_out = (so_far true text).1 in
     let known = no_fault_in_run (scanned text).0 stands.run_there in
     let between : Between ≡ mode = sym known.0 ∙ stands.open_there in
@@ -163,7 +163,7 @@ pub scan_of_continuation_by_parts : (mode new : Mode) (place : ℕ) (ends : Bool
 scan_of_continuation_by_parts mode new place ends lexer view_is n rest tokens apart some scan_is text stands =
     subst (λ (s : LexState). (s.ends_run ≡ true → begins_run rest ≡ false) → Stands s text →
     scanned (text ++ take n rest) ≡ (new, handed s text ++ tokens)) view_is
-    (λ was_apart stood. went_on mode new place ends text (take n rest) tokens stood (λ e. begins_run-take n rest (was_apart e)) some scan_is)
+    (λ was_apart stood. scanned_by_result mode new place ends text (take n rest) tokens stood (λ e. begins_run-take n rest (was_apart e)) some scan_is)
     apart stands
 
 -- the length of the text grows by the bytes taken

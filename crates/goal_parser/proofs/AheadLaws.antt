@@ -5,7 +5,7 @@ use Rattle.goal_lexer.specs.declared.tokens.Token.{Token}
 use Rattle.goal_lexer.specs.Ahead.{IsAhead}
 use Rattle.goal_lexer.specs.Scan.{lexed}
 use Rattle.goal_lexer.specs.Stands.{handed, begins_run}
-use Rattle.goal_lexer.proofs.ForCallers.{goes_ahead}
+use Rattle.goal_lexer.proofs.ForCallers.{stands_ahead_by_parts}
 use Rattle.goal_parser.specs.declared.faults.TextFault.{TextFault}
 use Rattle.goal_parser.specs.declared.token_faults.TokenFault.{TokenFault}
 use Rattle.goal_parser.specs.FaultInText.{fault_in_text}
@@ -31,7 +31,7 @@ pub refused_ahead : (old : Reader) (rest : List ℕ) (n : ℕ) (e : Bool) (t : T
 refused_ahead old rest n e t f ready some ahead refuses text more stood =
     let lexer = old.lexer in
     let hs = handed lexer text in
-    let went = goes_ahead lexer.mode lexer.place lexer.ends_run lexer refl ready.between n rest e (t ∷ []) text ready.apart some
+    let went = stands_ahead_by_parts lexer.mode lexer.place lexer.ends_run lexer refl ready.between n rest e (t ∷ []) text ready.apart some
     (subst (λ (p : ℕ). IsAhead p rest n e (t ∷ [])) (sym ready.same) ahead) stood.lexer in
     let front = handed_front (record { mode = lexer.mode; place = lexer.place + n; ends_run = e }) (text ++ take n rest)
     (drop n rest ++ more) went.0 (apart_behind old.place rest more n e (t ∷ []) ahead) in

@@ -14,7 +14,7 @@ use Rattle.goal_lexer.specs.declared.mode.Mode.TheVariants.{Between, Run, Slash,
 use Rattle.goal_lexer.specs.Scan.{closing}
 use Rattle.goal_lexer.specs.State.{LexState}
 use Rattle.goal_lexer.specs.Stands.{Stands, handed}
-use Rattle.goal_lexer.proofs.ForCallers.{finishes, cut_off}
+use Rattle.goal_lexer.proofs.ForCallers.{lexed_at_end, fault_at_end_is_cut_off}
 use Rattle.goal_parser.specs.declared.faults.TextFault.{TextFault}
 use Rattle.goal_parser.specs.declared.pieces.TextReader.{TextReader}
 use Rattle.goal_parser.specs.Faults.{token_fault}
@@ -112,8 +112,8 @@ passes_so_far r text read = record {
   tokens = λ before later t e inside.
       ⊎_elim (λ found. passes before found.0 t (sym (ap (first_fault []) found.1) ∙ read.stands.passed))
       (λ stood. absurd (⊎_elim (λ early. let last = closed_token_ends_at_place lexer.place lexer.mode t stood in let long = stands.place in omega (arith, last, long, early)) (λ sign. no_sign_there lexer.place lexer.mode t stood sign) inside))
-      (token_in_front_or_behind before later (handed lexer text) (closing lexer.place lexer.mode) t (sym e ∙ ap (λ (p : List Token × Option ℕ). p.0) (finishes lexer.mode lexer.place lexer.ends_run text stands)));
-  bytes = λ at e. cut_off lexer text at stands e;
+      (token_in_front_or_behind before later (handed lexer text) (closing lexer.place lexer.mode) t (sym e ∙ ap (λ (p : List Token × Option ℕ). p.0) (lexed_at_end lexer.mode lexer.place lexer.ends_run text stands)));
+  bytes = λ at e. fault_at_end_is_cut_off lexer text at stands e;
 }
   where
     lexer : LexState

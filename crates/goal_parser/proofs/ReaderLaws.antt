@@ -7,7 +7,7 @@ use Rattle.goal_lexer.specs.declared.tokens.Token.{Token}
 use Rattle.goal_lexer.specs.Scan.{Scanned, scan, closing, lexed}
 use Rattle.goal_lexer.specs.State.{LexState}
 use Rattle.goal_lexer.specs.Stands.{Stands, handed, begins_run}
-use Rattle.goal_lexer.proofs.ForCallers.{goes_on, finishes}
+use Rattle.goal_lexer.proofs.ForCallers.{scanned_of_continued, lexed_at_end}
 use Rattle.goal_graph.specs.Schedule.{Plan}
 use Rattle.goal_parser.specs.declared.faults.TextFault.{TextFault}
 use Rattle.goal_parser.specs.declared.faults.TextFault.TheVariants.{Lex}
@@ -58,14 +58,14 @@ first_fault-front hs ys f h = first_fault-append [] hs ys ∙ ap (λ o. option_o
 pub handed_front : (lexer : LexState) (text more : List ℕ) → Stands lexer text → (lexer.ends_run ≡ true → begins_run more ≡ false) → (tokens : List Token) × ((lexed (text ++ more)).0 ≡ handed lexer text ++ tokens)
 handed_front lexer text [] stands apart = (
   closing lexer.place lexer.mode,
-  ap (λ t. (lexed t).0) (append-nil text) ∙ ap (λ (r : List Token × Option ℕ). r.0) (finishes lexer.mode lexer.place lexer.ends_run text stands),
+  ap (λ t. (lexed t).0) (append-nil text) ∙ ap (λ (r : List Token × Option ℕ). r.0) (lexed_at_end lexer.mode lexer.place lexer.ends_run text stands),
 )
 handed_front lexer text (c ∷ cs) stands apart =
     let more = c ∷ cs in
     let rest = scan lexer.mode lexer.place more in
     let last = closing (length (text ++ more)) rest.0 in (
       rest.1 ++ last,
-      ap (λ (r : Scanned). r.1 ++ closing (length (text ++ more)) r.0) (goes_on lexer.mode lexer.place lexer.ends_run text more stands apart (λ h. omega arith))
+      ap (λ (r : Scanned). r.1 ++ closing (length (text ++ more)) r.0) (scanned_of_continued lexer.mode lexer.place lexer.ends_run text more stands apart (λ h. omega arith))
           ∙ append_assoc (handed lexer text) rest.1 last,
     )
 

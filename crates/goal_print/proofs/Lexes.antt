@@ -12,7 +12,7 @@ use Rattle.goal_lexer.specs.Runs.{run_kind}
 use Rattle.goal_lexer.specs.Scan.{lexed}
 use Rattle.goal_lexer.specs.Stands.{begins_run}
 use Rattle.goal_lexer.specs.Pieces.{Piece, blank, run, sign, bytes_of, Each, AreWord, IsRight, spelled, AreRight, piece_tokens, tokens_of, EndsWith, NothingBegins}
-use Rattle.goal_lexer.proofs.ForCallers.{only_reading, first_in_run}
+use Rattle.goal_lexer.proofs.ForCallers.{cut_is_only_reading, first_in_run}
 use Rattle.goal_parser.proofs.ForCallers.{kinds_of}
 use Rattle.goal_print.specs.Canonical.{label}
 use Rattle.goal_print.proofs.Numerals.{decimal_digits, number_value-decimal, length-decimal, label_word, length-label, label_kind, size_kind}
@@ -128,5 +128,5 @@ no_fault_at_end (Some at) place ends = absurd (ends.1 refl)
 
 pub lexed_has_kinds : (text : List ℕ) (kinds : List TokenKind) → Lexes text kinds → (kinds_of (lexed text).0 ≡ kinds) × ((lexed text).1 ≡ None)
 lexed_has_kinds text kinds is =
-    let known = only_reading text is.pieces [] (record { whole = is.spells ∙ sym (append-nil (spelled is.pieces)); right = is.right }) nothing_at_end in
+    let known = cut_is_only_reading text is.pieces [] (record { whole = is.spells ∙ sym (append-nil (spelled is.pieces)); right = is.right }) nothing_at_end in
     (ap kinds_of known.0 ∙ is.tells 0, no_fault_at_end (lexed text).1 (length (spelled is.pieces)) known.1)

@@ -6,7 +6,7 @@ use Rattle.goal_lexer.specs.declared.mode.Mode.TheVariants.{Between, Failed}
 use Rattle.goal_lexer.specs.Scan.{Scanned, scan, scanned, closing}
 use Rattle.goal_lexer.specs.State.{LexState}
 use Rattle.goal_lexer.specs.Stands.{Stands, handed}
-use Rattle.goal_lexer.proofs.StandsLaws.{scan_of_continuation_by_parts, place_after_continuation, stands_on, stands_past_run, run_was_open, fault_of_continued}
+use Rattle.goal_lexer.proofs.StandsLaws.{scan_of_continuation_by_parts, place_after_continuation, stands_where_scanned, stands_past_run, run_was_open, fault_of_continued}
 use Rattle.goal_lexer.proofs.lexing.Lexer.next_token_into.Goals as goal
 use Rattle.goal_lexer.proofs.lexing.Lexer.next_token_into.Goals.{After-take_piece}
 
@@ -46,7 +46,7 @@ pub returns-in-Piece-clause-stands : goal.returns-in-Piece-clause-stands
 returns-in-Piece-clause-stands c text stands =
     let k = (goal.at.returns-in-Piece-clause-stands c).After-take_piece in
     let rest = c.args.rest.now in
-    stands_on c.take_piece.new.mode (c.self.inside.place + length rest) text (take (length rest) rest) (handed c.args.self.now text ++ [])
+    stands_where_scanned c.take_piece.new.mode (c.self.inside.place + length rest) text (take (length rest) rest) (handed c.args.self.now text ++ [])
     (at_place k (length rest) (omega arith) text stands)
     (went_whole k c.take_piece.new.mode c.in-Piece.ensures.0 text stands)
     c.in-Piece.ensures.1
@@ -117,7 +117,7 @@ returns-in-Sign-clause-stands c text stands =
     let some : 0 < length (take c.in-Sign.taken rest) = omega (arith, said.0, said.1) in
     subst (λ (m : Mode). Stands (record { mode = m; place = c.self.inside.place + c.in-Sign.taken; ends_run = false }) (text ++ take c.in-Sign.taken rest))
     (sym said.2)
-    (stands_on Between (c.self.inside.place + c.in-Sign.taken) text (take c.in-Sign.taken rest) (handed c.args.self.now text ++ c.take_piece.new.token ∷ [])
+    (stands_where_scanned Between (c.self.inside.place + c.in-Sign.taken) text (take c.in-Sign.taken rest) (handed c.args.self.now text ++ c.take_piece.new.token ∷ [])
     (at_place k c.in-Sign.taken said.1 text stands)
     (went k c.in-Sign.taken Between (c.take_piece.new.token ∷ []) (λ _. some) said.3 text stands)
     tt)
