@@ -15,52 +15,52 @@ use Rattle.goal_parser.specs.Faults.{token_fault}
 use Rattle.goal_parser.specs.Reader.{StandsFor}
 use Rattle.goal_parser.specs.Reads.{text_fault}
 use Rattle.goal_parser.specs.Taken.{HasTaken}
-use Rattle.goal_parser.proofs.ReaderLaws.{fault_of_token, handed_front, parts, apart_more, take-plus, drop-plus}
+use Rattle.goal_parser.proofs.ReaderLaws.{fault_of_token, handed_front, taken_and_dropped_join, no_run_whatever_follows, take-plus, drop-plus}
 
 -- what follows a run at the front of a piece does not continue it, whatever follows the piece
-apart_behind : (place : ℕ) (rest more : List ℕ) (n : ℕ) (e : Bool) (ts : List Token) → IsAhead place rest n e ts → e ≡ true →
+no_run_after_token : (place : ℕ) (rest more : List ℕ) (n : ℕ) (e : Bool) (ts : List Token) → IsAhead place rest n e ts → e ≡ true →
     begins_run (drop n rest ++ more) ≡ false
-apart_behind place rest more n false ts ahead is = cc
-apart_behind place rest more n true ts ahead is = apart_more n rest more ahead.0 ahead.1
+no_run_after_token place rest more n false ts ahead is = cc
+no_run_after_token place rest more n true ts ahead is = no_run_whatever_follows n rest more ahead.0 ahead.1
 
 -- a token at the front that the parser refuses is at fault in each text that is continued by it
-pub refused_ahead : (old : Reader) (rest : List ℕ) (n : ℕ) (e : Bool) (t : Token) (f : TextFault) →
+pub refused_token_is_fault_of_text : (old : Reader) (rest : List ℕ) (n : ℕ) (e : Bool) (t : Token) (f : TextFault) →
     MayGoOn old.lexer old.place rest → 0 < n → IsAhead old.place rest n e (t ∷ []) →
     ((before : List Token) → HasTaken old.parser before → token_fault before t ≡ Some f) →
     (text more : List ℕ) → StandsFor old text → text_fault (text ++ rest ++ more) ≡ Some f
-refused_ahead old rest n e t f ready some ahead refuses text more stood =
+refused_token_is_fault_of_text old rest n e t f ready some ahead refuses text more stood =
     let lexer = old.lexer in
     let hs = handed lexer text in
     let went = stands_ahead_by_parts lexer.mode lexer.place lexer.ends_run lexer refl ready.between n rest e (t ∷ []) text ready.apart some
     (subst (λ (p : ℕ). IsAhead p rest n e (t ∷ [])) (sym ready.same) ahead) stood.lexer in
     let front = handed_front (record { mode = lexer.mode; place = lexer.place + n; ends_run = e }) (text ++ take n rest)
-    (drop n rest ++ more) went.0 (apart_behind old.place rest more n e (t ∷ []) ahead) in
+    (drop n rest ++ more) went.0 (no_run_after_token old.place rest more n e (t ∷ []) ahead) in
     fault_of_token (text ++ rest ++ more) hs front.0 t f
-    (ap (λ (w : List ℕ). (lexed w).0) (sym (parts text rest more n)) ∙ front.1 ∙ ap (λ (l : List Token). l ++ front.0) went.1)
+    (ap (λ (w : List ℕ). (lexed w).0) (sym (taken_and_dropped_join text rest more n)) ∙ front.1 ∙ ap (λ (l : List Token). l ++ front.0) went.1)
     stood.passed (refuses (reverse hs) stood.taken)
 
 -- A piece of which some bytes were taken, and then more.
 
-pub stands_on_piece : (start old new : Reader) (piece : List ℕ) (at n : ℕ) →
+pub stands_after_both_takes : (start old new : Reader) (piece : List ℕ) (at n : ℕ) →
     ((text : List ℕ) → StandsFor start text → StandsFor old (text ++ take at piece)) →
     ((text : List ℕ) → StandsFor old text → StandsFor new (text ++ take n (take (length piece - at) (drop at piece)))) →
     (text : List ℕ) → StandsFor start text → StandsFor new (text ++ take (at + n) piece)
-stands_on_piece start old new piece at n before on text stood =
+stands_after_both_takes start old new piece at n before on text stood =
     subst (λ (w : List ℕ). StandsFor new w)
     (ap (λ (l : List ℕ). (text ++ take at piece) ++ take n l) (take_rest piece at)
     ∙ append_assoc text (take at piece) (take n (drop at piece))
     ∙ ap (λ (l : List ℕ). text ++ l) (sym (take-plus at n piece)))
     (on (text ++ take at piece) (before text stood))
 
-pub apart_in_piece : (piece : List ℕ) (at n : ℕ) → begins_run (drop n (take (length piece - at) (drop at piece))) ≡ false →
+pub no_run_in_rest_of_piece : (piece : List ℕ) (at n : ℕ) → begins_run (drop n (take (length piece - at) (drop at piece))) ≡ false →
     begins_run (drop (at + n) piece) ≡ false
-apart_in_piece piece at n apart =
+no_run_in_rest_of_piece piece at n apart =
     ap begins_run (drop-plus at n piece ∙ ap (drop n) (sym (take_rest piece at))) ∙ apart
 
-pub fault_in_piece : (piece text more : List ℕ) (at : ℕ) (f : TextFault) →
+pub fault_in_rest_is_fault_of_piece : (piece text more : List ℕ) (at : ℕ) (f : TextFault) →
     text_fault ((text ++ take at piece) ++ take (length piece - at) (drop at piece) ++ more) ≡ Some f →
     text_fault (text ++ piece ++ more) ≡ Some f
-fault_in_piece piece text more at f is =
+fault_in_rest_is_fault_of_piece piece text more at f is =
     ap (λ (w : List ℕ). text_fault (w ++ more))
     (ap (λ (l : List ℕ). text ++ l) (sym (take-append-drop at piece) ∙ ap (λ (l : List ℕ). take at piece ++ l) (sym (take_rest piece at)))
     ∙ sym (append_assoc text (take at piece) (take (length piece - at) (drop at piece))))
@@ -78,9 +78,9 @@ left_both old mid new piece n (suc m) first second some ends =
     omega (arith, left, long, first.taken)
 
 -- a reader that took bytes, and then more
-pub goes_both : (old mid new : Reader) (piece : List ℕ) (n m : ℕ) → GoesAhead old piece mid n →
+pub goes_ahead_twice : (old mid new : Reader) (piece : List ℕ) (n m : ℕ) → GoesAhead old piece mid n →
     GoesAhead mid (take (length piece - n) (drop n piece)) new m → GoesAhead old piece new (n + m)
-goes_both old mid new piece n m first second =
+goes_ahead_twice old mid new piece n m first second =
     let long = ap length (take_rest piece n) ∙ length-drop n piece in
     let front = first.taken in
     let back = second.taken in
@@ -88,15 +88,15 @@ goes_both old mid new piece n m first second =
       taken = omega (arith, long, front, back);
       place = omega (arith, first.place, second.place);
       same = second.same;
-      apart = λ ends. apart_in_piece piece n m (second.apart ends);
+      apart = λ ends. no_run_in_rest_of_piece piece n m (second.apart ends);
       left = λ some ends. left_both old mid new piece n m first second some ends;
       between = λ before. second.between (first.between before);
-      stands = stands_on_piece old mid new piece n m first.stands second.stands;
+      stands = stands_after_both_takes old mid new piece n m first.stands second.stands;
       none = λ is. second.none (omega (arith, is)) ∙ first.none (omega (arith, is));
     }
 
 -- a fault of what follows the bytes that it took
-pub fault_behind_ahead : (old mid : Reader) (piece : List ℕ) (n : ℕ) (f : TokenFault) → GoesAhead old piece mid n →
+pub fault_after_going_ahead : (old mid : Reader) (piece : List ℕ) (n : ℕ) (f : TokenFault) → GoesAhead old piece mid n →
     IsFaultAhead mid (take (length piece - n) (drop n piece)) f → IsFaultAhead old piece f
-fault_behind_ahead old mid piece n f first fault memory text more stood =
-    fault_in_piece piece text more n (fault_in_text f) (fault memory (text ++ take n piece) more (first.stands text stood))
+fault_after_going_ahead old mid piece n f first fault memory text more stood =
+    fault_in_rest_is_fault_of_piece piece text more n (fault_in_text f) (fault memory (text ++ take n piece) more (first.stands text stood))

@@ -126,24 +126,24 @@ module _ (p : Parser) (before : List Token) where
       by token.Open h = refl
       by _ h = absurd h
 
-  rest_entered : (t : Token) (next : State) → entry p.state t.kind ≡ Some next
+  entered_fails_rest_alone : (t : Token) (next : State) → entry p.state t.kind ≡ Some next
       → fault_by p.state p.draft p.ranks.count p.ranks.blocks.keys (defined_of before) p.head.subject p.counts (used_of before) t ≡ rest_fault p before t
   unfolding fault_by syntax_fault
-  rest_entered t next enters = ap (λ (o : Option State). option_or (fault_if (is_none o) (Syntax t.start)) (rest_fault p before t)) enters
+  entered_fails_rest_alone t next enters = ap (λ (o : Option State). option_or (fault_if (is_none o) (Syntax t.start)) (rest_fault p before t)) enters
 
 -- the first test that a token fails, where the sentence may go on with it
-pub told : (p : Parser) (before : List Token) (t : Token) (next : State) (fault : Option TextFault) → HasTaken p before → entry p.state t.kind ≡ Some next → rest_fault p before t ≡ fault
+pub rest_fault_is_token_fault : (p : Parser) (before : List Token) (t : Token) (next : State) (fault : Option TextFault) → HasTaken p before → entry p.state t.kind ≡ Some next → rest_fault p before t ≡ fault
     → token_fault before t ≡ fault
-told p before t next fault taken enters rest = sym (fault_taken p before t fault taken (sym (rest_entered p before t next enters ∙ rest)))
+rest_fault_is_token_fault p before t next fault taken enters rest = sym (fault_taken p before t fault taken (sym (entered_fails_rest_alone p before t next enters ∙ rest)))
 
 pub refuses_entry : (p : Parser) (t : Token) → entry p.state t.kind ≡ None → Refuses p t (refused.Syntax t.start)
 unfolding fault_by syntax_fault
 refuses_entry p t none = λ before taken. sym (fault_taken p before t (Some (Syntax t.start)) taken
     (sym (ap (λ (o : Option State). option_or (fault_if (is_none o) (Syntax t.start)) (rest_fault p before t)) none)))
 
-pub refuses : (p : Parser) (t : Token) (next : State) (fault : TokenFault) → entry p.state t.kind ≡ Some next
+pub rest_fault_refuses : (p : Parser) (t : Token) (next : State) (fault : TokenFault) → entry p.state t.kind ≡ Some next
     → ((before : List Token) → HasTaken p before → rest_fault p before t ≡ Some (fault_in_text fault)) → Refuses p t fault
-refuses p t next fault enters rest = λ before taken. told p before t next (Some (fault_in_text fault)) taken enters (rest before taken)
+rest_fault_refuses p t next fault enters rest = λ before taken. rest_fault_is_token_fault p before t next (Some (fault_in_text fault)) taken enters (rest before taken)
 
 -- What a token gives.
 
@@ -171,12 +171,12 @@ pub record Gives (old new : Parser) (s : State) (k : TokenKind) (at : ℕ) : Typ
   pub plans : PlansGive old new s k
 
 -- the state behind a token
-behind : (s next : State) (k : TokenKind) → entry s k ≡ Some next → next ≡ unwrap_or (entry s k) s
-behind s next k enters = sym (ap (λ (o : Option State). unwrap_or o s) enters)
+state_after_token : (s next : State) (k : TokenKind) → entry s k ≡ Some next → next ≡ unwrap_or (entry s k) s
+state_after_token s next k enters = sym (ap (λ (o : Option State). unwrap_or o s) enters)
 
-given : (old new : Parser) (t : Token) (next : State) → entry old.state t.kind ≡ Some next → Gives old new old.state t.kind t.start → (before : List Token) → HasTaken old before → HasTaken new (t ∷ before)
+gives_keeps_taken : (old new : Parser) (t : Token) (next : State) → entry old.state t.kind ≡ Some next → Gives old new old.state t.kind t.start → (before : List Token) → HasTaken old before → HasTaken new (t ∷ before)
 unfolding state_of ranks_of rank_of blocks_of counts_of draft_of head_of ops_of defined_of used_of deps_of notes_of plans_of
-given old new t next enters gives before taken =
+gives_keeps_taken old new t next enters gives before taken =
     let head = head_of before in
     let ds = defined_of before in
     let us = used_of before in
@@ -190,7 +190,7 @@ given old new t next enters gives before taken =
       counts = gives.counts ∙ (λ i. counts_with t.kind (taken.counts i));
       draft = gives.draft ∙ (λ i. draft_with (taken.state i) t.kind (taken.draft i));
       head = subst (λ (z : State × ItemHead × State). KeepsHead z.0 z.1 (head_with z.2 t.kind t.start head))
-          (λ i. (sym (gives.state ∙ sym (behind old.state next t.kind enters)) i, sym gives.head i, taken.state i))
+          (λ i. (sym (gives.state ∙ sym (state_after_token old.state next t.kind enters)) i, sym gives.head i, taken.state i))
           (KeepsHead-next old.state next t.kind t.start old.head head enters taken.head);
       ops = gives.ops ∙ (λ i. ops_with (taken.state i) t.kind (op_of (taken.draft i)) (taken.ops i));
       names = subst (λ (z : State × List Op). NamesHold new.block.names (defined_with t.kind head.subject (length z.1) ds) (used_with z.0 t.kind t.start head us) (deps_with z.0 t.kind head deps) (notes_with z.0 t.kind head notes))
@@ -213,7 +213,7 @@ given old new t next enters gives before taken =
 
 pub takes : (old new : Parser) (t : Token) (next : State) → entry old.state t.kind ≡ Some next
     → ((before : List Token) → HasTaken old before → rest_fault old before t ≡ None) → Gives old new old.state t.kind t.start → Takes old t new
-takes old new t next enters rest gives = λ before taken. (told old before t next None taken enters (rest before taken), given old new t next enters gives before taken)
+takes old new t next enters rest gives = λ before taken. (rest_fault_is_token_fault old before t next None taken enters (rest before taken), gives_keeps_taken old new t next enters gives before taken)
 
 -- What a token leaves, where its kind gives nothing there.
 
@@ -228,101 +228,101 @@ IsNoName token.Colon = ⊥
 IsNoName token.Close = ⊥
 IsNoName _ = ⊤
 
-ranks_other : (s : State) (k : TokenKind) (n : ℕ) → IsNoNumber k → n ≡ ranks_with s k n
+ranks_stay_without_number : (s : State) (k : TokenKind) (n : ℕ) → IsNoNumber k → n ≡ ranks_with s k n
 unfolding ranks_with
-ranks_other state.Ranks (token.Number m) n absent = absurd absent
-ranks_other _ _ n absent = refl
+ranks_stay_without_number state.Ranks (token.Number m) n absent = absurd absent
+ranks_stay_without_number _ _ n absent = refl
 
-rank_other : (s : State) (k : TokenKind) (n : ℕ) → IsNoNumber k → n ≡ rank_with s k n
+rank_stays_without_number : (s : State) (k : TokenKind) (n : ℕ) → IsNoNumber k → n ≡ rank_with s k n
 unfolding rank_with
-rank_other state.Block (token.Number m) n absent = absurd absent
-rank_other _ _ n absent = refl
+rank_stays_without_number state.Block (token.Number m) n absent = absurd absent
+rank_stays_without_number _ _ n absent = refl
 
-blocks_other : (s : State) (k : TokenKind) (ns : List ℕ) → IsNoNumber k → ns ≡ blocks_with s k ns
+blocks_stay_without_number : (s : State) (k : TokenKind) (ns : List ℕ) → IsNoNumber k → ns ≡ blocks_with s k ns
 unfolding blocks_with
-blocks_other state.Block (token.Number m) ns absent = absurd absent
-blocks_other _ _ ns absent = refl
+blocks_stay_without_number state.Block (token.Number m) ns absent = absurd absent
+blocks_stay_without_number _ _ ns absent = refl
 
-ends_none : (s : State) (k : TokenKind) → begins_item k ≡ false → ends_action s k ≡ false
+ends_no_action_within_item : (s : State) (k : TokenKind) → begins_item k ≡ false → ends_action s k ≡ false
 unfolding ends_action
-ends_none state.Calc2 k absent = absent
-ends_none state.Send4 k absent = absent
-ends_none state.Recv4 k absent = absent
-ends_none _ k absent = refl
+ends_no_action_within_item state.Calc2 k absent = absent
+ends_no_action_within_item state.Send4 k absent = absent
+ends_no_action_within_item state.Recv4 k absent = absent
+ends_no_action_within_item _ k absent = refl
 
-ops_other : (s : State) (k : TokenKind) (op : Op) (ops : List Op) → begins_item k ≡ false → ops ≡ ops_with s k op ops
+ops_stay_within_item : (s : State) (k : TokenKind) (op : Op) (ops : List Op) → begins_item k ≡ false → ops ≡ ops_with s k op ops
 unfolding ops_with
-ops_other s token.Close op ops absent = cc
-ops_other s _ op ops absent = sym (ap (λ (b : Bool). if b then ops ++ op ∷ [] else ops) (ends_none s _ absent))
+ops_stay_within_item s token.Close op ops absent = cc
+ops_stay_within_item s _ op ops absent = sym (ap (λ (b : Bool). if b then ops ++ op ∷ [] else ops) (ends_no_action_within_item s _ absent))
 
-names_other : (names : Names) (s : State) (k : TokenKind) (at : ℕ) (head : ItemHead) (op : ℕ) → IsNoName k → NamesGive names names s k at head op
+names_stay_without_name : (names : Names) (s : State) (k : TokenKind) (at : ℕ) (head : ItemHead) (op : ℕ) → IsNoName k → NamesGive names names s k at head op
 unfolding defined_with used_with deps_with notes_with
-names_other names s (token.Number n) at head op absent = absurd absent
-names_other names s (token.Label label) at head op absent = absurd absent
-names_other names s token.Colon at head op absent = absurd absent
-names_other names s token.Close at head op absent = absurd absent
-names_other names s _ at head op absent = λ ds us deps notes holds. holds
+names_stay_without_name names s (token.Number n) at head op absent = absurd absent
+names_stay_without_name names s (token.Label label) at head op absent = absurd absent
+names_stay_without_name names s token.Colon at head op absent = absurd absent
+names_stay_without_name names s token.Close at head op absent = absurd absent
+names_stay_without_name names s _ at head op absent = λ ds us deps notes holds. holds
 
-plans_other : (s : State) (k : TokenKind) (rank : ℕ) (plan : Plan) (plans : List Plan) → IsNoName k → plans ≡ plans_with s k rank plan plans
+plans_stay_without_name : (s : State) (k : TokenKind) (rank : ℕ) (plan : Plan) (plans : List Plan) → IsNoName k → plans ≡ plans_with s k rank plan plans
 unfolding plans_with
-plans_other s (token.Number n) rank plan plans absent = absurd absent
-plans_other s token.Close rank plan plans absent = absurd absent
-plans_other s _ rank plan plans absent = refl
+plans_stay_without_name s (token.Number n) rank plan plans absent = absurd absent
+plans_stay_without_name s token.Close rank plan plans absent = absurd absent
+plans_stay_without_name s _ rank plan plans absent = refl
 
 -- a token that begins no item, names nothing and has no number
-gives_beside : (old : Parser) (next : State) (counts : Counts) (draft : Draft) (head : ItemHead) (k : TokenKind) (at : ℕ) → entry old.state k ≡ Some next
+gives_counts_draft_and_head : (old : Parser) (next : State) (counts : Counts) (draft : Draft) (head : ItemHead) (k : TokenKind) (at : ℕ) → entry old.state k ≡ Some next
     → IsNoNumber k → IsNoName k → begins_item k ≡ false → counts ≡ counts_with k old.counts → draft ≡ draft_with old.state k old.draft → head ≡ head_with old.state k at old.head
     → Gives old (record old { state = next; counts = counts; draft = draft; head = head }) old.state k at
-gives_beside old next counts draft head k at enters number name item counted drafted headed = record {
-  state = behind old.state next k enters;
-  ranks = ranks_other old.state k old.ranks.count number;
-  rank = rank_other old.state k old.ranks.present number;
-  blocks = blocks_other old.state k old.ranks.blocks.keys number;
+gives_counts_draft_and_head old next counts draft head k at enters number name item counted drafted headed = record {
+  state = state_after_token old.state next k enters;
+  ranks = ranks_stay_without_number old.state k old.ranks.count number;
+  rank = rank_stays_without_number old.state k old.ranks.present number;
+  blocks = blocks_stay_without_number old.state k old.ranks.blocks.keys number;
   counts = counted;
   draft = drafted;
   head = headed;
-  ops = ops_other old.state k (op_of old.draft) old.block.ops.items item;
-  names = names_other old.block.names old.state k at old.head (length old.block.ops.items) name;
-  plans = λ ds us deps notes holds. plans_other old.state k old.ranks.present _ old.plans.items name;
+  ops = ops_stay_within_item old.state k (op_of old.draft) old.block.ops.items item;
+  names = names_stay_without_name old.block.names old.state k at old.head (length old.block.ops.items) name;
+  plans = λ ds us deps notes holds. plans_stay_without_name old.state k old.ranks.present _ old.plans.items name;
 }
 
 -- an option's word
 gives_option : (old : Parser) (next : State) (draft : Draft) (k : TokenKind) (at : ℕ) → entry old.state k ≡ Some next → IsOption k → draft ≡ draft_with old.state k old.draft
     → Gives old (record old { state = next; draft = draft }) old.state k at
 unfolding counts_with head_with
-gives_option old next draft token.Tag at enters is drafted = gives_beside old next old.counts draft old.head token.Tag at enters tt tt refl refl drafted refl
-gives_option old next draft token.Cpu at enters is drafted = gives_beside old next old.counts draft old.head token.Cpu at enters tt tt refl refl drafted refl
-gives_option old next draft token.Nic at enters is drafted = gives_beside old next old.counts draft old.head token.Nic at enters tt tt refl refl drafted refl
+gives_option old next draft token.Tag at enters is drafted = gives_counts_draft_and_head old next old.counts draft old.head token.Tag at enters tt tt refl refl drafted refl
+gives_option old next draft token.Cpu at enters is drafted = gives_counts_draft_and_head old next old.counts draft old.head token.Cpu at enters tt tt refl refl drafted refl
+gives_option old next draft token.Nic at enters is drafted = gives_counts_draft_and_head old next old.counts draft old.head token.Nic at enters tt tt refl refl drafted refl
 gives_option old next draft _ at enters is drafted = absurd is
 
 gives_any : (old : Parser) (next : State) (draft : Draft) (k : TokenKind) (at : ℕ) → k ≡ token.Any → entry old.state k ≡ Some next → draft ≡ draft_with old.state k old.draft
     → Gives old (record old { state = next; draft = draft }) old.state k at
 unfolding counts_with head_with
 gives_any old next draft k at is = subst (λ (k : TokenKind). entry old.state k ≡ Some next → draft ≡ draft_with old.state k old.draft → Gives old (record old { state = next; draft = draft }) old.state k at) (sym is)
-    (λ enters drafted. gives_beside old next old.counts draft old.head token.Any at enters tt tt refl refl drafted refl)
+    (λ enters drafted. gives_counts_draft_and_head old next old.counts draft old.head token.Any at enters tt tt refl refl drafted refl)
 
 gives_size : (old : Parser) (next : State) (draft : Draft) (n : ℕ) (k : TokenKind) (at : ℕ) → k ≡ token.Size n → entry old.state k ≡ Some next → draft ≡ draft_with old.state k old.draft
     → Gives old (record old { state = next; draft = draft }) old.state k at
 unfolding counts_with head_with
 gives_size old next draft n k at is = subst (λ (k : TokenKind). entry old.state k ≡ Some next → draft ≡ draft_with old.state k old.draft → Gives old (record old { state = next; draft = draft }) old.state k at) (sym is)
-    (λ enters drafted. gives_beside old next old.counts draft old.head (token.Size n) at enters tt tt refl refl drafted refl)
+    (λ enters drafted. gives_counts_draft_and_head old next old.counts draft old.head (token.Size n) at enters tt tt refl refl drafted refl)
 
 gives_verb : (old : Parser) (next : State) (counts : Counts) (head : ItemHead) (k : TokenKind) (at : ℕ) → entry old.state k ≡ Some next → IsVerb k
     → counts ≡ counts_with k old.counts → head ≡ verb_head k old.head → Gives old (record old { state = next; counts = counts; head = head }) old.state k at
 unfolding draft_with head_with
-gives_verb old next counts head token.Requires at enters is counted headed = gives_beside old next counts old.draft head token.Requires at enters tt tt refl counted refl headed
-gives_verb old next counts head token.Irequires at enters is counted headed = gives_beside old next counts old.draft head token.Irequires at enters tt tt refl counted refl headed
-gives_verb old next counts head token.Moves at enters is counted headed = gives_beside old next counts old.draft head token.Moves at enters tt tt refl counted refl headed
-gives_verb old next counts head token.Adds at enters is counted headed = gives_beside old next counts old.draft head token.Adds at enters tt tt refl counted refl headed
+gives_verb old next counts head token.Requires at enters is counted headed = gives_counts_draft_and_head old next counts old.draft head token.Requires at enters tt tt refl counted refl headed
+gives_verb old next counts head token.Irequires at enters is counted headed = gives_counts_draft_and_head old next counts old.draft head token.Irequires at enters tt tt refl counted refl headed
+gives_verb old next counts head token.Moves at enters is counted headed = gives_counts_draft_and_head old next counts old.draft head token.Moves at enters tt tt refl counted refl headed
+gives_verb old next counts head token.Adds at enters is counted headed = gives_counts_draft_and_head old next counts old.draft head token.Adds at enters tt tt refl counted refl headed
 gives_verb old next counts head _ at enters is counted headed = absurd is
 
 gives_plain : (old : Parser) (next : State) (k : TokenKind) (at : ℕ) → entry old.state k ≡ Some next → IsPlain k → Gives old (record old { state = next }) old.state k at
 unfolding counts_with draft_with head_with
-gives_plain old next token.NumRanks at enters is = gives_beside old next old.counts old.draft old.head token.NumRanks at enters tt tt refl refl refl refl
-gives_plain old next token.Rank at enters is = gives_beside old next old.counts old.draft old.head token.Rank at enters tt tt refl refl refl refl
-gives_plain old next token.To at enters is = gives_beside old next old.counts old.draft old.head token.To at enters tt tt refl refl refl refl
-gives_plain old next token.From at enters is = gives_beside old next old.counts old.draft old.head token.From at enters tt tt refl refl refl refl
-gives_plain old next token.Open at enters is = gives_beside old next old.counts old.draft old.head token.Open at enters tt tt refl refl refl refl
+gives_plain old next token.NumRanks at enters is = gives_counts_draft_and_head old next old.counts old.draft old.head token.NumRanks at enters tt tt refl refl refl refl
+gives_plain old next token.Rank at enters is = gives_counts_draft_and_head old next old.counts old.draft old.head token.Rank at enters tt tt refl refl refl refl
+gives_plain old next token.To at enters is = gives_counts_draft_and_head old next old.counts old.draft old.head token.To at enters tt tt refl refl refl refl
+gives_plain old next token.From at enters is = gives_counts_draft_and_head old next old.counts old.draft old.head token.From at enters tt tt refl refl refl refl
+gives_plain old next token.Open at enters is = gives_counts_draft_and_head old next old.counts old.draft old.head token.Open at enters tt tt refl refl refl refl
 gives_plain old next _ at enters is = absurd is
 
 -- the word of an action
@@ -332,17 +332,17 @@ gives_action : (old new : Parser) (next : State) (k : TokenKind) (at : ℕ) → 
     → Gives old new old.state k at
 unfolding head_with ops_with
 gives_action old new next k at enters is stated ranked counted drafted headed opened named planned = record {
-  state = stated ∙ behind old.state next k enters;
-  ranks = (λ i. (ranked i).count) ∙ ranks_other old.state k old.ranks.count (numberless k is);
-  rank = (λ i. (ranked i).present) ∙ rank_other old.state k old.ranks.present (numberless k is);
-  blocks = (λ i. (ranked i).blocks.keys) ∙ blocks_other old.state k old.ranks.blocks.keys (numberless k is);
+  state = stated ∙ state_after_token old.state next k enters;
+  ranks = (λ i. (ranked i).count) ∙ ranks_stay_without_number old.state k old.ranks.count (numberless k is);
+  rank = (λ i. (ranked i).present) ∙ rank_stays_without_number old.state k old.ranks.present (numberless k is);
+  blocks = (λ i. (ranked i).blocks.keys) ∙ blocks_stay_without_number old.state k old.ranks.blocks.keys (numberless k is);
   counts = counted;
   draft = drafted;
   head = headed ∙ head_same k is;
   ops = opened ∙ ops_same k is;
   names = subst (λ (names : Names). NamesGive old.block.names names old.state k at old.head (length old.block.ops.items)) (sym named)
-      (names_other old.block.names old.state k at old.head (length old.block.ops.items) (nameless k is));
-  plans = λ ds us deps notes holds. (λ i. (planned i).items) ∙ plans_other old.state k old.ranks.present _ old.plans.items (nameless k is);
+      (names_stay_without_name old.block.names old.state k at old.head (length old.block.ops.items) (nameless k is));
+  plans = λ ds us deps notes holds. (λ i. (planned i).items) ∙ plans_stay_without_name old.state k old.ranks.present _ old.plans.items (nameless k is);
 }
   where
     numberless : (k : TokenKind) → IsAction k → IsNoNumber k
@@ -370,64 +370,64 @@ gives_action old new next k at enters is stated ranked counted drafted headed op
     ops_same _ is = absurd is
 
 -- a number in an action
-ranks_number : (s : State) (n m : ℕ) → (s ≡ state.Ranks → ⊥) → m ≡ ranks_with s (token.Number n) m
+ranks_stay_outside_ranks : (s : State) (n m : ℕ) → (s ≡ state.Ranks → ⊥) → m ≡ ranks_with s (token.Number n) m
 unfolding ranks_with
-ranks_number state.Ranks n m other = absurd (other refl)
-ranks_number _ n m other = refl
+ranks_stay_outside_ranks state.Ranks n m other = absurd (other refl)
+ranks_stay_outside_ranks _ n m other = refl
 
-rank_number : (s : State) (n m : ℕ) → (s ≡ state.Block → ⊥) → m ≡ rank_with s (token.Number n) m
+rank_stays_outside_block : (s : State) (n m : ℕ) → (s ≡ state.Block → ⊥) → m ≡ rank_with s (token.Number n) m
 unfolding rank_with
-rank_number state.Block n m other = absurd (other refl)
-rank_number _ n m other = refl
+rank_stays_outside_block state.Block n m other = absurd (other refl)
+rank_stays_outside_block _ n m other = refl
 
-blocks_number : (s : State) (n : ℕ) (ms : List ℕ) → (s ≡ state.Block → ⊥) → ms ≡ blocks_with s (token.Number n) ms
+blocks_stay_outside_block : (s : State) (n : ℕ) (ms : List ℕ) → (s ≡ state.Block → ⊥) → ms ≡ blocks_with s (token.Number n) ms
 unfolding blocks_with
-blocks_number state.Block n ms other = absurd (other refl)
-blocks_number _ n ms other = refl
+blocks_stay_outside_block state.Block n ms other = absurd (other refl)
+blocks_stay_outside_block _ n ms other = refl
 
-head_number : (s : State) (n at : ℕ) (head : ItemHead) → (s ≡ state.Note1 → ⊥) → head ≡ head_with s (token.Number n) at head
+head_stays_outside_note1 : (s : State) (n at : ℕ) (head : ItemHead) → (s ≡ state.Note1 → ⊥) → head ≡ head_with s (token.Number n) at head
 unfolding head_with
-head_number state.Note1 n at head other = absurd (other refl)
-head_number _ n at head other = refl
+head_stays_outside_note1 state.Note1 n at head other = absurd (other refl)
+head_stays_outside_note1 _ n at head other = refl
 
-names_number : (names : Names) (s : State) (n at : ℕ) (head : ItemHead) (op : ℕ) → (s ≡ state.Note3 → ⊥) → NamesGive names names s (token.Number n) at head op
+names_stay_outside_note3 : (names : Names) (s : State) (n at : ℕ) (head : ItemHead) (op : ℕ) → (s ≡ state.Note3 → ⊥) → NamesGive names names s (token.Number n) at head op
 unfolding defined_with used_with deps_with notes_with
-names_number names state.Note3 n at head op other = absurd (other refl)
-names_number names _ n at head op other = λ ds us deps notes holds. holds
+names_stay_outside_note3 names state.Note3 n at head op other = absurd (other refl)
+names_stay_outside_note3 names _ n at head op other = λ ds us deps notes holds. holds
 
-plans_number : (s : State) (n rank : ℕ) (plan : Plan) (plans : List Plan) → (s ≡ state.Ranks → ⊥) → plans ≡ plans_with s (token.Number n) rank plan plans
+plans_stay_outside_ranks : (s : State) (n rank : ℕ) (plan : Plan) (plans : List Plan) → (s ≡ state.Ranks → ⊥) → plans ≡ plans_with s (token.Number n) rank plan plans
 unfolding plans_with
-plans_number state.Ranks n rank plan plans other = absurd (other refl)
-plans_number _ n rank plan plans other = refl
+plans_stay_outside_ranks state.Ranks n rank plan plans other = absurd (other refl)
+plans_stay_outside_ranks _ n rank plan plans other = refl
 
 gives_number : (old : Parser) (next : State) (draft : Draft) (n at : ℕ) → (old.state ≡ state.Ranks → ⊥) → (old.state ≡ state.Block → ⊥) → (old.state ≡ state.Note1 → ⊥) → (old.state ≡ state.Note3 → ⊥)
     → entry old.state (token.Number n) ≡ Some next → draft ≡ draft_with old.state (token.Number n) old.draft
     → Gives old (record old { state = next; draft = draft }) old.state (token.Number n) at
 unfolding counts_with
 gives_number old next draft n at no_ranks no_block no_low no_high enters drafted = record {
-  state = behind old.state next (token.Number n) enters;
-  ranks = ranks_number old.state n old.ranks.count no_ranks;
-  rank = rank_number old.state n old.ranks.present no_block;
-  blocks = blocks_number old.state n old.ranks.blocks.keys no_block;
+  state = state_after_token old.state next (token.Number n) enters;
+  ranks = ranks_stay_outside_ranks old.state n old.ranks.count no_ranks;
+  rank = rank_stays_outside_block old.state n old.ranks.present no_block;
+  blocks = blocks_stay_outside_block old.state n old.ranks.blocks.keys no_block;
   counts = refl;
   draft = drafted;
-  head = head_number old.state n at old.head no_low;
-  ops = ops_other old.state (token.Number n) (op_of old.draft) old.block.ops.items refl;
-  names = names_number old.block.names old.state n at old.head (length old.block.ops.items) no_high;
-  plans = λ ds us deps notes holds. plans_number old.state n old.ranks.present _ old.plans.items no_ranks;
+  head = head_stays_outside_note1 old.state n at old.head no_low;
+  ops = ops_stay_within_item old.state (token.Number n) (op_of old.draft) old.block.ops.items refl;
+  names = names_stay_outside_note3 old.block.names old.state n at old.head (length old.block.ops.items) no_high;
+  plans = λ ds us deps notes holds. plans_stay_outside_ranks old.state n old.ranks.present _ old.plans.items no_ranks;
 }
 
 -- a label that an item begins with
-head_label : (s : State) (label : List ℕ) (at : ℕ) (head : ItemHead) → (s ≡ state.Label → ⊥)
+head_gets_label : (s : State) (label : List ℕ) (at : ℕ) (head : ItemHead) → (s ≡ state.Label → ⊥)
     → ◌≡◌ {A = ItemHead} (record head { subject = Some (record { label = label; at = at }) }) (head_with s (token.Label label) at head)
 unfolding head_with
-head_label state.Label label at head other = absurd (other refl)
-head_label _ label at head other = refl
+head_gets_label state.Label label at head other = absurd (other refl)
+head_gets_label _ label at head other = refl
 
-names_label : (names : Names) (s : State) (label : List ℕ) (at : ℕ) (head : ItemHead) (op : ℕ) → (s ≡ state.Label → ⊥) → NamesGive names names s (token.Label label) at head op
+names_stay_outside_label : (names : Names) (s : State) (label : List ℕ) (at : ℕ) (head : ItemHead) (op : ℕ) → (s ≡ state.Label → ⊥) → NamesGive names names s (token.Label label) at head op
 unfolding defined_with used_with deps_with notes_with
-names_label names state.Label label at head op other = absurd (other refl)
-names_label names _ label at head op other = λ ds us deps notes holds. holds
+names_stay_outside_label names state.Label label at head op other = absurd (other refl)
+names_stay_outside_label names _ label at head op other = λ ds us deps notes holds. holds
 
 gives_label : (old new : Parser) (next : State) (label : List ℕ) (at : ℕ) → (old.state ≡ state.Label → ⊥) → entry old.state (token.Label label) ≡ Some next
     → new.state ≡ next → new.ranks ≡ old.ranks → new.counts ≡ old.counts → new.draft ≡ old.draft → new.head ≡ record old.head { subject = Some (record { label = label; at = at }) }
@@ -437,32 +437,32 @@ unfolding counts_with draft_with ops_with plans_with
 gives_label old new next label at other enters stated ranked counted drafted headed opened named planned =
     let k = token.Label label in
     record {
-      state = stated ∙ behind old.state next k enters;
-      ranks = (λ i. (ranked i).count) ∙ ranks_other old.state k old.ranks.count tt;
-      rank = (λ i. (ranked i).present) ∙ rank_other old.state k old.ranks.present tt;
-      blocks = (λ i. (ranked i).blocks.keys) ∙ blocks_other old.state k old.ranks.blocks.keys tt;
+      state = stated ∙ state_after_token old.state next k enters;
+      ranks = (λ i. (ranked i).count) ∙ ranks_stay_without_number old.state k old.ranks.count tt;
+      rank = (λ i. (ranked i).present) ∙ rank_stays_without_number old.state k old.ranks.present tt;
+      blocks = (λ i. (ranked i).blocks.keys) ∙ blocks_stay_without_number old.state k old.ranks.blocks.keys tt;
       counts = counted;
       draft = drafted;
-      head = headed ∙ head_label old.state label at old.head other;
+      head = headed ∙ head_gets_label old.state label at old.head other;
       ops = opened;
       names = subst (λ (names : Names). NamesGive old.block.names names old.state k at old.head (length old.block.ops.items)) (sym named)
-          (names_label old.block.names old.state label at old.head (length old.block.ops.items) other);
+          (names_stay_outside_label old.block.names old.state label at old.head (length old.block.ops.items) other);
       plans = λ ds us deps notes holds. λ i. (planned i).items;
     }
 
 -- each token that begins an item ends an action as the sign that ends the block does
-pub ended_alike : (s : State) (k : TokenKind) (op : Op) (ops : List Op) → begins_item k ≡ true → ended_ops s token.Close op ops ≡ ended_ops s k op ops
+pub items_end_actions_alike : (s : State) (k : TokenKind) (op : Op) (ops : List Op) → begins_item k ≡ true → ended_ops s token.Close op ops ≡ ended_ops s k op ops
 unfolding ends_action
-ended_alike state.Calc2 k op ops is = rw is
-ended_alike state.Send4 k op ops is = rw is
-ended_alike state.Recv4 k op ops is = rw is
-ended_alike _ k op ops is = refl
+items_end_actions_alike state.Calc2 k op ops is = rw is
+items_end_actions_alike state.Send4 k op ops is = rw is
+items_end_actions_alike state.Recv4 k op ops is = rw is
+items_end_actions_alike _ k op ops is = refl
 
-pub begins_action : (k : TokenKind) → IsAction k → begins_item k ≡ true
-begins_action token.Calc is = refl
-begins_action token.Send is = refl
-begins_action token.Recv is = refl
-begins_action _ is = absurd is
+pub action_begins_item : (k : TokenKind) → IsAction k → begins_item k ≡ true
+action_begins_item token.Calc is = refl
+action_begins_item token.Send is = refl
+action_begins_item token.Recv is = refl
+action_begins_item _ is = absurd is
 
 -- Tokens that are taken and refused.
 
@@ -482,7 +482,7 @@ takes_option old t next draft enters is new drafted =
 
 pub refuses_option : (old : Parser) (t : Token) (next : State) → entry old.state t.kind ≡ Some next → IsOption t.kind → has_option t.kind old.draft ≡ true → Refuses old t (refused.Repeat t.start)
 refuses_option old t next enters is again =
-    refuses old t next (refused.Repeat t.start) enters (λ before taken. rest_of_option old before t is ∙ ap (λ (b : Bool). fault_if b (Repeat t.start)) again)
+    rest_fault_refuses old t next (refused.Repeat t.start) enters (λ before taken. rest_of_option old before t is ∙ ap (λ (b : Bool). fault_if b (Repeat t.start)) again)
 
 pub takes_size : (old : Parser) (t : Token) (next : State) (draft : Draft) (n : ℕ) → entry old.state t.kind ≡ Some next → t.kind ≡ token.Size n → number_within old.state old.draft.option n ≡ true
     → draft ≡ draft_with old.state t.kind old.draft → Takes old t (record old { state = next; draft = draft })
@@ -492,7 +492,7 @@ takes_size old t next draft n enters is within drafted =
 
 pub refuses_size : (old : Parser) (t : Token) (next : State) (n : ℕ) → entry old.state t.kind ≡ Some next → t.kind ≡ token.Size n → number_within old.state old.draft.option n ≡ false → Refuses old t (refused.Number t.start)
 refuses_size old t next n enters is beyond =
-    refuses old t next (refused.Number t.start) enters (λ before taken. rest_of_size old before t n is ∙ ap (λ (b : Bool). fault_if (not b) (Number t.start)) beyond)
+    rest_fault_refuses old t next (refused.Number t.start) enters (λ before taken. rest_of_size old before t n is ∙ ap (λ (b : Bool). fault_if (not b) (Number t.start)) beyond)
 
 pub takes_action : (old new : Parser) (t : Token) (next : State) → entry old.state t.kind ≡ Some next → IsAction t.kind → is_too_many t.kind old.counts ≡ false
     → new.state ≡ next → new.ranks ≡ old.ranks → new.counts ≡ counts_with t.kind old.counts → new.draft ≡ draft_with old.state t.kind old.draft → new.head ≡ old.head
@@ -504,7 +504,7 @@ takes_action old new t next enters is few stated ranked counted drafted headed o
 
 pub refuses_action : (old : Parser) (t : Token) (next : State) → entry old.state t.kind ≡ Some next → IsAction t.kind → is_too_many t.kind old.counts ≡ true → Refuses old t (refused.TooMany t.start)
 refuses_action old t next enters is many =
-    refuses old t next (refused.TooMany t.start) enters (λ before taken. rest_of_action old before t is ∙ ap (λ (b : Bool). fault_if b (TooMany t.start)) many)
+    rest_fault_refuses old t next (refused.TooMany t.start) enters (λ before taken. rest_of_action old before t is ∙ ap (λ (b : Bool). fault_if b (TooMany t.start)) many)
 
 pub takes_verb : (old : Parser) (t : Token) (next : State) (counts : Counts) (head : ItemHead) → entry old.state t.kind ≡ Some next → IsVerb t.kind → is_too_many t.kind old.counts ≡ false
     → counts ≡ counts_with t.kind old.counts → head ≡ verb_head t.kind old.head → Takes old t (record old { state = next; counts = counts; head = head })
@@ -514,11 +514,11 @@ takes_verb old t next counts head enters is few counted headed =
 
 pub refuses_verb : (old : Parser) (t : Token) (next : State) → entry old.state t.kind ≡ Some next → IsVerb t.kind → is_too_many t.kind old.counts ≡ true → Refuses old t (refused.TooMany t.start)
 refuses_verb old t next enters is many =
-    refuses old t next (refused.TooMany t.start) enters (λ before taken. rest_of_verb old before t is ∙ ap (λ (b : Bool). fault_if b (TooMany t.start)) many)
+    rest_fault_refuses old t next (refused.TooMany t.start) enters (λ before taken. rest_of_verb old before t is ∙ ap (λ (b : Bool). fault_if b (TooMany t.start)) many)
 
 pub refuses_colon : (old : Parser) (t : Token) (next : State) (fault : TokenFault) → entry old.state t.kind ≡ Some next → t.kind ≡ token.Colon
     → ((before : List Token) → HasTaken old before → defined_fault (defined_of before) old.head.subject ≡ Some (fault_in_text fault)) → Refuses old t fault
-refuses_colon old t next fault enters is again = refuses old t next fault enters (λ before taken. rest_of_colon old before t is ∙ again before taken)
+refuses_colon old t next fault enters is again = rest_fault_refuses old t next fault enters (λ before taken. rest_of_colon old before t is ∙ again before taken)
 
 pub takes_colon : (old new : Parser) (t : Token) (next : State) (op : ℕ) → entry old.state t.kind ≡ Some next → t.kind ≡ token.Colon → op ≡ length old.block.ops.items
     → new.state ≡ next → new.ranks ≡ old.ranks → new.counts ≡ old.counts → new.draft ≡ old.draft → new.head ≡ old.head → new.block.ops ≡ old.block.ops → new.plans ≡ old.plans
@@ -530,14 +530,14 @@ takes_colon old new t next op enters is counted stated ranked same drafted heade
     takes old new t next enters
     (λ before taken. rest_of_colon old before t is ∙ (names (defined_of before) (used_of before) (deps_of before) (notes_of before) taken.names).0)
     (subst (λ (k : TokenKind). entry old.state k ≡ Some next → Gives old new old.state k t.start) (sym is) (λ enters_here. record {
-      state = stated ∙ behind old.state next token.Colon enters_here;
-      ranks = (λ i. (ranked i).count) ∙ ranks_other old.state token.Colon old.ranks.count tt;
-      rank = (λ i. (ranked i).present) ∙ rank_other old.state token.Colon old.ranks.present tt;
-      blocks = (λ i. (ranked i).blocks.keys) ∙ blocks_other old.state token.Colon old.ranks.blocks.keys tt;
+      state = stated ∙ state_after_token old.state next token.Colon enters_here;
+      ranks = (λ i. (ranked i).count) ∙ ranks_stay_without_number old.state token.Colon old.ranks.count tt;
+      rank = (λ i. (ranked i).present) ∙ rank_stays_without_number old.state token.Colon old.ranks.present tt;
+      blocks = (λ i. (ranked i).blocks.keys) ∙ blocks_stay_without_number old.state token.Colon old.ranks.blocks.keys tt;
       counts = same;
       draft = drafted;
       head = headed;
-      ops = (λ i. (opened i).items) ∙ ops_other old.state token.Colon (op_of old.draft) old.block.ops.items refl;
+      ops = (λ i. (opened i).items) ∙ ops_stay_within_item old.state token.Colon (op_of old.draft) old.block.ops.items refl;
       names = λ ds us deps notes holds. subst (λ (n : ℕ). NamesHold new.block.names (define old.head.subject n ds) us deps notes) counted (names ds us deps notes holds).1;
       plans = λ ds us deps notes holds. λ i. (planned i).items;
     }) enters)
@@ -545,7 +545,7 @@ takes_colon old new t next op enters is counted stated ranked same drafted heade
 pub refuses_close : (old : Parser) (t : Token) (next : State) (at : ℕ) → entry old.state t.kind ≡ Some next → t.kind ≡ token.Close
     → ((before : List Token) → HasTaken old before → first_unknown (defined_of before) (used_of before) ≡ Some at) → Refuses old t (refused.UnknownLabel at)
 refuses_close old t next at enters is unknown =
-    refuses old t next (refused.UnknownLabel at) enters (λ before taken. rest_of_close old before t is ∙ ap (option_map UnknownLabel) (unknown before taken))
+    rest_fault_refuses old t next (refused.UnknownLabel at) enters (λ before taken. rest_of_close old before t is ∙ ap (option_map UnknownLabel) (unknown before taken))
 
 pub takes_close : (old new : Parser) (t : Token) (next : State) (plan : Plan) → entry old.state t.kind ≡ Some next → t.kind ≡ token.Close
     → ((before : List Token) → HasTaken old before → first_unknown (defined_of before) (used_of before) ≡ None)
@@ -558,10 +558,10 @@ unfolding counts_with draft_with head_with ops_with defined_with used_with deps_
 takes_close old new t next plan enters is known stated ranked same drafted headed opened names planned put =
     takes old new t next enters (λ before taken. rest_of_close old before t is ∙ ap (option_map UnknownLabel) (known before taken))
     (subst (λ (k : TokenKind). entry old.state k ≡ Some next → Gives old new old.state k t.start) (sym is) (λ enters_here. record {
-      state = stated ∙ behind old.state next token.Close enters_here;
-      ranks = (λ i. (ranked i).count) ∙ ranks_other old.state token.Close old.ranks.count tt;
-      rank = (λ i. (ranked i).present) ∙ rank_other old.state token.Close old.ranks.present tt;
-      blocks = (λ i. (ranked i).blocks.keys) ∙ blocks_other old.state token.Close old.ranks.blocks.keys tt;
+      state = stated ∙ state_after_token old.state next token.Close enters_here;
+      ranks = (λ i. (ranked i).count) ∙ ranks_stay_without_number old.state token.Close old.ranks.count tt;
+      rank = (λ i. (ranked i).present) ∙ rank_stays_without_number old.state token.Close old.ranks.present tt;
+      blocks = (λ i. (ranked i).blocks.keys) ∙ blocks_stay_without_number old.state token.Close old.ranks.blocks.keys tt;
       counts = same;
       draft = drafted;
       head = headed;
@@ -580,7 +580,7 @@ unfolding ranks_with rank_with blocks_with counts_with draft_with head_with ops_
 takes_earlier old new t next label enters is here stated ranked same drafted headed opened planned names =
     takes old new t next enters (λ before taken. rest_of_label old before t label is)
     (subst (λ (z : State × TokenKind). entry z.0 z.1 ≡ Some next → Gives old new z.0 z.1 t.start) (λ i. (sym here i, sym is i)) (λ enters_here. record {
-      state = stated ∙ behind state.Label next (token.Label label) enters_here;
+      state = stated ∙ state_after_token state.Label next (token.Label label) enters_here;
       ranks = λ i. (ranked i).count;
       rank = λ i. (ranked i).present;
       blocks = λ i. (ranked i).blocks.keys;
@@ -605,33 +605,33 @@ takes_label old new t next label enters is other stated ranked same drafted head
 
 module _ (old : Parser) (t : Token) (next : State) (n : ℕ) (enters : entry old.state t.kind ≡ Some next) (is : t.kind ≡ token.Number n) where
   pub refuses_number : number_within old.state old.draft.option n ≡ false → Refuses old t (refused.Number t.start)
-  refuses_number beyond = refuses old t next (refused.Number t.start) enters (λ before taken. rest_of_number old before t n is
+  refuses_number beyond = rest_fault_refuses old t next (refused.Number t.start) enters (λ before taken. rest_of_number old before t n is
       ∙ ap (λ (b : Bool). option_or (fault_if (not b) (Number t.start)) (numbered_rank_fault old.state old.ranks.count old.ranks.blocks.keys n t.start)) beyond)
 
-  rank_here : rank_fault old.state old.ranks.count old.ranks.blocks.keys t ≡ numbered_rank_fault old.state old.ranks.count old.ranks.blocks.keys n t.start
+  rank_fault_of_number : rank_fault old.state old.ranks.count old.ranks.blocks.keys t ≡ numbered_rank_fault old.state old.ranks.count old.ranks.blocks.keys n t.start
   unfolding rank_fault
-  rank_here = ap (λ (k : TokenKind). rank_fault_of old.state old.ranks.count old.ranks.blocks.keys k t.start) is
+  rank_fault_of_number = ap (λ (k : TokenKind). rank_fault_of old.state old.ranks.count old.ranks.blocks.keys k t.start) is
 
-  passed_number : number_within old.state old.draft.option n ≡ true → (before : List Token)
+  number_within_fails_as_rank_alone : number_within old.state old.draft.option n ≡ true → (before : List Token)
       → rest_fault old before t ≡ numbered_rank_fault old.state old.ranks.count old.ranks.blocks.keys n t.start
-  passed_number within before = rest_of_number old before t n is
+  number_within_fails_as_rank_alone within before = rest_of_number old before t n is
       ∙ ap (λ (b : Bool). option_or (fault_if (not b) (Number t.start)) (numbered_rank_fault old.state old.ranks.count old.ranks.blocks.keys n t.start)) within
 
   pub refuses_rank : (fault : TokenFault) → number_within old.state old.draft.option n ≡ true → Some (fault_in_text fault) ≡ rank_fault old.state old.ranks.count old.ranks.blocks.keys t → Refuses old t fault
-  refuses_rank fault within ranked = refuses old t next fault enters (λ before taken. passed_number within before ∙ sym (ranked ∙ rank_here))
+  refuses_rank fault within ranked = rest_fault_refuses old t next fault enters (λ before taken. number_within_fails_as_rank_alone within before ∙ sym (ranked ∙ rank_fault_of_number))
 
-  pub new_rank : old.state ≡ state.Block → None ≡ rank_fault old.state old.ranks.count old.ranks.blocks.keys t → list_any (nat_eq n) old.ranks.blocks.keys ≡ false
-  new_rank here passes = subst (λ (z : State × TokenKind). IsNewRank z.0 old.ranks.blocks.keys z.1) (λ i. (here i, is i))
+  pub faultless_rank_is_new : old.state ≡ state.Block → None ≡ rank_fault old.state old.ranks.count old.ranks.blocks.keys t → list_any (nat_eq n) old.ranks.blocks.keys ≡ false
+  faultless_rank_is_new here passes = subst (λ (z : State × TokenKind). IsNewRank z.0 old.ranks.blocks.keys z.1) (λ i. (here i, is i))
       (rank_passes old.state old.ranks.count old.ranks.blocks.keys t (sym passes))
 
   -- where it is no rank
   module _ (within : number_within old.state old.draft.option n ≡ true) where
-    no_rank : (s : State) → (s ≡ state.Block → ⊥) → numbered_rank_fault s old.ranks.count old.ranks.blocks.keys n t.start ≡ None
-    no_rank state.Block other = absurd (other refl)
-    no_rank _ other = refl
+    no_rank_fault_outside_block : (s : State) → (s ≡ state.Block → ⊥) → numbered_rank_fault s old.ranks.count old.ranks.blocks.keys n t.start ≡ None
+    no_rank_fault_outside_block state.Block other = absurd (other refl)
+    no_rank_fault_outside_block _ other = refl
 
-    takes_beside : (new : Parser) → (old.state ≡ state.Block → ⊥) → Gives old new old.state (token.Number n) t.start → Takes old t new
-    takes_beside new other gives = takes old new t next enters (λ before taken. passed_number within before ∙ no_rank old.state other)
+    takes_number_outside_block : (new : Parser) → (old.state ≡ state.Block → ⊥) → Gives old new old.state (token.Number n) t.start → Takes old t new
+    takes_number_outside_block new other gives = takes old new t next enters (λ before taken. number_within_fails_as_rank_alone within before ∙ no_rank_fault_outside_block old.state other)
         (subst (λ (k : TokenKind). Gives old new old.state k t.start) (sym is) gives)
 
     enters_number : entry old.state (token.Number n) ≡ Some next
@@ -639,19 +639,19 @@ module _ (old : Parser) (t : Token) (next : State) (n : ℕ) (enters : entry old
 
     pub takes_number : (draft : Draft) → (old.state ≡ state.Ranks → ⊥) → (old.state ≡ state.Block → ⊥) → (old.state ≡ state.Note1 → ⊥) → (old.state ≡ state.Note3 → ⊥)
         → draft ≡ draft_with old.state t.kind old.draft → Takes old t (record old { state = next; draft = draft })
-    takes_number draft no_ranks no_block no_low no_high drafted = takes_beside (record old { state = next; draft = draft }) no_block
+    takes_number draft no_ranks no_block no_low no_high drafted = takes_number_outside_block (record old { state = next; draft = draft }) no_block
         (gives_number old next draft n t.start no_ranks no_block no_low no_high enters_number (drafted ∙ ap (λ (k : TokenKind). draft_with old.state k old.draft) is))
 
     -- the number in a state that is known
-    in_state : (new : Parser) (s : State) → old.state ≡ s → (s ≡ state.Block → ⊥) → (entry s (token.Number n) ≡ Some next → Gives old new s (token.Number n) t.start) → Takes old t new
-    in_state new s here other gives = takes_beside new (λ block. other (sym here ∙ block))
+    takes_number_in_known_state : (new : Parser) (s : State) → old.state ≡ s → (s ≡ state.Block → ⊥) → (entry s (token.Number n) ≡ Some next → Gives old new s (token.Number n) t.start) → Takes old t new
+    takes_number_in_known_state new s here other gives = takes_number_outside_block new (λ block. other (sym here ∙ block))
         (subst (λ (s : State). entry s (token.Number n) ≡ Some next → Gives old new s (token.Number n) t.start) (sym here) gives enters_number)
 
     pub takes_ranks : (new : Parser) → old.state ≡ state.Ranks → new.state ≡ next → new.ranks ≡ record old.ranks { count = n } → new.counts ≡ old.counts → new.draft ≡ old.draft → new.head ≡ old.head
         → new.block ≡ old.block → new.plans.items ≡ replicate n empty_plan → Takes old t new
     unfolding ranks_with rank_with blocks_with counts_with draft_with head_with ops_with ends_action defined_with used_with deps_with notes_with plans_with
-    takes_ranks new here stated ranked same drafted headed blocked planned = in_state new state.Ranks here (λ e. cc) (λ enters_here. record {
-      state = stated ∙ behind state.Ranks next (token.Number n) enters_here;
+    takes_ranks new here stated ranked same drafted headed blocked planned = takes_number_in_known_state new state.Ranks here (λ e. cc) (λ enters_here. record {
+      state = stated ∙ state_after_token state.Ranks next (token.Number n) enters_here;
       ranks = λ i. (ranked i).count;
       rank = λ i. (ranked i).present;
       blocks = λ i. (ranked i).blocks.keys;
@@ -666,8 +666,8 @@ module _ (old : Parser) (t : Token) (next : State) (n : ℕ) (enters : entry old
     pub takes_low : (new : Parser) → old.state ≡ state.Note1 → new.state ≡ next → new.ranks ≡ old.ranks → new.counts ≡ old.counts → new.draft ≡ old.draft → new.head ≡ low_head old.state n old.head
         → new.block ≡ old.block → new.plans ≡ old.plans → Takes old t new
     unfolding ranks_with rank_with blocks_with counts_with draft_with head_with ops_with ends_action defined_with used_with deps_with notes_with plans_with
-    takes_low new here stated ranked same drafted headed blocked planned = in_state new state.Note1 here (λ e. cc) (λ enters_here. record {
-      state = stated ∙ behind state.Note1 next (token.Number n) enters_here;
+    takes_low new here stated ranked same drafted headed blocked planned = takes_number_in_known_state new state.Note1 here (λ e. cc) (λ enters_here. record {
+      state = stated ∙ state_after_token state.Note1 next (token.Number n) enters_here;
       ranks = λ i. (ranked i).count;
       rank = λ i. (ranked i).present;
       blocks = λ i. (ranked i).blocks.keys;
@@ -685,8 +685,8 @@ module _ (old : Parser) (t : Token) (next : State) (n : ℕ) (enters : entry old
         → NamesHold new.block.names ds (note_uses old.state old.head.subject us) deps (note_ended old.state old.head.subject old.head.verb old.head.low n notes))
         → Takes old t new
     unfolding ranks_with rank_with blocks_with counts_with draft_with head_with ops_with ends_action defined_with used_with deps_with notes_with plans_with
-    takes_high new here stated ranked same drafted headed opened planned names = in_state new state.Note3 here (λ e. cc) (λ enters_here. record {
-      state = stated ∙ behind state.Note3 next (token.Number n) enters_here;
+    takes_high new here stated ranked same drafted headed opened planned names = takes_number_in_known_state new state.Note3 here (λ e. cc) (λ enters_here. record {
+      state = stated ∙ state_after_token state.Note3 next (token.Number n) enters_here;
       ranks = λ i. (ranked i).count;
       rank = λ i. (ranked i).present;
       blocks = λ i. (ranked i).blocks.keys;
@@ -704,9 +704,9 @@ module _ (old : Parser) (t : Token) (next : State) (n : ℕ) (enters : entry old
         → new.counts ≡ old.counts → new.draft ≡ old.draft → new.head ≡ old.head → new.block ≡ old.block → new.plans ≡ old.plans → Takes old t new
     unfolding ranks_with rank_with blocks_with counts_with draft_with head_with ops_with ends_action defined_with used_with deps_with notes_with plans_with
     takes_rank new here passes stated counted present blocks same drafted headed blocked planned =
-        takes old new t next enters (λ before taken. passed_number within before ∙ sym rank_here ∙ sym passes)
+        takes old new t next enters (λ before taken. number_within_fails_as_rank_alone within before ∙ sym rank_fault_of_number ∙ sym passes)
         (subst (λ (z : State × TokenKind). entry z.0 z.1 ≡ Some next → Gives old new z.0 z.1 t.start) (λ i. (sym here i, sym is i)) (λ enters_here. record {
-          state = stated ∙ behind state.Block next (token.Number n) enters_here;
+          state = stated ∙ state_after_token state.Block next (token.Number n) enters_here;
           ranks = counted;
           rank = present;
           blocks = blocks;
@@ -748,10 +748,10 @@ within_number s o k n is within = ap (λ (k : TokenKind). is_within s o k) is �
 
 -- What is known of a call, in each of its answers.
 
-pub on_ok : {A E : Type 0} (r : Result A E) (P Q R : Type 0) → OnOk r P → OnOk r Q → (P → Q → R) → OnOk r R
-on_ok (Ok x) P Q R p q both = both p q
-on_ok (Err e) P Q R p q both = tt
+pub on_ok_of_both : {A E : Type 0} (r : Result A E) (P Q R : Type 0) → OnOk r P → OnOk r Q → (P → Q → R) → OnOk r R
+on_ok_of_both (Ok x) P Q R p q both = both p q
+on_ok_of_both (Err e) P Q R p q both = tt
 
-pub if_err : {A E : Type 0} (r : Result A E) (P Q : E → Type 0) → IfErr r P → ((e : E) → P e → Q e) → IfErr r Q
-if_err (Ok x) P Q p more = tt
-if_err (Err e) P Q p more = more e p
+pub if_err_map : {A E : Type 0} (r : Result A E) (P Q : E → Type 0) → IfErr r P → ((e : E) → P e → Q e) → IfErr r Q
+if_err_map (Ok x) P Q p more = tt
+if_err_map (Err e) P Q p more = more e p

@@ -94,14 +94,14 @@ unfolding text_plans
 plans_of_end whole hs o is = ap (λ (r : List Token × Option ℕ). plans_of (reverse r.0)) is
 
 -- a text in three parts
-pub parts : (text rest more : List ℕ) (n : ℕ) → (text ++ take n rest) ++ (drop n rest ++ more) ≡ (text ++ rest) ++ more
-parts text rest more n =
+pub taken_and_dropped_join : (text rest more : List ℕ) (n : ℕ) → (text ++ take n rest) ++ (drop n rest ++ more) ≡ (text ++ rest) ++ more
+taken_and_dropped_join text rest more n =
     sym (append_assoc (text ++ take n rest) (drop n rest) more)
     ∙ ap (λ l. l ++ more) (append_assoc text (take n rest) (drop n rest) ∙ ap (λ l. text ++ l) (take-append-drop n rest))
 
 -- bytes are left, so what follows them says nothing of what begins
-pub apart_more : (n : ℕ) (rest more : List ℕ) → n < length rest → begins_run (drop n rest) ≡ false → begins_run (drop n rest ++ more) ≡ false
-apart_more n rest more left apart = by (drop n rest) (omega (arith, length-drop n rest)) apart
+pub no_run_whatever_follows : (n : ℕ) (rest more : List ℕ) → n < length rest → begins_run (drop n rest) ≡ false → begins_run (drop n rest ++ more) ≡ false
+no_run_whatever_follows n rest more left apart = by (drop n rest) (omega (arith, length-drop n rest)) apart
   where
     by : (l : List ℕ) → 0 < length l → begins_run l ≡ false → begins_run (l ++ more) ≡ false
     by [] h a = absurd (omega arith)

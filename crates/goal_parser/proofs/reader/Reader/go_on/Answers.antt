@@ -10,7 +10,7 @@ use Rattle.goal_parser.specs.declared.token_faults.TokenFault.TheVariants.{NoMem
 use Rattle.goal_parser.specs.FaultInText.{fault_in_text}
 use Rattle.goal_parser.specs.Reads.{first_fault}
 use Rattle.goal_parser.specs.Taken.{HasTaken, Takes, Refuses}
-use Rattle.goal_parser.proofs.AheadLaws.{refused_ahead}
+use Rattle.goal_parser.proofs.AheadLaws.{refused_token_is_fault_of_text}
 use Rattle.goal_parser.proofs.ReaderLaws.{first_fault-more, reverse-more}
 use Rattle.goal_parser.proofs.reader.Reader.go_on.Goals as goal
 
@@ -58,4 +58,4 @@ returns-in-Err-clause-fault c before token ahead told memory =
     let fault = c.in-Err.fault in
     let refuses : fault ≢ NoMemory → Refuses before token fault =
     subst (λ (r : Result ⊤ TokenFault). IfErr r (λ (f : TokenFault). f ≢ NoMemory → Refuses before token f)) c.in-Err.is told in
-    refused_ahead old c.args.rest.now c.args.count c.args.ends_run token (fault_in_text fault) c.requires.ready c.requires.some ahead (refuses memory)
+    refused_token_is_fault_of_text old c.args.rest.now c.args.count c.args.ends_run token (fault_in_text fault) c.requires.ready c.requires.some ahead (refuses memory)

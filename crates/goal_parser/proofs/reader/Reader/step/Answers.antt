@@ -6,7 +6,7 @@ use Rattle.goal_lexer.specs.Stands.{handed}
 use Rattle.goal_parser.specs.Reads.{first_fault}
 use Rattle.goal_parser.specs.FaultInText.{fault_in_text}
 use Rattle.goal_parser.specs.Taken.{HasTaken}
-use Rattle.goal_parser.proofs.ReaderLaws.{first_fault-more, reverse-more, handed_front, fault_of_token, fault_of_lexer, parts, apart_more}
+use Rattle.goal_parser.proofs.ReaderLaws.{first_fault-more, reverse-more, handed_front, fault_of_token, fault_of_lexer, taken_and_dropped_join, no_run_whatever_follows}
 use Rattle.goal_parser.proofs.reader.Reader.step.Goals as goal
 
 pub returns-in-Err-clause-fault : goal.returns-in-Err-clause-fault
@@ -36,7 +36,7 @@ returns-in-Err-take-clause-fault c = λ memory text more stood.
     let on = text ++ take n rest in
     let tokens : handed lexer on ≡ hs ++ t ∷ [] = c.in-Ok.ensures.handed text stood.lexer ∙ ap (λ (found : Bool). hs ++ option_to_list (found_token found t)) c.if-lexed.true in
     let front = handed_front lexer on (drop n rest ++ more) (c.in-Ok.ensures.stands text stood.lexer)
-    (λ ends. apart_more n rest more (c.in-Ok.ensures.left c.requires.some ends) (c.in-Ok.ensures.apart_next ends)) in
+    (λ ends. no_run_whatever_follows n rest more (c.in-Ok.ensures.left c.requires.some ends) (c.in-Ok.ensures.apart_next ends)) in
     fault_of_token (text ++ rest ++ more) hs front.0 t (fault_in_text c.in-Err-take.fault)
-    (ap (λ w. (lexed w).0) (sym (parts text rest more n)) ∙ front.1 ∙ ap (λ (l : List Token). l ++ front.0) tokens)
+    (ap (λ w. (lexed w).0) (sym (taken_and_dropped_join text rest more n)) ∙ front.1 ∙ ap (λ (l : List Token). l ++ front.0) tokens)
     stood.passed (c.in-Err-take.ensures.fault memory (reverse hs) stood.taken)

@@ -1,10 +1,10 @@
-use Rattle.goal_parser.proofs.AheadLaws.{goes_both, fault_behind_ahead}
+use Rattle.goal_parser.proofs.AheadLaws.{goes_ahead_twice, fault_after_going_ahead}
 use Rattle.goal_parser.proofs.reader.Reader.take_settings.Goals as goal
 
 pub returns-in-Ok-take_places-clause-ahead : goal.returns-in-Ok-take_places-clause-ahead
 returns-in-Ok-take_places-clause-ahead c =
-    goes_both c.args.self.now c.take_setting.new.self c.take_places.new.self c.args.rest.now c.in-Ok.taken.count c.in-Ok-take_places.more.count c.in-Ok.ensures.ahead c.in-Ok-take_places.ensures.ahead
+    goes_ahead_twice c.args.self.now c.take_setting.new.self c.take_places.new.self c.args.rest.now c.in-Ok.taken.count c.in-Ok-take_places.more.count c.in-Ok.ensures.ahead c.in-Ok-take_places.ensures.ahead
 
 pub returns-in-Err-take_places-clause-fault : goal.returns-in-Err-take_places-clause-fault
 returns-in-Err-take_places-clause-fault c =
-    fault_behind_ahead c.args.self.now c.take_setting.new.self c.args.rest.now c.in-Ok.taken.count c.in-Err-take_places.fault c.in-Ok.ensures.ahead c.in-Err-take_places.ensures.fault
+    fault_after_going_ahead c.args.self.now c.take_setting.new.self c.args.rest.now c.in-Ok.taken.count c.in-Err-take_places.fault c.in-Ok.ensures.ahead c.in-Err-take_places.ensures.fault
