@@ -9,8 +9,8 @@ abbrev last_four : List ℕ → ℕ → List ℕ
 last_four xs far = take 4 (take (length xs - far) (drop far xs))
 
 -- these are all bytes after the first ones
-behind_far : (xs : List ℕ) (far : ℕ) → far + 4 ≡ length xs → last_four xs far ≡ drop far xs
-behind_far xs far long =
+last_four_is_rest : (xs : List ℕ) (far : ℕ) → far + 4 ≡ length xs → last_four xs far ≡ drop far xs
+last_four_is_rest xs far long =
     let count = length-drop far xs in
     ap (take 4) (take_rest xs far) ∙ take_all 4 (drop far xs) (omega (arith, count, long))
 
@@ -23,19 +23,19 @@ whole_by_ends xs ys far few front back =
     ∙ take-append-drop far ys
 
 -- if the last bytes are the same, the first decide
-pub front_decides : (xs ys : List ℕ) (far : ℕ) → far + 4 ≡ length xs → far + 4 ≡ length ys → far ≤ 4 →
+pub first_four_decide_equality : (xs ys : List ℕ) (far : ℕ) → far + 4 ≡ length xs → far + 4 ≡ length ys → far ≤ 4 →
     bytes_eq (last_four xs far) (last_four ys far) ≡ true → bytes_eq (take 4 xs) (take 4 ys) ≡ bytes_eq xs ys
-front_decides xs ys far one other few alike =
+first_four_decide_equality xs ys far one other few alike =
     let back : drop far xs ≡ drop far ys =
-    sym (behind_far xs far one) ∙ (bytes_eq-Decides (last_four xs far) (last_four ys far)).0 alike ∙ behind_far ys far other in
+    sym (last_four_is_rest xs far one) ∙ (bytes_eq-Decides (last_four xs far) (last_four ys far)).0 alike ∙ last_four_is_rest ys far other in
     one_answer {P = xs ≡ ys} (bytes_eq (take 4 xs) (take 4 ys)) (bytes_eq xs ys) (
       λ told. whole_by_ends xs ys far few ((bytes_eq-Decides (take 4 xs) (take 4 ys)).0 told) back,
       λ same. (bytes_eq-Decides (take 4 xs) (take 4 ys)).1 (ap (take 4) same),
     ) (bytes_eq-Decides xs ys)
 
 -- if they differ, the labels differ
-pub back_decides : (xs ys : List ℕ) (far : ℕ) → bytes_eq (last_four xs far) (last_four ys far) ≡ false → false ≡ bytes_eq xs ys
-back_decides xs ys far other =
+pub last_four_decide_difference : (xs ys : List ℕ) (far : ℕ) → bytes_eq (last_four xs far) (last_four ys far) ≡ false → false ≡ bytes_eq xs ys
+last_four_decide_difference xs ys far other =
     one_answer {P = xs ≡ ys} false (bytes_eq xs ys) (
       λ told. absurd cc,
       λ same. sym other ∙ (bytes_eq-Decides (last_four xs far) (last_four ys far)).1 (ap (λ (l : List ℕ). last_four l far) same),

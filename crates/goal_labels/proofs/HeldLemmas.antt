@@ -38,9 +38,9 @@ pub IsAt-entry : (bytes : List ℕ) (es : List LabelEntry) (i : ℕ) (e : LabelE
 IsAt-entry bytes es i e there = (e.info, entry-there bytes es i e there)
 
 -- an entry whose label was read
-pub looked_at : (bytes : List ℕ) (es : List LabelEntry) (i : ℕ) (label : List ℕ) (e : LabelEntry) → i < length es
+pub read_label_has_entry : (bytes : List ℕ) (es : List LabelEntry) (i : ℕ) (label : List ℕ) (e : LabelEntry) → i < length es
     → label ≡ label_of bytes (get_or es i e) → IsAt (entries_of bytes es) label i
-looked_at bytes es i label e within same =
+read_label_has_entry bytes es i label e within same =
     subst (λ k. IsAt (entries_of bytes es) k i) (sym same) (IsAt-entry bytes es i _ (slice_get-get_or es i e within))
 
 pub entry-read : (bytes : List ℕ) (es : List LabelEntry) (i : ℕ) → slice_get (entries_of bytes es) i ≡ option_map (λ (e : LabelEntry). (label_of bytes e, e.info)) (slice_get es i)
@@ -143,19 +143,19 @@ module _ (bytes : List ℕ) (es : List LabelEntry) (label : List ℕ) (i : ℕ) 
   abbrev pub changed : LabelEntry
   changed = record { info = info; from = old.from; len = old.len }
 
-  there : slice_get es i ≡ Some old
-  there = entry-at bytes es label i old at read
+  read_entry_is_at : slice_get es i ≡ Some old
+  read_entry_is_at = entry-at bytes es label i old at read
 
   pub entries_of-set : entries_of bytes (slice_set es i changed) ≡ slice_set (entries_of bytes es) i (label, info)
   unfolding entries_of
-  entries_of-set = map-set _ es i changed ∙ ap (λ (k : List ℕ). slice_set (entries_of bytes es) i (k, info)) (entry-same bytes es label i old at.0 there at.1).0
+  entries_of-set = map-set _ es i changed ∙ ap (λ (k : List ℕ). slice_set (entries_of bytes es) i (k, info)) (entry-same bytes es label i old at.0 read_entry_is_at at.1).0
 
   pub AreHeld-set : AreHeld bytes es → AreHeld bytes (slice_set es i changed)
   AreHeld-set held j k is = by (eqb_tells j i)
     where
       by : ((eqb j i ≡ true) × (j ≡ i)) ⊎ ((eqb j i ≡ false) × (j ≢ i)) → IsHeld bytes k
       by (inl told) =
-          let one : Some changed ≡ Some k = sym (slice_get-set es i changed (slice_get_within es i old there)) ∙ ap (slice_get (slice_set es i changed)) (sym told.1) ∙ is in
-          let was = held i old there in
+          let one : Some changed ≡ Some k = sym (slice_get-set es i changed (slice_get_within es i old read_entry_is_at)) ∙ ap (slice_get (slice_set es i changed)) (sym told.1) ∙ is in
+          let was = held i old read_entry_is_at in
           subst (IsHeld bytes) (ap (λ (o : Option LabelEntry). elim o [ None ↦ changed | Some x ↦ x ]) one) (record { within = was.within; some = was.some; short = was.short })
       by (inr told) = held j k (sym (slice_get-apart es i j changed told.1) ∙ is)

@@ -16,7 +16,7 @@ use Rattle.goal_labels.specs.Ordered.{AreBefore}
 use Rattle.goal_labels.proofs.PlaceLemmas.{slice_get-set, slice_get-apart}
 use Rattle.goal_labels.proofs.EntryLemmas.{IsAt-within, IsAt-before, IsAt-left, IsAt-last, AreUnique-more}
 use Rattle.goal_labels.proofs.HeldLemmas.{AreHeld-none, entries_of-empty}
-use Rattle.goal_labels.proofs.OrderedLemmas.{IsAt-same, ascending_left, ascending_more}
+use Rattle.goal_labels.proofs.OrderedLemmas.{IsAt-same, others_still_ascend, ascending_more}
 
 -- a map without labels
 module _ (bytes : List ℕ) (es : List LabelEntry) (first ascending : ℕ) (numbers : LabelNumbers) (none : es ≡ []) (start : first ≡ 0) (end : ascending ≡ 0)
@@ -24,8 +24,8 @@ module _ (bytes : List ℕ) (es : List LabelEntry) (first ascending : ℕ) (numb
   no_entries : entries_of bytes es ≡ []
   no_entries = entries_of-empty bytes es none
 
-  pub keeps-none : AreHeld bytes es × IsMap (entries_of bytes es) first ascending numbers
-  keeps-none = (
+  pub empty_map_keeps_invariant : AreHeld bytes es × IsMap (entries_of bytes es) first ascending numbers
+  empty_map_keeps_invariant = (
     AreHeld-none bytes es none,
     record {
       begins = omega (arith, start, end);
@@ -64,9 +64,9 @@ absent_has_no_number es first ascending numbers label map absent = by (number_of
     by (Some i) told = absurd (absent i (map.there i label told))
 
 -- the run's first label has no number
-pub unnumbered_first : (es : Entries) (first ascending : ℕ) (numbers : LabelNumbers) (label : List ℕ) → IsMap es first ascending numbers → first < ascending
+pub first_of_run_has_no_number : (es : Entries) (first ascending : ℕ) (numbers : LabelNumbers) (label : List ℕ) → IsMap es first ascending numbers → first < ascending
     → IsAt es label first → number_of numbers label ≡ None
-unnumbered_first es first ascending numbers label map some at = by (number_of numbers label) refl
+first_of_run_has_no_number es first ascending numbers label map some at = by (number_of numbers label) refl
   where
     by : (o : Option ℕ) → number_of numbers label ≡ o → o ≡ None
     by None told = refl
@@ -154,7 +154,7 @@ module _ (es : Entries) (label : List ℕ) (info : LabelInfo) (first ascending :
   IsMap-numbered new n last few gives = record {
     begins = map.begins;
     within = omega (arith, count, map.within);
-    ascend = ascending_left es label info first ascending map.ascend map.within;
+    ascend = others_still_ascend es label info first ascending map.ascend map.within;
     numbered_before = λ i q below is. given-number more label n unique changed_entry numbers new gives i q is (λ other. map.numbered_before i q below (earlier i q is other));
     numbered_after = λ i q past is. given-number more label n unique changed_entry numbers new gives i q is (λ other. map.numbered_after i q past (earlier i q is other));
     there = λ i q is. number_after_insert-cases more label n unique changed_entry numbers new gives i q (λ k l. IsAt more l k) changed_entry (λ label_was_there. IsAt-left es (label, info) q i (map.there i q label_was_there)) is;

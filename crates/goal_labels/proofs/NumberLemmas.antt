@@ -10,9 +10,9 @@ use Rattle.goal_labels.specs.declared.numbers.LabelNumbers.{LabelNumbers}
 use Rattle.goal_labels.specs.Numbers.{hashed_at, ordered_at, number_of}
 
 -- a table without labels
-pub none_numbered : (numbers : LabelNumbers) → numbers.hashed.entries ≡ [] → numbers.ordered.entries ≡ [] → (label : List ℕ) → number_of numbers label ≡ None
+pub empty_table_numbers_none : (numbers : LabelNumbers) → numbers.hashed.entries ≡ [] → numbers.ordered.entries ≡ [] → (label : List ℕ) → number_of numbers label ≡ None
 unfolding number_of
-none_numbered numbers hashed ordered label =
+empty_table_numbers_none numbers hashed ordered label =
     ap (λ es. option_or (lookup (pointwise nat_eq label) es) (ordered_at numbers label)) hashed
     ∙ ap (lookup (is_at (slice_cmp nat_cmp label))) ordered
 

@@ -56,21 +56,21 @@ label_cmp-tied x y tied =
     by Greater told = absurd (cc)
 
 -- a label after all from `first` on is none of them
-pub before_apart : (es : Entries) (first : ℕ) (label : List ℕ) → AreBefore es first label → (i : ℕ) → first ≤ i → IsAt es label i → ⊥
-before_apart es first label before i from at = label_cmp-apart label label (before i label from at) refl
+pub label_after_all_is_none_of_them : (es : Entries) (first : ℕ) (label : List ℕ) → AreBefore es first label → (i : ℕ) → first ≤ i → IsAt es label i → ⊥
+label_after_all_is_none_of_them es first label before i from at = label_cmp-apart label label (before i label from at) refl
 
 -- a label after all labels is none of them
-pub before_absent : (es : Entries) (label : List ℕ) → AreBefore es 0 label → IsAbsent es label
-before_absent es label before i at = before_apart es 0 label before i (omega arith) at
+pub label_after_all_is_absent : (es : Entries) (label : List ℕ) → AreBefore es 0 label → IsAbsent es label
+label_after_all_is_absent es label before i at = label_after_all_is_none_of_them es 0 label before i (omega arith) at
 
 -- an entry has one label
 pub IsAt-same : (es : Entries) (one other : List ℕ) (i : ℕ) → IsAt es one i → IsAt es other i → one ≡ other
 IsAt-same es one other i a b = ap (λ (o : Option (List ℕ × LabelInfo)). option_map_or (λ e. e.0) o []) (sym a.1 ∙ b.1)
 
 -- a label after the last is after all from `first` on, if these ascend
-pub before_last : (es : Entries) (last label : List ℕ) (first n count : ℕ) → AreAscending es first count → count ≡ length es → length es ≡ n + 1
+pub label_after_last_is_after_all : (es : Entries) (last label : List ℕ) (first n count : ℕ) → AreAscending es first count → count ≡ length es → length es ≡ n + 1
     → IsAt es last n → label_cmp last label ≡ Less → AreBefore es first label
-before_last es last label first n count ascending all many there less i one from at = by (ltb i n) (Decides-ltb _ _)
+label_after_last_is_after_all es last label first n count ascending all many there less i one from at = by (ltb i n) (Decides-ltb _ _)
   where
     by : (c : Bool) → Decides c (i < n) → label_cmp one label ≡ Less
     by true p = label_cmp-trans one last label (ascending i n one last from (p.0 refl) (omega (arith, all, many)) at there) less
@@ -79,9 +79,9 @@ before_last es last label first n count ascending all many there less i one from
         ap (λ (k : List ℕ). label_cmp k label) (IsAt-same es one last n (subst (IsAt es one) here at) there) ∙ less
 
 -- among ascending labels, one that is less has the lesser number
-pub stands_before : (es : Entries) (one other : List ℕ) (first i j count : ℕ) → AreAscending es first count → first ≤ j → i < count → IsAt es one i → IsAt es other j
+pub lesser_label_has_lesser_number : (es : Entries) (one other : List ℕ) (first i j count : ℕ) → AreAscending es first count → first ≤ j → i < count → IsAt es one i → IsAt es other j
     → label_cmp one other ≡ Less → i < j
-stands_before es one other first i j count ascending from within a b less = by (ltb i j) (Decides-ltb _ _) (ltb j i) (Decides-ltb _ _)
+lesser_label_has_lesser_number es one other first i j count ascending from within a b less = by (ltb i j) (Decides-ltb _ _) (ltb j i) (Decides-ltb _ _)
   where
     by : (c : Bool) → Decides c (i < j) → (d : Bool) → Decides d (j < i) → i < j
     by true p d q = p.0 refl
@@ -98,8 +98,8 @@ module _ (es : Entries) (label : List ℕ) (info : LabelInfo) (first count : ℕ
   more = es ++ (label, info) ∷ []
 
   -- the others still ascend
-  pub ascending_left : count ≤ length es → AreAscending (es ++ (label, info) ∷ []) first count
-  ascending_left within i j one other from less below a b =
+  pub others_still_ascend : count ≤ length es → AreAscending (es ++ (label, info) ∷ []) first count
+  others_still_ascend within i j one other from less below a b =
       ascending i j one other from less below (IsAt-before es _ one i (omega (arith, less, below, within)) a) (IsAt-before es _ other j (omega (arith, below, within)) b)
 
   -- the new label comes after these, and all of them ascend

@@ -1,5 +1,5 @@
 use Rattle.std.proofs.Common.{◌∙◌, sym, arith, ◌-◌, length}
-use Rattle.goal_labels.proofs.EndsLemmas.{front_decides, back_decides}
+use Rattle.goal_labels.proofs.EndsLemmas.{first_four_decide_equality, last_four_decide_difference}
 use Rattle.goal_labels.proofs.label_map.are_same.Goals as goal
 use Rattle.goal_labels.proofs.label_map.are_same.Goals.{then-begin_alike, else-begin_alike}
 
@@ -10,7 +10,7 @@ returns-then-count-le8 c =
     let far = length xs - 4 in
     elim c.if-begin_alike.branch [
       | then-begin_alike w ↦ w.result-is ∙ w.begin_alike-then-begin_alike.ensures
-          ∙ front_decides xs ys far (omega (arith, c.if-count-ge4.true)) (omega (arith, c.if-count-ge4.true, c.requires)) (omega (arith, c.if-count-le8.true))
+          ∙ first_four_decide_equality xs ys far (omega (arith, c.if-count-ge4.true)) (omega (arith, c.if-count-ge4.true, c.requires)) (omega (arith, c.if-count-le8.true))
           (sym c.begin_alike.ensures ∙ w.if-begin_alike.true)
-      | else-begin_alike w ↦ w.result-is ∙ w.if-begin_alike.false ∙ back_decides xs ys far (sym c.begin_alike.ensures ∙ w.if-begin_alike.false)
+      | else-begin_alike w ↦ w.result-is ∙ w.if-begin_alike.false ∙ last_four_decide_difference xs ys far (sym c.begin_alike.ensures ∙ w.if-begin_alike.false)
     ]

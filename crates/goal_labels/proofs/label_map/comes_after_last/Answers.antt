@@ -4,7 +4,7 @@ use Rattle.goal_labels.specs.declared.label_map.LabelEntry.{LabelEntry}
 use Rattle.goal_labels.specs.Entries.{entries_of, IsAt}
 use Rattle.goal_labels.proofs.EntryLemmas.{IsAt-within}
 use Rattle.goal_labels.proofs.HeldLemmas.{IsAt-entry, length-entries_of}
-use Rattle.goal_labels.proofs.OrderedLemmas.{before_last}
+use Rattle.goal_labels.proofs.OrderedLemmas.{label_after_last_is_after_all}
 use Rattle.goal_labels.proofs.label_map.comes_after_last.Goals as goal
 
 pub returns-in_default : goal.returns-in_default
@@ -29,5 +29,5 @@ returns-in-Less c = λ told first ascending.
     subst (λ k. IsAt es k last) (sym c.label_of.ensures) (IsAt-entry bytes held last c.in-Some.last.now entry) in
     let within : last < length held = slice_get_within held last c.in-Some.last.now entry in
     let count = length-entries_of bytes held in
-    before_last es read c.args.label.now first last (length held) ascending (sym count)
+    label_after_last_is_after_all es read c.args.label.now first last (length held) ascending (sym count)
     (omega (arith, count, within)) there (sym c.order.ensures ∙ c.in-Less.is)

@@ -3,7 +3,7 @@ use Rattle.goal_labels.specs.Entries.{entries_of}
 use Rattle.goal_labels.specs.Ordered.{AreAscending}
 use Rattle.goal_labels.proofs.HeldLemmas.{length-entries_of}
 use Rattle.goal_labels.proofs.IndexLemmas.{find-absent}
-use Rattle.goal_labels.proofs.OrderedLemmas.{before_apart}
+use Rattle.goal_labels.proofs.OrderedLemmas.{label_after_all_is_none_of_them}
 use Rattle.goal_labels.proofs.label_map.find.Goals as goal
 
 pub search-requires-clause-within : goal.search-requires-clause-within
@@ -22,4 +22,4 @@ returns-then-comes_after_last-clause-absent c =
     subst (AreAscending es c.args.first) c.if-ascending-entries.true c.requires.map.ascend in
     let before = c.comes_after_last.ensures c.if-comes_after_last.true c.args.first ascend in
     find-absent es c.args.first c.args.ascending c.args.numbers.now label c.requires.map
-    (λ i from below at. before_apart es c.args.first label before i from at) c.get.result c.get.ensures
+    (λ i from below at. label_after_all_is_none_of_them es c.args.first label before i from at) c.get.result c.get.ensures

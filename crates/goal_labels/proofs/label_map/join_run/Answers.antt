@@ -6,8 +6,8 @@ use Rattle.goal_labels.specs.Entries.{entries_of}
 use Rattle.goal_labels.specs.Indexed.{IsMap}
 use Rattle.goal_labels.specs.Ordered.{AreAscending}
 use Rattle.goal_labels.proofs.EntryLemmas.{IsAt-within}
-use Rattle.goal_labels.proofs.HeldLemmas.{looked_at, read-length, length-entries_of}
-use Rattle.goal_labels.proofs.IndexLemmas.{IsMap-ended, unnumbered_first}
+use Rattle.goal_labels.proofs.HeldLemmas.{read_label_has_entry, read-length, length-entries_of}
+use Rattle.goal_labels.proofs.IndexLemmas.{IsMap-ended, first_of_run_has_no_number}
 use Rattle.goal_labels.proofs.label_map.join_run.Goals as goal
 use Rattle.goal_labels.proofs.label_map.join_run.Goals.{then-after_all-via-then-after_all, then-after_all-via-else-after_all+then-comes_after_last}
 
@@ -58,8 +58,8 @@ insert-requires-clause-absent c =
     let read = c.label_of.result.now in
     let one = c.if-first-ascending.false in
     let within = first_within bytes held first c.args.ascending c.args.numbers.now c.requires.map one in
-    unnumbered_first (entries_of bytes held) first c.args.ascending c.args.numbers.now read c.requires.map (omega (arith, one))
-    (looked_at bytes held first read _ within c.label_of.ensures)
+    first_of_run_has_no_number (entries_of bytes held) first c.args.ascending c.args.numbers.now read c.requires.map (omega (arith, one))
+    (read_label_has_entry bytes held first read _ within c.label_of.ensures)
 
 pub returns-clause-map : goal.returns-clause-map
 returns-clause-map c =
@@ -69,7 +69,7 @@ returns-clause-map c =
     let read = c.label_of.result.now in
     let one = c.if-first-ascending.false in
     let within = first_within bytes held first c.args.ascending c.args.numbers.now c.requires.map one in
-    let at = looked_at bytes held first read _ within c.label_of.ensures in
+    let at = read_label_has_entry bytes held first read _ within c.label_of.ensures in
     IsMap-ended (entries_of bytes held) first c.args.ascending c.args.numbers.now c.requires.map read at one c.insert.new.self
     (c.in_ok-insert.ensures.few c.requires.map.few) c.in_ok-insert.ensures.numbered
 

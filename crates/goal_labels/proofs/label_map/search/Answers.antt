@@ -2,8 +2,8 @@ use Rattle.std.proofs.Common.{◌≡◌, ◌∙◌, ℕ, ◌+◌, ◌-◌, ◌/�
 use Rattle.std.proofs.lemmas.Option.{slice_get-get_or}
 use Rattle.goal_labels.specs.Entries.{entries_of, IsAt}
 use Rattle.goal_labels.specs.Ordered.{label_cmp}
-use Rattle.goal_labels.proofs.HeldLemmas.{looked_at}
-use Rattle.goal_labels.proofs.OrderedLemmas.{label_cmp-back, label_cmp-tied, stands_before}
+use Rattle.goal_labels.proofs.HeldLemmas.{read_label_has_entry}
+use Rattle.goal_labels.proofs.OrderedLemmas.{label_cmp-back, label_cmp-tied, lesser_label_has_lesser_number}
 use Rattle.goal_labels.proofs.label_map.search.Goals as goal
 
 -- the middle is among the entries
@@ -28,13 +28,13 @@ loop-low-preserved-in-Less c =
     let middle = c.loop-low.low + (c.loop-low.high - c.loop-low.low) / 2 in
     let within = middle_within c.loop-low.low c.loop-low.high c.args.ascending c.loop-low-test.true c.loop-low.invariant.within in
     let there : IsAt es read middle =
-    looked_at c.args.bytes.now held middle read _ (omega (arith, within, c.requires.within)) c.label_of.ensures in
+    read_label_has_entry c.args.bytes.now held middle read _ (omega (arith, within, c.requires.within)) c.label_of.ensures in
     let less : label_cmp read label ≡ Less = sym c.order.ensures ∙ c.in-Less.is in
     record {
       from = omega (arith, c.loop-low.invariant.from);
       within = c.loop-low.invariant.within;
       among = λ i from below at. (
-        omega (arith, stands_before es read label c.args.first middle i c.args.ascending c.requires.ascending from within there at less),
+        omega (arith, lesser_label_has_lesser_number es read label c.args.first middle i c.args.ascending c.requires.ascending from within there at less),
         (c.loop-low.invariant.among i from below at).1,
       );
     }
@@ -47,7 +47,7 @@ returns-in-Equal-clause-found c =
     let middle = c.loop-low.low + (c.loop-low.high - c.loop-low.low) / 2 in
     let within = middle_within c.loop-low.low c.loop-low.high c.args.ascending c.loop-low-test.true c.loop-low.invariant.within in
     let there : IsAt es read middle =
-    looked_at c.args.bytes.now held middle read _ (omega (arith, within, c.requires.within)) c.label_of.ensures in
+    read_label_has_entry c.args.bytes.now held middle read _ (omega (arith, within, c.requires.within)) c.label_of.ensures in
     subst (λ k. IsAt es k middle) (label_cmp-tied read c.args.label.now (sym c.order.ensures ∙ c.in-Equal.is)) there
 
 pub loop-low-preserved : goal.loop-low-preserved
@@ -59,14 +59,14 @@ loop-low-preserved c =
     let middle = c.loop-low.low + (c.loop-low.high - c.loop-low.low) / 2 in
     let within = middle_within c.loop-low.low c.loop-low.high c.args.ascending c.loop-low-test.true c.loop-low.invariant.within in
     let there : IsAt es read middle =
-    looked_at c.args.bytes.now held middle read _ (omega (arith, within, c.requires.within)) c.label_of.ensures in
+    read_label_has_entry c.args.bytes.now held middle read _ (omega (arith, within, c.requires.within)) c.label_of.ensures in
     let less : label_cmp label read ≡ Less = label_cmp-back read label (sym c.order.ensures ∙ c.in-Greater.is) in
     record {
       from = c.loop-low.invariant.from;
       within = omega (arith, within);
       among = λ i from below at. (
         (c.loop-low.invariant.among i from below at).0,
-        stands_before es label read c.args.first i middle c.args.ascending c.requires.ascending (omega (arith, c.loop-low.invariant.from)) below at there less,
+        lesser_label_has_lesser_number es label read c.args.first i middle c.args.ascending c.requires.ascending (omega (arith, c.loop-low.invariant.from)) below at there less,
       );
     }
 

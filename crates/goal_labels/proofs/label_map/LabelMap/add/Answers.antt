@@ -1,7 +1,7 @@
 use Rattle.std.proofs.Common.{sym, subst}
 use Rattle.goal_labels.specs.Entries.{Entries, IsAbsent}
 use Rattle.goal_labels.specs.Ordered.{AreBefore}
-use Rattle.goal_labels.proofs.IndexLemmas.{keeps-none}
+use Rattle.goal_labels.proofs.IndexLemmas.{empty_map_keeps_invariant}
 use Rattle.goal_labels.proofs.label_map.LabelMap.add.Goals as goal
 
 pub append-added-requires-clause-absent : goal.append-added-requires-clause-absent
@@ -13,4 +13,4 @@ append-added-requires-clause-before c = λ told. subst (λ (es : Entries). AreBe
 pub invariant_of-self : goal.invariant_of-self
 invariant_of-self c =
     let now = c.forget.new in
-    keeps-none now.bytes.items now.entries.items now.first now.ascending now.numbers c.forget.ensures.entries c.forget.ensures.first c.forget.ensures.ascending c.forget.ensures.none c.forget.ensures.few
+    empty_map_keeps_invariant now.bytes.items now.entries.items now.first now.ascending now.numbers c.forget.ensures.entries c.forget.ensures.first c.forget.ensures.ascending c.forget.ensures.none c.forget.ensures.few

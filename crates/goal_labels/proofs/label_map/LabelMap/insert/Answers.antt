@@ -4,22 +4,22 @@ use Rattle.goal_labels.specs.Indexed.{IsMap}
 use Rattle.goal_labels.proofs.EntryLemmas.{lookup-there, lookup-absent, put-absent, put-there, IsAt-within}
 use Rattle.goal_labels.proofs.HeldLemmas.{entry-at, entry-same, entries_of-set, AreHeld-set, length-entries_of}
 use Rattle.goal_labels.proofs.IndexLemmas.{IsMap-set}
-use Rattle.goal_labels.proofs.OrderedLemmas.{before_absent}
+use Rattle.goal_labels.proofs.OrderedLemmas.{label_after_all_is_absent}
 use Rattle.goal_labels.proofs.label_map.LabelMap.insert.Goals as goal
 
 pub add-requires-clause-absent : goal.add-requires-clause-absent
-add-requires-clause-absent c = before_absent c.args.self.now c.args.label.now (c.comes_after_all.ensures c.if-comes_after_all.true)
+add-requires-clause-absent c = label_after_all_is_absent c.args.self.now c.args.label.now (c.comes_after_all.ensures c.if-comes_after_all.true)
 
 pub returns-then-comes_after_all-clause-old : goal.returns-then-comes_after_all-clause-old
 returns-then-comes_after_all-clause-old c =
     let label = c.args.label.now in
-    sym (lookup-absent c.args.self.now label (before_absent c.args.self.now label (c.comes_after_all.ensures c.if-comes_after_all.true)))
+    sym (lookup-absent c.args.self.now label (label_after_all_is_absent c.args.self.now label (c.comes_after_all.ensures c.if-comes_after_all.true)))
 
 pub returns-then-comes_after_all-clause-entries : goal.returns-then-comes_after_all-clause-entries
 returns-then-comes_after_all-clause-entries c =
     let label = c.args.label.now in
     c.in_ok-add.ensures
-    ∙ put-absent c.args.self.now label c.args.info (before_absent c.args.self.now label (c.comes_after_all.ensures c.if-comes_after_all.true))
+    ∙ put-absent c.args.self.now label c.args.info (label_after_all_is_absent c.args.self.now label (c.comes_after_all.ensures c.if-comes_after_all.true))
 
 pub index-requires : goal.index-requires
 index-requires c =
