@@ -3,16 +3,16 @@ use Rattle.std.proofs.Common.{◌≡◌, ◌≢◌, ◌⊎◌, ℕ, zero, suc, �
 use Rattle.std.specs.Prelude.{not}
 use Rattle.std.proofs.lemmas.List.{get_or-set_same, get_or-set_other, length-set, length-append}
 use Rattle.std.proofs.lemmas.Option.{same_Some, slice_get_within}
-use Rattle.goal_limits.specs.declared.limits.TheConstants.{MAX_OPS}
 use Rattle.sim_order.specs.Order.{IsOrder}
 use Rattle.sim_queue.specs.Item.{Item}
 use Rattle.sim_queue.specs.Map.{either, key_at, IsEmptyMap, IsLeast, IsSoleLeast}
 use Rattle.sim_queue.specs.TopHeap.{placed, AreApart}
 use Rattle.sim_queue.specs.RunHeap.{joined, with_run, AreInOrder, IsBehind, IsAhead, IsNotAhead, IsRun, IsRunFirst, HasOneFirst, IsHeapFirst}
-use Rattle.sim_queue.proofs.Items.{length-placed, key_belongs_to_item, item_has_its_key, items_fit, apart_without_head, Holds, item_of}
+use Rattle.sim_queue.specs.Sift.{Holds}
+use Rattle.sim_queue.proofs.Items.{length-placed, key_belongs_to_item, item_has_its_key, items_fit, apart_without_head, item_of}
 use Rattle.sim_queue.proofs.ItemChanges.{old_item_or_new, old_item_kept, added_apart, added_placed, placed_without_slot}
 use Rattle.sim_queue.proofs.Joined.{length-joined, joined_at, joined_with_empty_first, joined_after_put_in_first, joined_after_drop_in_first, joined_after_set_in_second}
-use Rattle.sim_queue.proofs.Swapping.{nat_equal_or_not}
+use Rattle.sim_queue.proofs.Maps.{nat_equal_or_not}
 use Rattle.sim_queue.proofs.Weak.{before_asymmetric, through}
 
 module _ {K : Type 0} (before : K → K → Bool) (laws : IsOrder before) (run : List (Item K)) (heap : List (Option K)) (is : IsRun before run heap) where

@@ -2,8 +2,8 @@
 pub mod Map
 pub mod Places
 pub mod Groups
-pub mod Heap
 pub mod Item
+pub mod Sift
 pub mod TopHeap
 pub mod RunHeap
 pub mod Row

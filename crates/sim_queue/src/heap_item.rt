@@ -1,17 +1,18 @@
 //! Keys with their slots, in two words or in one.
-ghost use Rattle.std.specs.Prelude.{◌≡◌, ℕ, ◌+◌, ◌<◌, refl};
-ghost use Rattle.goal_limits.specs.declared.limits.TheConstants.{MAX_OPS};
-ghost use Rattle.sim_order.specs.Events.{event_before};
+ghost use Rattle.std.specs.Prelude.{◌≡◌, ℕ, ◌<◌, refl};
 ghost use Rattle.sim_queue.specs.Item.{at_time};
 
+use crate::sift::Entry;
 use goal_limits::MAX_OPS;
 use sim_order::{CompactKey, Steps};
 use std::alloc::AllocError;
 use std::marker::Model;
 use std::sync::ledger::Ledger;
 
-// The number of slots that an item can name.
-const SLOTS: u64 = MAX_OPS as u64;
+/// The number of slots that an item can name.
+pub const MAX_SLOTS: u32 = 2 * MAX_OPS;
+
+const SLOTS: u64 = MAX_SLOTS as u64;
 
 /// The time of an item: a number, or nothing if the keys of all items are at time 0.
 pub trait ItemTime: Copy {
@@ -73,7 +74,7 @@ impl ItemTime for AtZero {
     }
 }
 
-/// A key and the slot that has it, below 2^20, in 16 bytes, or in 8 if the keys of all items are at time 0. Items are
+/// A key and the slot that has it, below 2^21, in 16 bytes, or in 8 if the keys of all items are at time 0. Items are
 /// in the order of their keys.
 #[derive(Debug)]
 pub struct HeapItem<T: ItemTime> {
@@ -111,7 +112,7 @@ impl<T: ItemTime> HeapItem<T> {
     /// Returns the item of a key and a slot. Its time is that of the key as far as `T` has it: a number, or 0.
     #[inline(always)]
     pub fn new(key: CompactKey, slot: u32) -> HeapItem<T>
-        requires { slot < MAX_OPS }
+        requires { slot < MAX_SLOTS }
         ensures { result ≡ record { key = at_time (T.nanoseconds (T.of_nanoseconds key.time)) key; slot = slot } }
     {
         HeapItem {
@@ -127,22 +128,23 @@ impl<T: ItemTime> HeapItem<T> {
     {
         CompactKey::from_tail(self.time.get(), self.tail / SLOTS)
     }
+}
 
-    /// Returns the slot.
+impl<T: ItemTime> Entry for HeapItem<T> {
+    type Key = CompactKey;
+
+    ghost key = { λ x. x.key };
+
+    ghost slot = { λ x. x.slot };
+
     #[inline(always)]
-    pub fn slot(&self) -> u32
-        ensures { result ≡ self.now.slot }
-    {
+    fn slot(&self) -> u32 {
         (self.tail % SLOTS) as u32
     }
 
-    /// Returns whether the key is before that of the other, and counts one step. Time and tail are compared as one
-    /// number of 128 bits, without a branch.
+    // Time and tail are compared as one number of 128 bits, without a branch.
     #[inline(always)]
-    pub fn before<L: Ledger>(&self, other: &HeapItem<T>, steps: &mut Steps<L>) -> bool
-        ensures tells { result ≡ event_before self.now.key other.now.key }
-        ensures ticks { steps.new ≡ steps.old + 1 }
-    {
+    fn before<L: Ledger>(&self, other: &HeapItem<T>, steps: &mut Steps<L>) -> bool {
         steps.tick();
         let own = (u128::from(self.time.get()) << 64) + u128::from(self.tail / SLOTS);
         let others = (u128::from(other.time.get()) << 64) + u128::from(other.tail / SLOTS);

@@ -9,8 +9,9 @@ use Rattle.sim_order.specs.EventLaws.{event_laws}
 use Rattle.sim_queue.specs.Item.{Item}
 use Rattle.sim_queue.specs.Map.{key_at, IsSoleLeast}
 use Rattle.sim_queue.specs.Places.{AreOrdered, AreOrderedBut}
-use Rattle.sim_queue.specs.TopHeap.{placed, key_there, AreApart, AreMoved, IsTopHeap}
-use Rattle.sim_queue.proofs.ForCallers.{added_apart, added_placed, added_ordered, taken_apart, taken_placed, taken_ordered, emptied_placed, none_of}
+use Rattle.sim_queue.specs.Sift.{AreMoved}
+use Rattle.sim_queue.specs.TopHeap.{placed, key_there, AreApart, IsTopHeap}
+use Rattle.sim_queue.proofs.ForCallers.{added_apart, added_placed, added_ordered, taken_apart, taken_placed, taken_ordered, emptied_placed, moved_apart, moved_placed, none_of}
 use Rattle.sim_stations.specs.Parts.{all_but_last}
 
 module _ {X : Type 0} (xs : List X) (some : 0 < length xs) where
@@ -36,7 +37,7 @@ front_of_single_rest new rest one = take_at new rest (length (new ++ rest) - 1) 
 
 -- another item, which has risen
 module _ (front : List (Item Timed)) (x : Item Timed) (slots : ℕ) (heap : IsTopHeap event_before front slots slots) (slot_in : x.slot < slots) (free : key_at (placed slots front) x.slot ≡ None) where
-  apart_with_new : AreApart slots (front ++ x ∷ [])
+  pub apart_with_new : AreApart slots (front ++ x ∷ [])
   apart_with_new = added_apart front x slots heap.apart slot_in free
 
   pub entered_ordered : (n : ℕ) → n ≡ length front → AreOrderedBut event_before (key_there (front ++ x ∷ [])) (length (front ++ x ∷ [])) n
@@ -48,12 +49,12 @@ module _ (front : List (Item Timed)) (x : Item Timed) (slots : ℕ) (heap : IsTo
     entered_heap ordered = record {
       reserved = omega arith;
       few = heap.few;
-      apart = moved.apart slots apart_with_new;
+      apart = moved_apart slots (front ++ x ∷ []) new moved apart_with_new;
       ordered = subst (AreOrdered event_before (key_there new)) (sym moved.each) ordered;
     }
 
     pub entered_placed : placed slots new ≡ slice_set (placed slots front) x.slot (Some x.key)
-    entered_placed = moved.same slots apart_with_new ∙ added_placed front x slots heap.apart slot_in free
+    entered_placed = moved_placed slots (front ++ x ∷ []) new moved apart_with_new ∙ added_placed front x slots heap.apart slot_in free
 
 -- no items
 pub no_items_heap : (items : List (Item Timed)) (slots : ℕ) → length items ≡ 0 → slots ≤ MAX_OPS → IsTopHeap event_before items slots slots
@@ -79,20 +80,20 @@ module _ (items front : List (Item Timed)) (last : Item Timed) (are : items ≡ 
     pub left_ordered : AreOrderedBut event_before (key_there (set front 0 last)) (length (set front 0 last)) 0
     left_ordered = taken_ordered event_before event_laws slots items heap.apart heap.ordered slot sole front last are some
 
-    module _ (new : List (Item Timed)) (moved : AreMoved (set front 0 last) new) where
-      left_apart : AreApart slots (set front 0 last)
-      left_apart = taken_apart event_before event_laws slots items heap.apart heap.ordered slot sole front last are some
+    pub left_apart : AreApart slots (set front 0 last)
+    left_apart = taken_apart event_before event_laws slots items heap.apart heap.ordered slot sole front last are some
 
+    module _ (new : List (Item Timed)) (moved : AreMoved (set front 0 last) new) where
       pub left_heap : AreOrdered event_before (key_there new) (length (set front 0 last)) → IsTopHeap event_before new slots slots
       left_heap ordered = record {
         reserved = omega arith;
         few = heap.few;
-        apart = moved.apart slots left_apart;
+        apart = moved_apart slots (set front 0 last) new moved left_apart;
         ordered = subst (AreOrdered event_before (key_there new)) (sym moved.each) ordered;
       }
 
       pub left_placed : placed slots new ≡ slice_set (placed slots items) slot None
-      left_placed = moved.same slots left_apart ∙ taken_placed event_before event_laws slots items heap.apart heap.ordered slot sole front last are some
+      left_placed = moved_placed slots (set front 0 last) new moved left_apart ∙ taken_placed event_before event_laws slots items heap.apart heap.ordered slot sole front last are some
 
 -- a slot without an item
 pub no_key_without_item : (slots slot : ℕ) (xs : List (Item Timed)) → ((place : ℕ) (y : Item Timed) → slice_get xs place ≡ Some y → y.slot ≢ slot) → key_at (placed slots xs) slot ≡ None

@@ -1,11 +1,16 @@
 -- A heap whose slots know their places, after the key of one slot was changed.
-use Rattle.std.proofs.Common.{◌≡◌, ◌<◌, ◌≤◌, ◌+◌, ◌++◌, ◌∷◌, [], ℕ, List, length, set, take, slice_get, slice_index, slice_set, Some, None, sym, ap, ◌∙◌, subst, arith}
-use Rattle.std.proofs.lemmas.List.{length-map, length-set, length-append, length-take-le, take_all, take-take, take_more_set}
+use Rattle.std.proofs.Common.{◌≡◌, ◌<◌, ◌≤◌, ◌+◌, ◌-◌, ◌++◌, ◌∷◌, [], ℕ, List, length, set, take, slice_get, slice_set, Option, Some, None, sym, ap, ◌∙◌, subst, arith}
+use Rattle.std.proofs.lemmas.List.{length-set, length-append, length-take-le, take_all, take-take, take_more, take_more_set}
+use Rattle.std.proofs.lemmas.Option.{slice_get_within, get_or_from_slice_get}
 use Rattle.goal_graph.specs.declared.action.Timed.{Timed}
 use Rattle.sim_order.specs.Events.{event_before}
 use Rattle.sim_order.specs.EventLaws.{event_laws}
-use Rattle.sim_queue.specs.Heap.{AreInverse, swapped, keys_of, IsHeap, IsHeapBut, IsSlotHeap}
-use Rattle.sim_queue.proofs.ForCallers.{swapped_inverse, length-swapped, heap_with_replaced_key, heap_with_entered_key, heap_but_where_dropped, heap_without_last, keys_after_write, entered_keys, moved_keys, keys_without_last_place, heap_after_settling}
+use Rattle.sim_queue.specs.Item.{Item}
+use Rattle.sim_queue.specs.Map.{key_at}
+use Rattle.sim_queue.specs.Places.{AreOrdered, AreOrderedBut}
+use Rattle.sim_queue.specs.Sift.{AreMoved, AreNotedBut, IsPlaceOf, IsElsewhere}
+use Rattle.sim_queue.specs.TopHeap.{placed, key_there, slot_of_item, AreApart, ArePlaced, IsSlotHeap}
+use Rattle.sim_queue.proofs.ForCallers.{added_apart, added_ordered, added_placed, get_set_other, items_fit, known_but_last, left_apart, left_ordered, left_placed, left_where, no_key, replaced_apart, replaced_ordered, replaced_placed, rest_apart, rest_ordered, rest_placed, rest_at_their_places, settled_heap, settled_keys}
 
 -- the last of the first places is written
 pub take_with_entered : {X : Type 0} (xs : List X) (n : ℕ) (y : X) → n < length xs → set (take (n + 1) xs) n y ≡ take n xs ++ y ∷ []
@@ -15,97 +20,136 @@ take_with_entered xs n y h =
     ∙ take_more_set (take (n + 1) xs) n y (omega (arith, long))
     ∙ ap (λ ys. ys ++ y ∷ []) (take-take n (n + 1) xs (omega arith))
 
--- after the order was settled
-module _ (old : List Timed) (old_places : List ℕ) (slots places : List ℕ) (n : ℕ) (heap : IsHeap event_before (keys_of old old_places) slots places n) where
-  pub slots_length_after_settling : length slots ≡ length old_places
-  slots_length_after_settling = heap.same_length ∙ length-map old_places (slice_get old)
+-- the first places, before the last of them, and that
+pub before_last : {X : Type 0} (xs : List X) (n : ℕ) (y : X) → 0 < n → n ≤ length xs → slice_get xs (n - 1) ≡ Some y → take n xs ≡ take (n - 1) xs ++ y ∷ []
+before_last xs n y some room e =
+    let more : n ≡ n - 1 + 1 = omega (arith, some) in
+    ap (λ m. take m xs) more ∙ take_more xs (n - 1) y (omega (arith, some, room)) ∙ ap (λ z. take (n - 1) xs ++ z ∷ []) (get_or_from_slice_get xs (n - 1) y y e)
 
-  pub slot_heap_after_settling : (new : List Timed) (capacity : ℕ) → length new ≡ n → length old_places ≤ capacity → keys_of new places ≡ keys_of old old_places → IsSlotHeap event_before new slots places capacity
-  slot_heap_after_settling new capacity each room are =
-      heap_after_settling event_before (keys_of old old_places) new slots places n capacity each (omega (arith, slots_length_after_settling, room)) are heap
+-- how many places a list has, and what it notes
+abbrev pub size_of_list : List ℕ → Option ℕ
+size_of_list places = Some (length places)
 
-module _ (keys : List Timed) (slots places : List ℕ) (capacity : ℕ) (heap : IsSlotHeap event_before keys slots places capacity) (slot : ℕ) (slot_in : slot < length places) where
-  abbrev place : ℕ
-  place = slice_index places slot
+abbrev pub is_noted : List ℕ → ℕ → ℕ → Type 0
+is_noted places slot place = slice_get places slot ≡ Some place
 
-  within : slot < length slots
-  within = omega (arith, slot_in, heap.heap.inverse.same_length)
+abbrev pub AreListedBut : List (Item Timed) → List ℕ → ℕ → Type 0
+AreListedBut = AreNotedBut slot_of_item size_of_list is_noted
 
-  place_in : place < length slots
-  place_in = heap.heap.inverse.place_in slot within
+module _ (front : List (Item Timed)) (places : List ℕ) (capacity : ℕ) (heap : IsSlotHeap event_before front places capacity) (slot : ℕ) where
+  abbrev slots : ℕ
+  slots = length places
 
-  pub room_in : place < capacity
-  room_in = omega (arith, place_in, heap.reserved)
+  pub fits : length front ≤ slots
+  fits = items_fit slots front heap.apart
 
-  pub places_room : length places ≤ capacity
-  places_room = omega (arith, heap.reserved, heap.heap.inverse.same_length)
+  -- an item instead of another
+  module _ (x : Item Timed) (same : x.slot ≡ slot) (at : ℕ) (there : IsPlaceOf slot_of_item front at slot) where
+    was_slot : there.0.slot ≡ x.slot
+    was_slot = there.2 ∙ sym same
 
-  -- a key instead of another
-  module _ (key : Timed) (there : place < length keys) where
-    pub keys_replaced : keys_of (set keys place key) places ≡ slice_set (keys_of keys places) slot (Some key)
-    keys_replaced = keys_after_write keys slots places heap.heap.inverse slot key there within
+    apart : AreApart slots (set front at x)
+    apart = replaced_apart front x there.0 at slots heap.apart there.1 was_slot
 
-    pub ordered_but_replaced : IsHeapBut event_before (keys_of (set keys place key) places) slots places (length (set keys place key)) place
-    ordered_but_replaced =
-        subst (λ (n : ℕ). IsHeapBut event_before (keys_of (set keys place key) places) slots places n place) (sym (length-set keys place key))
-        (subst (λ ks. IsHeapBut event_before ks slots places (length keys) place) (sym keys_replaced)
-        (heap_with_replaced_key event_before event_laws (keys_of keys places) slots places (length keys) slot heap.heap within key there))
+    pub replaced_in : at < length front
+    replaced_in = slice_get_within front at there.0 there.1
 
-  -- another key
-  module _ (key : Timed) (n : ℕ) (same : n ≡ length keys) (absent : n ≤ place) (new_slots new_places : List ℕ) (slots_are : new_slots ≡ swapped slots place n) (places_are : new_places ≡ slice_set (slice_set places (slice_index slots place) n) (slice_index slots n) place) where
-    pub keys_entered : keys_of (keys ++ key ∷ []) new_places ≡ slice_set (keys_of keys places) slot (Some key)
-    keys_entered = entered_keys keys slots places heap.heap.inverse slot key n new_places within same absent places_are
+    pub replaced_noted : AreListedBut (set front at x) places at
+    replaced_noted = record {
+      within = apart.within;
+      apart = apart.apart;
+      noted = λ place y e n. heap.noted place y (sym (get_set_other front at place x n) ∙ e);
+    }
 
-    inverse : AreInverse (swapped slots place n) new_places
-    inverse =
-        subst (AreInverse (swapped slots place n)) (sym places_are) (swapped_inverse slots places place n heap.heap.inverse place_in (omega (arith, absent, place_in)))
+    pub replaced_but : AreOrderedBut event_before (key_there (set front at x)) (length (set front at x)) at
+    replaced_but = replaced_ordered front x there.0 at slots heap.apart there.1 was_slot event_before event_laws heap.ordered
 
-    pub ordered_but_entered : IsHeapBut event_before (keys_of (keys ++ key ∷ []) new_places) new_slots new_places (length (keys ++ key ∷ [])) n
-    ordered_but_entered =
-        subst (λ (m : ℕ). IsHeapBut event_before (keys_of (keys ++ key ∷ []) new_places) new_slots new_places m n) (sym (length-append keys (key ∷ [])))
-        (subst (λ ks. IsHeapBut event_before ks new_slots new_places (length keys + 1) n) (sym keys_entered)
-        (subst (λ xs. IsHeapBut event_before (slice_set (keys_of keys places) slot (Some key)) xs new_places (length keys + 1) n) (sym slots_are)
-        (subst (λ (m : ℕ). IsHeapBut event_before (slice_set (keys_of keys places) slot (Some key)) (swapped slots place m) new_places (length keys + 1) m) (sym same)
-        (heap_with_entered_key event_before event_laws (keys_of keys places) slots places (length keys) slot heap.heap within key new_places (omega (arith, absent, same)) (subst (λ (m : ℕ). AreInverse (swapped slots place m) new_places) same inverse)))))
+    module _ (new : List (Item Timed)) (new_places : List ℕ) (moved : AreMoved (set front at x) new) (sized : length new_places ≡ slots) where
+      pub replaced_heap : ArePlaced new new_places → AreOrdered event_before (key_there new) (length (set front at x)) → IsSlotHeap event_before new new_places capacity
+      replaced_heap known ordered =
+          settled_heap (set front at x) new places new_places moved sized apart event_before capacity heap.reserved heap.few known ordered
 
-    pub places_length_after_entering : length new_places ≡ length places
-    places_length_after_entering = ap length places_are ∙ length-set (slice_set places (slice_index slots place) n) (slice_index slots n) place ∙ length-set places (slice_index slots place) n
+      pub replaced_keys : placed (length new_places) new ≡ slice_set (placed slots front) slot (Some x.key)
+      replaced_keys =
+          settled_keys (set front at x) new places new_places moved sized apart
+          ∙ replaced_placed front x there.0 at slots heap.apart there.1 was_slot
+          ∙ ap (λ s. slice_set (placed slots front) s (Some x.key)) same
 
-  -- a key was removed, and the last one is now at its place
-  module _ (rest : List Timed) (last : Timed) (are : keys ≡ rest ++ last ∷ []) (left : ℕ) (same : left ≡ length rest) (new_slots new_places : List ℕ) (slots_are : new_slots ≡ swapped slots place left) (places_are : new_places ≡ slice_set (slice_set places (slice_index slots place) left) (slice_index slots left) place) where
-    left_is_one_less : left + 1 ≡ length keys
-    left_is_one_less = omega (arith, same, ap length are, length-append rest (last ∷ []))
+  -- another item
+  module _ (x : Item Timed) (same : x.slot ≡ slot) (slot_in : slot < slots) (elsewhere : IsElsewhere slot_of_item front places slot) where
+    free : key_at (placed slots front) x.slot ≡ None
+    free = ap (key_at (placed slots front)) same ∙ no_key slots front places slot slot_in heap.noted elsewhere
 
-    left_in : left < length slots
-    left_in = omega (arith, left_is_one_less, heap.heap.room)
+    x_in : x.slot < slots
+    x_in = subst (λ s. s < slots) (sym same) slot_in
 
-    left_inverse : AreInverse (swapped slots place left) new_places
-    left_inverse =
-        subst (AreInverse (swapped slots place left)) (sym places_are) (swapped_inverse slots places place left heap.heap.inverse place_in left_in)
+    more_apart : AreApart slots (front ++ x ∷ [])
+    more_apart = added_apart front x slots heap.apart x_in free
 
-    pub places_length_after_leaving : length new_places ≡ length places
-    places_length_after_leaving = ap length places_are ∙ length-set (slice_set places (slice_index slots place) left) (slice_index slots left) place ∙ length-set places (slice_index slots place) left
+    pub one_more : length front + 1 ≤ slots
+    one_more = omega (arith, items_fit slots (front ++ x ∷ []) more_apart, length-append front (x ∷ []))
 
-    pub slots_length_after_leaving : length new_slots ≡ length slots
-    slots_length_after_leaving = ap length slots_are ∙ length-swapped slots place left
+    pub entered_noted : AreListedBut (front ++ x ∷ []) places (length front)
+    entered_noted = record {
+      within = more_apart.within;
+      apart = more_apart.apart;
+      noted = λ place y e n. known_but_last front x places (length front) (λ i. length front) heap.noted place y e n;
+    }
 
-    module _ (moves : place < left) where
-      pub keys_moved : keys_of (set rest place last) new_places ≡ slice_set (keys_of keys places) slot None
-      keys_moved = moved_keys keys rest last are slots places heap.heap.inverse slot left new_places within same left_in places_are moves
+    pub entered_but : AreOrderedBut event_before (key_there (front ++ x ∷ [])) (length (front ++ x ∷ [])) (length front)
+    entered_but = added_ordered front x event_before heap.ordered
 
-      pub ordered_but_moved : IsHeapBut event_before (keys_of (set rest place last) new_places) new_slots new_places (length (set rest place last)) place
-      ordered_but_moved =
-          subst (λ (n : ℕ). IsHeapBut event_before (keys_of (set rest place last) new_places) new_slots new_places n place) (same ∙ sym (length-set rest place last))
-          (subst (λ ks. IsHeapBut event_before ks new_slots new_places left place) (sym keys_moved)
-          (subst (λ xs. IsHeapBut event_before (slice_set (keys_of keys places) slot None) xs new_places left place) (sym slots_are)
-          (heap_but_where_dropped event_before event_laws (keys_of keys places) slots places (length keys) slot heap.heap within left new_places (omega (arith, moves, left_is_one_less)) left_is_one_less left_inverse moves)))
+    module _ (new : List (Item Timed)) (new_places : List ℕ) (moved : AreMoved (front ++ x ∷ []) new) (sized : length new_places ≡ slots) where
+      pub entered_heap : ArePlaced new new_places → AreOrdered event_before (key_there new) (length (front ++ x ∷ [])) → IsSlotHeap event_before new new_places capacity
+      entered_heap known ordered =
+          settled_heap (front ++ x ∷ []) new places new_places moved sized more_apart event_before capacity heap.reserved heap.few known ordered
 
-    module _ (stays : place ≡ left) where
-      pub keys_left : keys_of rest new_places ≡ slice_set (keys_of keys places) slot None
-      keys_left = keys_without_last_place keys rest last are slots places heap.heap.inverse slot left new_places within same left_in places_are stays
+      pub entered_keys : placed (length new_places) new ≡ slice_set (placed slots front) slot (Some x.key)
+      entered_keys =
+          settled_keys (front ++ x ∷ []) new places new_places moved sized more_apart
+          ∙ added_placed front x slots heap.apart x_in free
+          ∙ ap (λ s. slice_set (placed slots front) s (Some x.key)) same
 
-      pub heap_left : IsSlotHeap event_before rest new_slots new_places capacity
-      heap_left =
-          heap_after_settling event_before (slice_set (keys_of keys places) slot None) rest new_slots new_places left capacity (sym same) (omega (arith, slots_length_after_leaving, heap.reserved)) keys_left
-          (subst (λ xs. IsHeap event_before (slice_set (keys_of keys places) slot None) xs new_places left) (sym slots_are)
-          (heap_without_last event_before event_laws (keys_of keys places) slots places (length keys) slot heap.heap within left new_places (omega (arith, stays, left_is_one_less)) left_is_one_less left_inverse stays))
+  -- an item is removed
+  module _ (rest : List (Item Timed)) (last : Item Timed) (are : front ≡ rest ++ last ∷ []) (at : ℕ) (there : IsPlaceOf slot_of_item front at slot) where
+    pub left_is_one_less : length front ≡ length rest + 1
+    left_is_one_less = omega (arith, ap length are, length-append rest (last ∷ []))
+
+    module _ (some : at < length rest) where
+      less_apart : AreApart slots (set rest at last)
+      less_apart = left_apart front rest last there.0 at are slots heap.apart there.1 some
+
+      pub left_noted : AreListedBut (set rest at last) places at
+      left_noted = record {
+        within = less_apart.within;
+        apart = less_apart.apart;
+        noted = λ place y e n. heap.noted place y (left_where front rest last there.0 at are slots heap.apart there.1 some place y n e);
+      }
+
+      pub left_but : AreOrderedBut event_before (key_there (set rest at last)) (length (set rest at last)) at
+      left_but = left_ordered front rest last there.0 at are slots heap.apart there.1 some event_before event_laws heap.ordered
+
+      module _ (new : List (Item Timed)) (new_places : List ℕ) (moved : AreMoved (set rest at last) new) (sized : length new_places ≡ slots) where
+        pub left_heap : ArePlaced new new_places → AreOrdered event_before (key_there new) (length (set rest at last)) → IsSlotHeap event_before new new_places capacity
+        left_heap known ordered =
+            settled_heap (set rest at last) new places new_places moved sized less_apart event_before capacity heap.reserved heap.few known ordered
+
+        pub left_keys : placed (length new_places) new ≡ slice_set (placed slots front) slot None
+        left_keys =
+            settled_keys (set rest at last) new places new_places moved sized less_apart
+            ∙ left_placed front rest last there.0 at are slots heap.apart there.1 some
+            ∙ ap (λ s. slice_set (placed slots front) s None) there.2
+
+    module _ (was_last : at ≡ length rest) where
+      pub rest_heap : IsSlotHeap event_before rest places capacity
+      rest_heap = record {
+        reserved = heap.reserved;
+        few = heap.few;
+        apart = rest_apart front rest last there.0 at are slots heap.apart there.1 was_last;
+        noted = λ place y e. heap.noted place y (rest_at_their_places front rest last there.0 at are slots heap.apart there.1 place y e);
+        ordered = rest_ordered front rest last there.0 at are slots heap.apart there.1 was_last event_before heap.ordered;
+      }
+
+      pub rest_keys : placed slots rest ≡ slice_set (placed slots front) slot None
+      rest_keys =
+          rest_placed front rest last there.0 at are slots heap.apart there.1 was_last ∙ ap (λ s. slice_set (placed slots front) s None) there.2

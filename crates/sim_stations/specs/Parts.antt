@@ -1,9 +1,9 @@
 -- Heaps of groups, each in its part of a shared table.
-use Rattle.std.specs.Prelude.{◌≡◌, ◌<◌, ◌≤◌, ◌+◌, ◌-◌, ℕ, Bool, List, Option, Some, length, map, take, slice_get, slice_index, slice_range}
+use Rattle.std.specs.Prelude.{◌≡◌, ◌<◌, ◌≤◌, ◌+◌, ◌-◌, ℕ, Bool, List, Option, Some, length, map, take, slice_get, slice_range}
 use Rattle.sim_stations.specs.declared.parts.Part.{Part}
-use Rattle.sim_queue.specs.Heap.{keys_of, IsSlotHeap}
+use Rattle.sim_queue.specs.declared.heap_item.TheConstants.{MAX_SLOTS}
 use Rattle.sim_queue.specs.Item.{Item}
-use Rattle.sim_queue.specs.TopHeap.{placed, IsTopHeap}
+use Rattle.sim_queue.specs.TopHeap.{placed, IsTopHeap, IsSlotHeap}
 
 abbrev pub room_of : Part → ℕ
 room_of part = part.room
@@ -18,10 +18,6 @@ pub record ArePacked (parts : List Part) (size : ℕ) : Type 0 where
 abbrev pub AreWithoutKeys : List Part → Type 0
 AreWithoutKeys parts = (group : ℕ) (part : Part) → slice_get parts group ≡ Some part → part.count ≡ 0
 
--- the numbers from 0 on
-abbrev pub IsInOrder : List ℕ → Type 0
-IsInOrder numbers = (place : ℕ) → place < length numbers → slice_index numbers place ≡ place
-
 -- a list without its last item
 abbrev pub all_but_last : {X : Type 0} → List X → List X
 all_but_last xs = take (length xs - 1) xs
@@ -35,12 +31,12 @@ abbrev pub keyed_of : {X : Type 0} → List X → Part → List X
 keyed_of table part = slice_range table part.start (part.start + part.count)
 
 module _ {K : Type 0} where
-  -- the map of a part whose slots know their places
-  abbrev pub map_of_slots : List K → List ℕ → Part → List (Option K)
-  map_of_slots sorted places part = keys_of (keyed_of sorted part) (places_of places part)
+  -- the map of a part whose slots know their places: it has as many slots as places
+  abbrev pub map_of_slots : List (Item K) → Part → List (Option K)
+  map_of_slots items part = placed part.room (keyed_of items part)
 
-  abbrev pub maps_of_slots : List Part → List K → List ℕ → List (List (Option K))
-  maps_of_slots parts sorted places = map (map_of_slots sorted places) parts
+  abbrev pub maps_of_slots : List Part → List (Item K) → List (List (Option K))
+  maps_of_slots parts items = map (map_of_slots items) parts
 
 -- the maps of the groups, and the room of each for keys
 pub record Roomed (K : Type 0) : Type 0 where
@@ -61,13 +57,13 @@ module _ {K : Type 0} (slots : ℕ) where
 
 module _ {K : Type 0} (before : K → K → Bool) where
   -- each part is a heap whose slots know their places
-  pub record AreSlotHeaps (parts : List Part) (sorted : List K) (slots places : List ℕ) : Type 0 where
-    pub packed : ArePacked parts (length sorted)
-    pub slots_each : length slots ≡ length sorted
-    pub places_each : length places ≡ length sorted
+  pub record AreSlotHeaps (parts : List Part) (items : List (Item K)) (places : List ℕ) : Type 0 where
+    pub packed : ArePacked parts (length items)
+    pub places_each : length places ≡ length items
+    pub small : (group : ℕ) (part : Part) → slice_get parts group ≡ Some part → part.room ≤ MAX_SLOTS
     pub heap :
         (group : ℕ) (part : Part) → slice_get parts group ≡ Some part
-        → IsSlotHeap before (keyed_of sorted part) (places_of slots part) (places_of places part) part.room
+        → IsSlotHeap before (keyed_of items part) (places_of places part) part.room
 
   -- each part is a heap of items
   pub record AreItemHeaps (slots : ℕ) (parts : List Part) (items : List (Item K)) : Type 0 where

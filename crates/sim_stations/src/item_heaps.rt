@@ -9,10 +9,10 @@ ghost use Rattle.sim_queue.specs.Groups.{heap_at, with_key};
 ghost use Rattle.sim_stations.specs.AtSlots.{at_home};
 ghost use Rattle.sim_stations.specs.Parts.{all_but_last};
 
-use crate::parts::{Part, parts};
+use crate::parts::{Part, no_items, parts};
 use goal_limits::NoMemory;
 use sim_order::{CompactKey, Steps};
-use sim_queue::{AtZero, HeapItem, rise, sink};
+use sim_queue::{AtZero, HeapItem, Unnoted, rise, settle};
 use std::alloc::Global;
 use std::marker::Model;
 use std::sync::ledger::Ledger;
@@ -40,15 +40,6 @@ impl Model for ItemHeaps {
     ghost invariant = { λ h. AreItemHeaps event_before h.slots h.parts.items h.items.items };
 }
 
-// Creates `count` items that do not belong to any group.
-fn no_items(alloc: Global, count: usize) -> Result<Vec<HeapItem<AtZero>>, NoMemory>
-    ensures { IfOk result (λ items. length items.items ≡ count) }
-{
-    let none = HeapItem::new(CompactKey::from_tail(0, 0), 0);
-    let items = vec![in alloc; none; count]?;
-    Ok(items)
-}
-
 // Inserts an item of one of `slots` slots; the last place is free for it.
 #[inline(always)]
 fn enter<L: Ledger>(
@@ -69,7 +60,7 @@ fn enter<L: Ledger>(
 {
     let last = items.len() - 1;
     items[last] = item;
-    rise(items, last, steps);
+    rise::<_, Unnoted, _>(items, &mut [], last, steps);
 }
 
 // Removes the least key, that of this slot of `slots` slots. The last place is free then.
@@ -90,7 +81,7 @@ fn leave<L: Ledger>(items: &mut [HeapItem<AtZero>], slots: u32, slot: u32, steps
     let last = items[left];
     let front = &mut items[..left];
     front[0] = last;
-    sink(front, steps);
+    settle::<_, Unnoted, _>(front, &mut [], 0, steps);
 }
 
 impl ItemHeaps {

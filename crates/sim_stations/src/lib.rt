@@ -11,7 +11,6 @@ mod rows;
 mod slot_groups;
 mod slot_heaps;
 mod station_queue;
-mod waiting_key;
 
 pub use key_place::KeyPlace;
 pub use laws::laws_of_changes;

@@ -3,6 +3,8 @@ ghost use Rattle.std.specs.Prelude.{◌≡◌, ◌+◌, ◌<◌, ◌^◌, IfOk, 
 ghost use Rattle.sim_stations.specs.Parts.{room_of, ArePacked, AreWithoutKeys};
 
 use goal_limits::NoMemory;
+use sim_order::CompactKey;
+use sim_queue::{AtZero, HeapItem};
 use std::alloc::Global;
 
 /// The part of a table that belongs to a group. Its first `count` places have a key.
@@ -37,4 +39,13 @@ pub fn parts(alloc: Global, counts: &[u32]) -> Result<(Vec<Part>, u32), NoMemory
         end += room;
     }
     Ok((parts, end))
+}
+
+/// Creates `count` items that do not belong to any group.
+pub fn no_items(alloc: Global, count: usize) -> Result<Vec<HeapItem<AtZero>>, NoMemory>
+    ensures { IfOk result (λ items. length items.items ≡ count) }
+{
+    let none = HeapItem::new(CompactKey::from_tail(0, 0), 0);
+    let items = vec![in alloc; none; count]?;
+    Ok(items)
 }

@@ -1,6 +1,7 @@
 //! Which stations wait at which resource.
 ghost use Rattle.std.specs.Prelude.{◌≡◌, ◌+◌, ◌*◌, ◌^◌, ◌<◌, ◌≤◌, ◌↔◌, ℕ, All, IfOk, IfSome, IsNone, Some, None, false, not, length, max, replicate, slice_get, slice_index, slice_set};
 ghost use Rattle.goal_graph.specs.declared.action.Timed.{Timed};
+ghost use Rattle.sim_queue.specs.declared.heap_item.TheConstants.{MAX_SLOTS};
 ghost use Rattle.sim_queue.specs.Groups.{IsEmptyGroup};
 ghost use Rattle.sim_queue.specs.Map.{key_at, IsEmptyMap};
 ghost use Rattle.sim_stations.specs.Stations.{both_free, pair_at, held, DoExist};
@@ -176,7 +177,7 @@ impl Rows {
     /// key. It allocates all its memory here. `Err` means out of memory.
     pub fn new(alloc: Global, pairs: &[Pair], resources: u32) -> Result<Rows, NoMemory>
         requires exist { DoExist pairs.now resources }
-        requires few { 2 * length pairs.now < 2 ^ 32 }
+        requires few { 2 * length pairs.now ≤ MAX_SLOTS }
         ensures { IfOk result (λ q. q ≡ record { keys = replicate (length pairs.now) None; pairs = pairs.now; turned = replicate (length pairs.now) false; free = replicate resources 0 }) }
     {
         let numbers = sides(alloc, pairs)?;

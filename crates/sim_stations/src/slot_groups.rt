@@ -1,6 +1,7 @@
 //! Slots in groups, whose keys can be changed anywhere.
 ghost use Rattle.std.specs.Prelude.{◌≡◌, ◌+◌, ◌*◌, ◌^◌, ◌<◌, ◌≤◌, ℕ, All, IfOk, IfSome, IsNone, OnOk, Some, None, length, replicate, slice_set, sum};
 ghost use Rattle.sim_order.specs.Events.{event_before};
+ghost use Rattle.sim_queue.specs.declared.heap_item.TheConstants.{MAX_SLOTS};
 ghost use Rattle.sim_queue.specs.Item.{at_time};
 ghost use Rattle.sim_queue.specs.Groups.{IsEmptyGroup, IsLeastOf, AreHomes};
 
@@ -57,7 +58,7 @@ impl SlotGroups {
     /// memory here. `Err` means out of memory.
     pub fn new(alloc: Global, numbers: &[u32], groups: u32) -> Result<SlotGroups, NoMemory>
         requires within { All (λ group. group < groups) numbers.now }
-        requires few { length numbers.now < 2 ^ 32 }
+        requires few { length numbers.now ≤ MAX_SLOTS }
         ensures { IfOk result (λ q. q ≡ record { keys = replicate (length numbers.now) None; groups = numbers.now }) }
     {
         let mut counts = vec![in alloc; 0; groups as usize]?;

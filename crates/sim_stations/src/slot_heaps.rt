@@ -1,18 +1,16 @@
 //! Heaps whose slots know their places, in one table.
-ghost use Rattle.std.specs.Prelude.{◌≡◌, ◌+◌, ◌*◌, ◌^◌, ◌<◌, ◌≤◌, ℕ, IfOk, IfSome, IsNone, Some, None, length, map, slice_get, slice_set, sum, take};
+ghost use Rattle.std.specs.Prelude.{◌≡◌, ◌+◌, ◌*◌, ◌^◌, ◌<◌, ◌≤◌, ℕ, IfOk, IfSome, IsNone, Some, None, length, map, slice_set, sum, take};
 ghost use Rattle.sim_order.specs.Events.{event_before};
-ghost use Rattle.sim_queue.specs.Heap.{keys_of, IsHeap, IsHeapBut, IsSlotHeap};
+ghost use Rattle.sim_queue.specs.declared.heap_item.TheConstants.{MAX_SLOTS};
+ghost use Rattle.sim_queue.specs.Groups.{heap_at, with_key};
 ghost use Rattle.sim_queue.specs.Item.{at_time};
 ghost use Rattle.sim_queue.specs.Map.{no_keys, IsEmptyMap, IsLeast};
-ghost use Rattle.sim_stations.specs.declared.parts.Part.{Part};
-ghost use Rattle.sim_queue.specs.Groups.{heap_at, with_key};
-ghost use Rattle.sim_stations.specs.Parts.{places_of, ArePacked, IsInOrder};
+ghost use Rattle.sim_queue.specs.TopHeap.{placed, IsSlotHeap};
 
-use crate::parts::{Part, parts};
-use crate::waiting_key::WaitingKey;
+use crate::parts::{Part, no_items, parts};
 use goal_limits::NoMemory;
 use sim_order::{CompactKey, Steps};
-use sim_queue::{PlaceInGroup, settle, swap};
+use sim_queue::{AtZero, HeapItem, Noted, PlaceInGroup, place_of, rise, settle};
 use std::alloc::Global;
 use std::marker::Model;
 use std::sync::ledger::Ledger;
@@ -22,10 +20,9 @@ use std::sync::ledger::Ledger;
 #[derive(Drop)]
 pub struct SlotHeaps {
     parts: Vec<Part>,
-    // the key at each place
-    sorted: Vec<WaitingKey>,
-    // the slot at each place of a part, and the place of each slot; slots without a key follow the heap
-    slots: Vec<u32>,
+    // the items at the places of each part; those of its heap come first
+    items: Vec<HeapItem<AtZero>>,
+    // in each part, the place of each slot that has a key; that of another slot is any number
     places: Vec<u32>,
 }
 
@@ -37,132 +34,79 @@ impl Model for SlotHeaps {
 
     ghost Value = { List (List (Option Timed)) };
 
-    ghost view = { λ h. maps_of_slots h.parts.items h.sorted.items h.places.items };
+    ghost view = { λ h. maps_of_slots h.parts.items h.items.items };
 
-    ghost invariant = { λ h. AreSlotHeaps event_before h.parts.items h.sorted.items h.slots.items h.places.items };
+    ghost invariant = { λ h. AreSlotHeaps event_before h.parts.items h.items.items h.places.items };
 }
 
-// Numbers the places from 0 on.
-fn number(places: &mut [u32])
-    requires { length places.old ≤ 2 ^ 32 }
-    ensures each { length places.new ≡ length places.old }
-    ensures numbered { IsInOrder places.new }
-{
-    'places: for place in 0..places.len() {
-        places[place] = place as u32;
-    }
-}
-
-// Returns `size` numbers, which count from 0 in each part.
-fn in_order(alloc: Global, parts: &[Part], size: u32) -> Result<Vec<u32>, NoMemory>
-    requires { ArePacked parts.now size }
-    ensures each { IfOk result (λ v. length v.items ≡ size) }
-    ensures numbered { IfOk result (λ v. (group : ℕ) (part : Part) → slice_get parts.now group ≡ Some part → IsInOrder (places_of v.items part)) }
-{
-    let mut places = vec![in alloc; 0; size as usize]?;
-    'parts: for part in parts {
-        let start = part.start as usize;
-        let end = start + part.room as usize;
-        number(&mut places[start..end]);
-    }
-    Ok(places)
-}
-
-// Moves the slot at a place up or down until the order holds. A single key stays.
-#[inline(always)]
-fn settle_among<L: Ledger>(
-    sorted: &mut [WaitingKey],
-    slots: &mut [u32],
-    places: &mut [u32],
-    place: usize,
-    steps: &mut Steps<L>,
-)
-    requires but { IsHeapBut event_before (keys_of sorted.old places.old) slots.old places.old (length sorted.old) place }
-    ensures each { length sorted.new ≡ length sorted.old }
-    ensures keys { keys_of sorted.new places.new ≡ keys_of sorted.old places.old }
-    ensures heap { IsHeap event_before (keys_of sorted.old places.old) slots.new places.new (length sorted.old) }
-    ensures counted { (k : ℕ) → length sorted.old ≤ 2 ^ k → steps.new ≤ steps.old + (2 * k + 1) }
-    ensures onward { steps.old ≤ steps.new }
-{
-    if sorted.len() <= 1 {
-        return;
-    }
-    settle(sorted, slots, places, place, steps);
-}
-
-// Gives a slot a key, if the first `count` places have one. Returns how many have one now.
+// Writes the item of a slot, if the first `count` places have one. Returns how many have one now.
 #[inline(always)]
 fn write<L: Ledger>(
-    sorted: &mut [WaitingKey],
-    slots: &mut [u32],
+    items: &mut [HeapItem<AtZero>],
     places: &mut [u32],
     count: u32,
     slot: u32,
-    key: WaitingKey,
+    item: HeapItem<AtZero>,
     steps: &mut Steps<L>,
 ) -> u32
-    requires heap { IsSlotHeap event_before (take count sorted.old) slots.old places.old (length sorted.old) }
-    requires room { count ≤ length sorted.old }
+    requires heap { IsSlotHeap event_before (take count items.old) places.old (length items.old) }
+    requires room { count ≤ length items.old }
     requires slot_in { slot < length places.old }
-    ensures each { length sorted.new ≡ length sorted.old }
-    ensures slots_each { length slots.new ≡ length slots.old }
-    ensures places_each { length places.new ≡ length places.old }
-    ensures room { result ≤ length sorted.new }
-    ensures heap { IsSlotHeap event_before (take result sorted.new) slots.new places.new (length sorted.new) }
-    ensures put { keys_of (take result sorted.new) places.new ≡ slice_set (keys_of (take count sorted.old) places.old) slot (Some key) }
+    requires item { item.slot ≡ slot }
+    ensures each { length items.new ≡ length items.old }
+    ensures room { result ≤ length items.new }
+    ensures heap { IsSlotHeap event_before (take result items.new) places.new (length items.new) }
+    ensures put { placed (length places.new) (take result items.new) ≡ slice_set (placed (length places.old) (take count items.old)) slot (Some item.key) }
     ensures counted { (k : ℕ) → length places.old ≤ 2 ^ k → steps.new ≤ steps.old + (2 * k + 1) }
     ensures onward { steps.old ≤ steps.new }
 {
-    let place = places[slot as usize];
-    if place < count {
-        let keys = &mut sorted[..count as usize];
-        keys[place as usize] = key;
-        settle_among(keys, slots, places, place as usize, steps);
-        return count;
-    }
     let last = count as usize;
-    let keys = &mut sorted[..last + 1];
-    keys[last] = key;
-    swap(slots, places, place as usize, last);
-    settle_among(keys, slots, places, last, steps);
-    count + 1
+    match place_of(&items[..last], places, slot) {
+        Some(place) => {
+            let front = &mut items[..last];
+            front[place] = item;
+            settle::<_, Noted, _>(front, places, place, steps);
+            count
+        }
+        None => {
+            let front = &mut items[..last + 1];
+            front[last] = item;
+            rise::<_, Noted, _>(front, places, last, steps);
+            count + 1
+        }
+    }
 }
 
-// Removes the key of a slot, if the first `count` places have one. Returns how many have one now.
+// Removes the item of a slot, if the first `count` places have one. Returns how many have one now.
 #[inline(always)]
 fn erase<L: Ledger>(
-    sorted: &mut [WaitingKey],
-    slots: &mut [u32],
+    items: &mut [HeapItem<AtZero>],
     places: &mut [u32],
     count: u32,
     slot: u32,
     steps: &mut Steps<L>,
 ) -> u32
-    requires heap { IsSlotHeap event_before (take count sorted.old) slots.old places.old (length sorted.old) }
-    requires room { count ≤ length sorted.old }
+    requires heap { IsSlotHeap event_before (take count items.old) places.old (length items.old) }
+    requires room { count ≤ length items.old }
     requires slot_in { slot < length places.old }
-    ensures each { length sorted.new ≡ length sorted.old }
-    ensures slots_each { length slots.new ≡ length slots.old }
-    ensures places_each { length places.new ≡ length places.old }
-    ensures room { result ≤ length sorted.new }
-    ensures heap { IsSlotHeap event_before (take result sorted.new) slots.new places.new (length sorted.new) }
-    ensures dropped { keys_of (take result sorted.new) places.new ≡ slice_set (keys_of (take count sorted.old) places.old) slot None }
+    ensures each { length items.new ≡ length items.old }
+    ensures room { result ≤ length items.new }
+    ensures heap { IsSlotHeap event_before (take result items.new) places.new (length items.new) }
+    ensures dropped { placed (length places.new) (take result items.new) ≡ slice_set (placed (length places.old) (take count items.old)) slot None }
     ensures counted { (k : ℕ) → length places.old ≤ 2 ^ k → steps.new ≤ steps.old + (2 * k + 1) }
     ensures onward { steps.old ≤ steps.new }
 {
-    let place = places[slot as usize];
-    if place >= count {
+    let Some(place) = place_of(&items[..count as usize], places, slot) else {
         return count;
-    }
+    };
     let left = count - 1;
-    let last = sorted[left as usize];
-    swap(slots, places, place as usize, left as usize);
-    if place == left {
+    if place as u32 == left {
         return left;
     }
-    let keys = &mut sorted[..left as usize];
-    keys[place as usize] = last;
-    settle_among(keys, slots, places, place as usize, steps);
+    let last = items[left as usize];
+    let front = &mut items[..left as usize];
+    front[place] = last;
+    settle::<_, Noted, _>(front, places, place, steps);
     left
 }
 
@@ -170,18 +114,15 @@ impl SlotHeaps {
     /// Creates heaps with as many slots each as `counts` says, without keys. It allocates all its memory here. `Err`
     /// means out of memory.
     pub fn new(alloc: Global, counts: &[u32]) -> Result<SlotHeaps, NoMemory>
-        requires { sum counts.now < 2 ^ 32 }
+        requires { sum counts.now ≤ MAX_SLOTS }
         ensures { IfOk result (λ heaps. heaps ≡ map no_keys counts.now) }
     {
         let (parts, size) = parts(alloc, counts)?;
-        let none = WaitingKey::new(CompactKey::from_tail(0, 0));
-        let sorted = vec![in alloc; none; size as usize]?;
-        let slots = in_order(alloc, &parts, size)?;
-        let places = Vec::from_slice(alloc, &slots)?;
+        let items = no_items(alloc, size as usize)?;
+        let places = vec![in alloc; 0; size as usize]?;
         Ok(SlotHeaps {
             parts,
-            sorted,
-            slots,
+            items,
             places,
         })
     }
@@ -201,17 +142,16 @@ impl SlotHeaps {
         ensures counted { (k : ℕ) → length (heap_at self.old home.group) ≤ 2 ^ k → steps.new ≤ steps.old + (2 * k + 1) }
         ensures onward { steps.old ≤ steps.new }
     {
-        let key = WaitingKey::new(key);
         let part = self.parts[home.group as usize];
+        let item = HeapItem::new(key, home.place);
         let start = part.start as usize;
         let end = start + part.room as usize;
         let count = write(
-            &mut self.sorted[start..end],
-            &mut self.slots[start..end],
+            &mut self.items[start..end],
             &mut self.places[start..end],
             part.count,
             home.place,
-            key,
+            item,
             steps,
         );
         self.parts[home.group as usize] = Part { count, ..part };
@@ -229,8 +169,7 @@ impl SlotHeaps {
         let start = part.start as usize;
         let end = start + part.room as usize;
         let count = erase(
-            &mut self.sorted[start..end],
-            &mut self.slots[start..end],
+            &mut self.items[start..end],
             &mut self.places[start..end],
             part.count,
             home.place,
@@ -249,6 +188,6 @@ impl SlotHeaps {
         if part.count == 0 {
             return None;
         }
-        Some(self.sorted[part.start as usize].key())
+        Some(self.items[part.start as usize].key())
     }
 }

@@ -1,145 +1,248 @@
-use Rattle.std.proofs.Common.{◌≡◌, ◌<◌, ◌+◌, ◌-◌, ◌++◌, ◌∷◌, [], ℕ, List, length, set, take, drop, slice_index, refl, sym, ap, ◌∙◌, subst, arith}
-use Rattle.std.proofs.lemmas.List.{length-append, length-drop, length-set, length-take-le, take_at, take_more}
-use Rattle.std.proofs.lemmas.Option.{slice_get_read, get_or_from_slice_get}
+use Rattle.std.proofs.Common.{◌≡◌, ◌<◌, ◌-◌, ◌++◌, ◌∷◌, [], ℕ, List, Some, None, length, take, drop, get_or, slice_get, slice_set, refl, sym, ap, ◌∙◌, subst, arith, rules}
+use Rattle.std.proofs.lemmas.List.{length-append, length-drop, length-set, length-take-le, set-get_or, take_at}
+use Rattle.std.proofs.lemmas.Option.{slice_get-get_or, slice_get_read, slice_get_within}
+use borrow.Author.Rules.{scaled_Fits}
 use Rattle.goal_graph.specs.declared.action.Timed.{Timed}
 use Rattle.sim_order.specs.Events.{event_before}
-use Rattle.sim_queue.specs.Heap.{keys_of, IsSlotHeap}
-use Rattle.sim_stations.proofs.SlotParts.{slot_heap_after_settling, places_room, places_length_after_leaving, keys_moved, ordered_but_moved, keys_left, heap_left}
+use Rattle.sim_queue.specs.Item.{Item}
+use Rattle.sim_queue.specs.TopHeap.{placed, IsSlotHeap}
+use Rattle.sim_queue.proofs.ForCallers.{no_key}
+use Rattle.sim_stations.proofs.SlotParts.{before_last, fits, left_noted, left_but, left_heap, left_keys, rest_heap, rest_keys}
 use Rattle.sim_stations.proofs.slot_heaps.erase.Goals as goal
+
+pub returns-in_default-clause-dropped : goal.returns-in_default-clause-dropped
+returns-in_default-clause-dropped g c =
+    let items = c.args.items.now in
+    let places = c.args.places.now in
+    let count : ℕ = c.args.count in
+    let slot = c.args.slot in
+    let size : ℕ = length items in
+    let front = take count items in
+    let heap = c.requires.heap in
+    let many : length front ≡ count = length-take-le count items c.requires.room in
+    let keys = placed (length places) front in
+    let none = no_key (length places) front places slot c.requires.slot_in heap.noted (c.in_default.ensures.none refl) in
+    sym (ap (slice_set keys slot) (sym none) ∙ set-get_or keys slot None)
+
+pub overflow_cast-place : goal.overflow_cast-place
+overflow_cast-place g c =
+    let items = c.args.items.now in
+    let places = c.args.places.now in
+    let count : ℕ = c.args.count in
+    let slot = c.args.slot in
+    let size : ℕ = length items in
+    let front = take count items in
+    let heap = c.requires.heap in
+    let many : length front ≡ count = length-take-le count items c.requires.room in
+    let at : ℕ = c.in-Some.place in
+    let there = c.in-Some.ensures.some in
+    let within : at < count = omega (arith, slice_get_within front at there.0 there.1, many) in
+    omega (arith, within, fits front places size heap slot, many, heap.few)
 
 pub returns-then-place-left-clause-heap : goal.returns-then-place-left-clause-heap
 returns-then-place-left-clause-heap g c =
-    let sorted = c.args.sorted.now in
-    let slots = c.args.slots.now in
+    let items = c.args.items.now in
     let places = c.args.places.now in
+    let count : ℕ = c.args.count in
     let slot = c.args.slot in
-    let count = c.args.count in
-    let size : ℕ = length sorted in
-    let keys = take count sorted in
+    let size : ℕ = length items in
+    let front = take count items in
     let heap = c.requires.heap in
-    let within : slot < length places = c.requires.slot_in in
-    let many : length keys ≡ count = length-take-le count sorted c.requires.room in
-    let room = places_room keys slots places size heap slot within in
-    let left : ℕ = count - 1 in
-    let present : slice_index places slot < count = omega (arith, c.if-place-count.false) in
-    let more : count ≡ left + 1 = omega (arith, present) in
-    let left_in : left < size = omega (arith, more, c.requires.room) in
-    let rest = take left sorted in
-    let last = c.index-sorted-left.result in
-    let there = slice_get_read sorted size left last refl left_in c.index-sorted-left.is in
-    let are : keys ≡ rest ++ last ∷ [] = ap (λ n. take n sorted) more ∙ take_more sorted left last left_in ∙ ap (λ y. rest ++ y ∷ []) (get_or_from_slice_get sorted left last last there) in
-    let same : left ≡ length rest = sym (length-take-le left sorted (omega (arith, left_in))) in
-    let stays : slice_index places slot ≡ left = omega (arith, c.if-place-left.true) in
-    heap_left keys slots places size heap slot within rest last are left same c.swap.new.slots c.swap.new.places c.swap.ensures.swapped c.swap.ensures.places stays
+    let many : length front ≡ count = length-take-le count items c.requires.room in
+    let at : ℕ = c.in-Some.place in
+    let there = c.in-Some.ensures.some in
+    let within : at < count = omega (arith, slice_get_within front at there.0 there.1, many) in
+    let rest = take (count - 1) items in
+    let few_left : length rest ≡ count - 1 = length-take-le (count - 1) items (omega (arith, c.requires.room)) in
+    let any = there.0 in
+    let last = get_or items (count - 1) any in
+    let are : front ≡ rest ++ last ∷ [] = before_last items count last (omega (arith, within)) c.requires.room (slice_get-get_or items (count - 1) any (omega (arith, within, c.requires.room))) in
+    let was_last : at ≡ length rest = omega (arith, few_left, c.if-place-left.true) in
+    rest_heap front places size heap slot rest last are at there was_last
 
 pub returns-then-place-left-clause-dropped : goal.returns-then-place-left-clause-dropped
 returns-then-place-left-clause-dropped g c =
-    let sorted = c.args.sorted.now in
-    let slots = c.args.slots.now in
+    let items = c.args.items.now in
     let places = c.args.places.now in
+    let count : ℕ = c.args.count in
     let slot = c.args.slot in
-    let count = c.args.count in
-    let size : ℕ = length sorted in
-    let keys = take count sorted in
+    let size : ℕ = length items in
+    let front = take count items in
     let heap = c.requires.heap in
-    let within : slot < length places = c.requires.slot_in in
-    let many : length keys ≡ count = length-take-le count sorted c.requires.room in
-    let room = places_room keys slots places size heap slot within in
-    let left : ℕ = count - 1 in
-    let present : slice_index places slot < count = omega (arith, c.if-place-count.false) in
-    let more : count ≡ left + 1 = omega (arith, present) in
-    let left_in : left < size = omega (arith, more, c.requires.room) in
-    let rest = take left sorted in
-    let last = c.index-sorted-left.result in
-    let there = slice_get_read sorted size left last refl left_in c.index-sorted-left.is in
-    let are : keys ≡ rest ++ last ∷ [] = ap (λ n. take n sorted) more ∙ take_more sorted left last left_in ∙ ap (λ y. rest ++ y ∷ []) (get_or_from_slice_get sorted left last last there) in
-    let same : left ≡ length rest = sym (length-take-le left sorted (omega (arith, left_in))) in
-    let stays : slice_index places slot ≡ left = omega (arith, c.if-place-left.true) in
-    keys_left keys slots places size heap slot within rest last are left same c.swap.new.slots c.swap.new.places c.swap.ensures.swapped c.swap.ensures.places stays
+    let many : length front ≡ count = length-take-le count items c.requires.room in
+    let at : ℕ = c.in-Some.place in
+    let there = c.in-Some.ensures.some in
+    let within : at < count = omega (arith, slice_get_within front at there.0 there.1, many) in
+    let rest = take (count - 1) items in
+    let few_left : length rest ≡ count - 1 = length-take-le (count - 1) items (omega (arith, c.requires.room)) in
+    let any = there.0 in
+    let last = get_or items (count - 1) any in
+    let are : front ≡ rest ++ last ∷ [] = before_last items count last (omega (arith, within)) c.requires.room (slice_get-get_or items (count - 1) any (omega (arith, within, c.requires.room))) in
+    let was_last : at ≡ length rest = omega (arith, few_left, c.if-place-left.true) in
+    rest_keys front places size heap slot rest last are at there was_last
 
-pub settle_among-requires : goal.settle_among-requires
-settle_among-requires g c =
-    let sorted = c.args.sorted.now in
-    let slots = c.args.slots.now in
+pub offset_bounds-front-place : goal.offset_bounds-front-place
+offset_bounds-front-place g c =
+    let items = c.args.items.now in
     let places = c.args.places.now in
+    let count : ℕ = c.args.count in
     let slot = c.args.slot in
-    let count = c.args.count in
-    let size : ℕ = length sorted in
-    let keys = take count sorted in
+    let size : ℕ = length items in
+    let front = take count items in
     let heap = c.requires.heap in
-    let within : slot < length places = c.requires.slot_in in
-    let many : length keys ≡ count = length-take-le count sorted c.requires.room in
-    let room = places_room keys slots places size heap slot within in
-    let left : ℕ = count - 1 in
-    let present : slice_index places slot < count = omega (arith, c.if-place-count.false) in
-    let more : count ≡ left + 1 = omega (arith, present) in
-    let left_in : left < size = omega (arith, more, c.requires.room) in
-    let rest = take left sorted in
-    let last = c.index-sorted-left.result in
-    let there = slice_get_read sorted size left last refl left_in c.index-sorted-left.is in
-    let are : keys ≡ rest ++ last ∷ [] = ap (λ n. take n sorted) more ∙ take_more sorted left last left_in ∙ ap (λ y. rest ++ y ∷ []) (get_or_from_slice_get sorted left last last there) in
-    let same : left ≡ length rest = sym (length-take-le left sorted (omega (arith, left_in))) in
-    let moves : slice_index places slot < left = omega (arith, c.if-place-left.false, present, more) in
-    record { but = ordered_but_moved keys slots places size heap slot within rest last are left same c.swap.new.slots c.swap.new.places c.swap.ensures.swapped c.swap.ensures.places moves }
+    let many : length front ≡ count = length-take-le count items c.requires.room in
+    let at : ℕ = c.in-Some.place in
+    let there = c.in-Some.ensures.some in
+    let within : at < count = omega (arith, slice_get_within front at there.0 there.1, many) in
+    scaled_Fits c.in-Some.place (length c.args.items.now) _ (omega (arith, within, c.requires.room)) (search rules)
+
+pub bounds-front-place : goal.bounds-front-place
+bounds-front-place g c =
+    let items = c.args.items.now in
+    let places = c.args.places.now in
+    let count : ℕ = c.args.count in
+    let slot = c.args.slot in
+    let size : ℕ = length items in
+    let front = take count items in
+    let heap = c.requires.heap in
+    let many : length front ≡ count = length-take-le count items c.requires.room in
+    let at : ℕ = c.in-Some.place in
+    let there = c.in-Some.ensures.some in
+    let within : at < count = omega (arith, slice_get_within front at there.0 there.1, many) in
+    let rest = take (count - 1) items in
+    let few_left : length rest ≡ count - 1 = length-take-le (count - 1) items (omega (arith, c.requires.room)) in
+    omega (arith, few_left, within, c.if-place-left.false)
+
+pub settle-requires-clause-place : goal.settle-requires-clause-place
+settle-requires-clause-place g c =
+    let items = c.args.items.now in
+    let places = c.args.places.now in
+    let count : ℕ = c.args.count in
+    let slot = c.args.slot in
+    let size : ℕ = length items in
+    let front = take count items in
+    let heap = c.requires.heap in
+    let many : length front ≡ count = length-take-le count items c.requires.room in
+    let at : ℕ = c.in-Some.place in
+    let there = c.in-Some.ensures.some in
+    let within : at < count = omega (arith, slice_get_within front at there.0 there.1, many) in
+    let rest = take (count - 1) items in
+    let few_left : length rest ≡ count - 1 = length-take-le (count - 1) items (omega (arith, c.requires.room)) in
+    omega (arith, length-set rest at c.index-items-left.result, few_left, within, c.if-place-left.false)
+
+pub settle-requires-clause-noted : goal.settle-requires-clause-noted
+settle-requires-clause-noted g c =
+    let items = c.args.items.now in
+    let places = c.args.places.now in
+    let count : ℕ = c.args.count in
+    let slot = c.args.slot in
+    let size : ℕ = length items in
+    let front = take count items in
+    let heap = c.requires.heap in
+    let many : length front ≡ count = length-take-le count items c.requires.room in
+    let at : ℕ = c.in-Some.place in
+    let there = c.in-Some.ensures.some in
+    let within : at < count = omega (arith, slice_get_within front at there.0 there.1, many) in
+    let rest = take (count - 1) items in
+    let few_left : length rest ≡ count - 1 = length-take-le (count - 1) items (omega (arith, c.requires.room)) in
+    let last = c.index-items-left.result in
+    let is_last : slice_get items (count - 1) ≡ Some last = slice_get_read items (length items) (count - 1) last refl (omega (arith, within, c.requires.room)) c.index-items-left.is in
+    let are : front ≡ rest ++ last ∷ [] = before_last items count last (omega (arith, within)) c.requires.room is_last in
+    let some : at < length rest = omega (arith, few_left, within, c.if-place-left.false) in
+    left_noted front places size heap slot rest last are at there some
+
+pub settle-requires-clause-but : goal.settle-requires-clause-but
+settle-requires-clause-but g c =
+    let items = c.args.items.now in
+    let places = c.args.places.now in
+    let count : ℕ = c.args.count in
+    let slot = c.args.slot in
+    let size : ℕ = length items in
+    let front = take count items in
+    let heap = c.requires.heap in
+    let many : length front ≡ count = length-take-le count items c.requires.room in
+    let at : ℕ = c.in-Some.place in
+    let there = c.in-Some.ensures.some in
+    let within : at < count = omega (arith, slice_get_within front at there.0 there.1, many) in
+    let rest = take (count - 1) items in
+    let few_left : length rest ≡ count - 1 = length-take-le (count - 1) items (omega (arith, c.requires.room)) in
+    let last = c.index-items-left.result in
+    let is_last : slice_get items (count - 1) ≡ Some last = slice_get_read items (length items) (count - 1) last refl (omega (arith, within, c.requires.room)) c.index-items-left.is in
+    let are : front ≡ rest ++ last ∷ [] = before_last items count last (omega (arith, within)) c.requires.room is_last in
+    let some : at < length rest = omega (arith, few_left, within, c.if-place-left.false) in
+    left_but front places size heap slot rest last are at there some
 
 pub returns-clause-heap : goal.returns-clause-heap
 returns-clause-heap g c =
-    let sorted = c.args.sorted.now in
-    let slots = c.args.slots.now in
+    let items = c.args.items.now in
     let places = c.args.places.now in
+    let count : ℕ = c.args.count in
     let slot = c.args.slot in
-    let count = c.args.count in
-    let size : ℕ = length sorted in
-    let keys = take count sorted in
+    let size : ℕ = length items in
+    let front = take count items in
     let heap = c.requires.heap in
-    let within : slot < length places = c.requires.slot_in in
-    let many : length keys ≡ count = length-take-le count sorted c.requires.room in
-    let room = places_room keys slots places size heap slot within in
-    let left : ℕ = count - 1 in
-    let present : slice_index places slot < count = omega (arith, c.if-place-count.false) in
-    let more : count ≡ left + 1 = omega (arith, present) in
-    let left_in : left < size = omega (arith, more, c.requires.room) in
-    let rest = take left sorted in
-    let last = c.index-sorted-left.result in
-    let there = slice_get_read sorted size left last refl left_in c.index-sorted-left.is in
-    let are : keys ≡ rest ++ last ∷ [] = ap (λ n. take n sorted) more ∙ take_more sorted left last left_in ∙ ap (λ y. rest ++ y ∷ []) (get_or_from_slice_get sorted left last last there) in
-    let same : left ≡ length rest = sym (length-take-le left sorted (omega (arith, left_in))) in
-    let moves : slice_index places slot < left = omega (arith, c.if-place-left.false, present, more) in
-    let old : List Timed = set rest (slice_index places slot) last in
-    let new = c.settle_among.new.sorted in
-    let each : length new ≡ left = omega (arith, c.settle_among.ensures.each, length-set rest (slice_index places slot) last, same) in
-    let front : take (left) (new ++ drop (left) sorted) ≡ new = take_at new (drop (left) sorted) (left) each in
-    let long : length (new ++ drop (left) sorted) ≡ size = omega (arith, length-append new (drop (left) sorted), length-drop (left) sorted, each, left_in) in
-    subst (λ (xs : List Timed). IsSlotHeap event_before xs c.settle_among.new.slots c.settle_among.new.places (length (new ++ drop left sorted))) (sym front)
-    (subst (IsSlotHeap event_before new c.settle_among.new.slots c.settle_among.new.places) (sym long)
-    (slot_heap_after_settling old c.swap.new.places c.settle_among.new.slots c.settle_among.new.places (length old) c.settle_among.ensures.heap new size c.settle_among.ensures.each (omega (arith, places_length_after_leaving keys slots places size heap slot within rest last are left same c.swap.new.slots c.swap.new.places c.swap.ensures.swapped c.swap.ensures.places, room)) c.settle_among.ensures.keys))
+    let many : length front ≡ count = length-take-le count items c.requires.room in
+    let at : ℕ = c.in-Some.place in
+    let there = c.in-Some.ensures.some in
+    let within : at < count = omega (arith, slice_get_within front at there.0 there.1, many) in
+    let rest = take (count - 1) items in
+    let few_left : length rest ≡ count - 1 = length-take-le (count - 1) items (omega (arith, c.requires.room)) in
+    let last = c.index-items-left.result in
+    let is_last : slice_get items (count - 1) ≡ Some last = slice_get_read items (length items) (count - 1) last refl (omega (arith, within, c.requires.room)) c.index-items-left.is in
+    let are : front ≡ rest ++ last ∷ [] = before_last items count last (omega (arith, within)) c.requires.room is_last in
+    let some : at < length rest = omega (arith, few_left, within, c.if-place-left.false) in
+    let new = c.settle.new.items in
+    let ps = c.settle.new.places in
+    let each : length new ≡ count - 1 = omega (arith, c.settle.ensures.moved.each, length-set rest at last, few_left) in
+    let whole : take (count - 1) (new ++ drop (count - 1) items) ≡ new = take_at new (drop (count - 1) items) (count - 1) each in
+    let long : length (new ++ drop (count - 1) items) ≡ size = omega (arith, length-append new (drop (count - 1) items), length-drop (count - 1) items, each, within, c.requires.room) in
+    let sized : length ps ≡ length places = omega (arith, c.settle.auto.places) in
+    subst (λ (xs : List (Item Timed)). IsSlotHeap event_before xs ps (length (new ++ drop (count - 1) items))) (sym whole)
+    (subst (IsSlotHeap event_before new ps) (sym long)
+    (left_heap front places size heap slot rest last are at there some new ps c.settle.ensures.moved sized c.settle.ensures.noted c.settle.ensures.ordered))
 
 pub returns-clause-dropped : goal.returns-clause-dropped
 returns-clause-dropped g c =
-    let sorted = c.args.sorted.now in
-    let slots = c.args.slots.now in
+    let items = c.args.items.now in
     let places = c.args.places.now in
+    let count : ℕ = c.args.count in
     let slot = c.args.slot in
-    let count = c.args.count in
-    let size : ℕ = length sorted in
-    let keys = take count sorted in
+    let size : ℕ = length items in
+    let front = take count items in
     let heap = c.requires.heap in
-    let within : slot < length places = c.requires.slot_in in
-    let many : length keys ≡ count = length-take-le count sorted c.requires.room in
-    let room = places_room keys slots places size heap slot within in
-    let left : ℕ = count - 1 in
-    let present : slice_index places slot < count = omega (arith, c.if-place-count.false) in
-    let more : count ≡ left + 1 = omega (arith, present) in
-    let left_in : left < size = omega (arith, more, c.requires.room) in
-    let rest = take left sorted in
-    let last = c.index-sorted-left.result in
-    let there = slice_get_read sorted size left last refl left_in c.index-sorted-left.is in
-    let are : keys ≡ rest ++ last ∷ [] = ap (λ n. take n sorted) more ∙ take_more sorted left last left_in ∙ ap (λ y. rest ++ y ∷ []) (get_or_from_slice_get sorted left last last there) in
-    let same : left ≡ length rest = sym (length-take-le left sorted (omega (arith, left_in))) in
-    let moves : slice_index places slot < left = omega (arith, c.if-place-left.false, present, more) in
-    let old : List Timed = set rest (slice_index places slot) last in
-    let new = c.settle_among.new.sorted in
-    let each : length new ≡ left = omega (arith, c.settle_among.ensures.each, length-set rest (slice_index places slot) last, same) in
-    let front : take (left) (new ++ drop (left) sorted) ≡ new = take_at new (drop (left) sorted) (left) each in
-    let long : length (new ++ drop (left) sorted) ≡ size = omega (arith, length-append new (drop (left) sorted), length-drop (left) sorted, each, left_in) in
-    ap (λ (xs : List Timed). keys_of xs c.settle_among.new.places) front ∙ c.settle_among.ensures.keys ∙ keys_moved keys slots places size heap slot within rest last are left same c.swap.new.slots c.swap.new.places c.swap.ensures.swapped c.swap.ensures.places moves
+    let many : length front ≡ count = length-take-le count items c.requires.room in
+    let at : ℕ = c.in-Some.place in
+    let there = c.in-Some.ensures.some in
+    let within : at < count = omega (arith, slice_get_within front at there.0 there.1, many) in
+    let rest = take (count - 1) items in
+    let few_left : length rest ≡ count - 1 = length-take-le (count - 1) items (omega (arith, c.requires.room)) in
+    let last = c.index-items-left.result in
+    let is_last : slice_get items (count - 1) ≡ Some last = slice_get_read items (length items) (count - 1) last refl (omega (arith, within, c.requires.room)) c.index-items-left.is in
+    let are : front ≡ rest ++ last ∷ [] = before_last items count last (omega (arith, within)) c.requires.room is_last in
+    let some : at < length rest = omega (arith, few_left, within, c.if-place-left.false) in
+    let new = c.settle.new.items in
+    let ps = c.settle.new.places in
+    let each : length new ≡ count - 1 = omega (arith, c.settle.ensures.moved.each, length-set rest at last, few_left) in
+    let whole : take (count - 1) (new ++ drop (count - 1) items) ≡ new = take_at new (drop (count - 1) items) (count - 1) each in
+    let long : length (new ++ drop (count - 1) items) ≡ size = omega (arith, length-append new (drop (count - 1) items), length-drop (count - 1) items, each, within, c.requires.room) in
+    let sized : length ps ≡ length places = omega (arith, c.settle.auto.places) in
+    ap (placed (length ps)) whole ∙ left_keys front places size heap slot rest last are at there some new ps c.settle.ensures.moved sized
+
+pub returns-clause-counted : goal.returns-clause-counted
+returns-clause-counted g c =
+    let items = c.args.items.now in
+    let places = c.args.places.now in
+    let count : ℕ = c.args.count in
+    let slot = c.args.slot in
+    let size : ℕ = length items in
+    let front = take count items in
+    let heap = c.requires.heap in
+    let many : length front ≡ count = length-take-le count items c.requires.room in
+    let at : ℕ = c.in-Some.place in
+    let there = c.in-Some.ensures.some in
+    let within : at < count = omega (arith, slice_get_within front at there.0 there.1, many) in
+    let rest = take (count - 1) items in
+    let few_left : length rest ≡ count - 1 = length-take-le (count - 1) items (omega (arith, c.requires.room)) in
+    λ k few.
+    let counted = c.settle.ensures.counted k (omega (arith, few, fits front places size heap slot, many, length-set rest at c.index-items-left.result, few_left)) in
+    omega (arith, counted)

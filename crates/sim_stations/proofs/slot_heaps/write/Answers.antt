@@ -1,190 +1,335 @@
-use Rattle.std.proofs.Common.{◌≡◌, ◌<◌, ◌≤◌, ◌+◌, ◌++◌, ℕ, List, length, set, take, drop, slice_index, sym, ap, ◌∙◌, subst, arith}
+use Rattle.std.proofs.Common.{◌≡◌, ◌<◌, ◌+◌, ◌++◌, ◌∷◌, [], ℕ, List, length, set, take, drop, refl, sym, ap, ◌∙◌, subst, arith}
 use Rattle.std.proofs.lemmas.List.{length-append, length-drop, length-set, length-take-le, take_at}
 use Rattle.goal_graph.specs.declared.action.Timed.{Timed}
 use Rattle.sim_order.specs.Events.{event_before}
-use Rattle.sim_queue.specs.Heap.{keys_of, IsHeapBut, IsSlotHeap}
-use Rattle.sim_stations.proofs.SlotParts.{take_with_entered, slot_heap_after_settling, room_in, places_room, keys_replaced, ordered_but_replaced, keys_entered, ordered_but_entered, places_length_after_entering}
+use Rattle.sim_queue.specs.Item.{Item}
+use Rattle.sim_queue.specs.Places.{AreOrdered, AreOrderedBut}
+use Rattle.sim_queue.specs.Sift.{AreMoved}
+use Rattle.sim_queue.specs.TopHeap.{placed, key_there, IsSlotHeap}
+use Rattle.sim_stations.proofs.SlotParts.{entered_at, AreListedBut, fits, replaced_noted, replaced_but, replaced_heap, replaced_keys, one_more, entered_noted, entered_but, entered_heap, entered_keys}
 use Rattle.sim_stations.proofs.slot_heaps.write.Goals as goal
 
-pub settle_among-requires : goal.settle_among-requires
-settle_among-requires g c =
-    let sorted = c.args.sorted.now in
-    let slots = c.args.slots.now in
+pub settle-requires-clause-noted : goal.settle-requires-clause-noted
+settle-requires-clause-noted g c =
+    let items = c.args.items.now in
     let places = c.args.places.now in
-    let slot = c.args.slot in
     let count = c.args.count in
-    let size : ℕ = length sorted in
-    let keys = take count sorted in
+    let slot = c.args.slot in
+    let item = c.args.item in
+    let size : ℕ = length items in
+    let front = take count items in
     let heap = c.requires.heap in
-    let within : slot < length places = c.requires.slot_in in
-    let many : length keys ≡ count = length-take-le count sorted c.requires.room in
-    let room = places_room keys slots places size heap slot within in
-    let there : slice_index places slot < length keys = omega (arith, c.if-place-count.true, many) in
-    record { but = ordered_but_replaced keys slots places size heap slot within c.args.key there }
+    let many : length front ≡ count = length-take-le count items c.requires.room in
+    let at : ℕ = c.in-Some.place in
+    let there = c.in-Some.ensures.some in
+    replaced_noted front places size heap slot item c.requires.item at there
 
-pub returns-then-place-count-clause-heap : goal.returns-then-place-count-clause-heap
-returns-then-place-count-clause-heap g c =
-    let sorted = c.args.sorted.now in
-    let slots = c.args.slots.now in
+pub settle-requires-clause-but : goal.settle-requires-clause-but
+settle-requires-clause-but g c =
+    let items = c.args.items.now in
     let places = c.args.places.now in
-    let slot = c.args.slot in
     let count = c.args.count in
-    let size : ℕ = length sorted in
-    let keys = take count sorted in
+    let slot = c.args.slot in
+    let item = c.args.item in
+    let size : ℕ = length items in
+    let front = take count items in
     let heap = c.requires.heap in
-    let within : slot < length places = c.requires.slot_in in
-    let many : length keys ≡ count = length-take-le count sorted c.requires.room in
-    let room = places_room keys slots places size heap slot within in
-    let there : slice_index places slot < length keys = omega (arith, c.if-place-count.true, many) in
-    let old : List Timed = set keys (slice_index places slot) c.args.key in
-    let new = c.settle_among.new.sorted in
-    let each : length new ≡ count = omega (arith, c.settle_among.ensures.each, length-set keys (slice_index places slot) c.args.key, many) in
-    let front : take (count) (new ++ drop (count) sorted) ≡ new = take_at new (drop (count) sorted) (count) each in
-    let long : length (new ++ drop (count) sorted) ≡ size = omega (arith, length-append new (drop (count) sorted), length-drop (count) sorted, each, c.requires.room) in
-    subst (λ (xs : List Timed). IsSlotHeap event_before xs c.settle_among.new.slots c.settle_among.new.places (length (new ++ drop count sorted))) (sym front)
-    (subst (IsSlotHeap event_before new c.settle_among.new.slots c.settle_among.new.places) (sym long)
-    (slot_heap_after_settling old places c.settle_among.new.slots c.settle_among.new.places (length old) c.settle_among.ensures.heap new size c.settle_among.ensures.each room c.settle_among.ensures.keys))
+    let many : length front ≡ count = length-take-le count items c.requires.room in
+    let at : ℕ = c.in-Some.place in
+    let there = c.in-Some.ensures.some in
+    replaced_but front places size heap slot item c.requires.item at there
 
-pub returns-then-place-count-clause-put : goal.returns-then-place-count-clause-put
-returns-then-place-count-clause-put g c =
-    let sorted = c.args.sorted.now in
-    let slots = c.args.slots.now in
+pub slice_bounds-front-end-in-None : goal.slice_bounds-front-end-in-None
+slice_bounds-front-end-in-None g c =
+    let items = c.args.items.now in
     let places = c.args.places.now in
-    let slot = c.args.slot in
     let count = c.args.count in
-    let size : ℕ = length sorted in
-    let keys = take count sorted in
+    let slot = c.args.slot in
+    let item = c.args.item in
+    let size : ℕ = length items in
+    let front = take count items in
     let heap = c.requires.heap in
-    let within : slot < length places = c.requires.slot_in in
-    let many : length keys ≡ count = length-take-le count sorted c.requires.room in
-    let room = places_room keys slots places size heap slot within in
-    let there : slice_index places slot < length keys = omega (arith, c.if-place-count.true, many) in
-    let old : List Timed = set keys (slice_index places slot) c.args.key in
-    let new = c.settle_among.new.sorted in
-    let each : length new ≡ count = omega (arith, c.settle_among.ensures.each, length-set keys (slice_index places slot) c.args.key, many) in
-    let front : take (count) (new ++ drop (count) sorted) ≡ new = take_at new (drop (count) sorted) (count) each in
-    let long : length (new ++ drop (count) sorted) ≡ size = omega (arith, length-append new (drop (count) sorted), length-drop (count) sorted, each, c.requires.room) in
-    ap (λ (xs : List Timed). keys_of xs c.settle_among.new.places) front ∙ c.settle_among.ensures.keys ∙ keys_replaced keys slots places size heap slot within c.args.key there
+    let many : length front ≡ count = length-take-le count items c.requires.room in
+    let elsewhere = c.in-None.ensures.none refl in
+    let more = one_more front places size heap slot item c.requires.item c.requires.slot_in elsewhere in
+    let count_in : count < size = omega (arith, more, many, heap.reserved) in
+    let at : set (take (count + 1) items) count item ≡ front ++ item ∷ [] = entered_at items count item count_in in
+    omega (arith, count_in)
 
-pub settle_among-requires-2 : goal.settle_among-requires-2
-settle_among-requires-2 g c =
-    let sorted = c.args.sorted.now in
-    let slots = c.args.slots.now in
+pub slice_bounds-front-end-in-None-2 : goal.slice_bounds-front-end-in-None-2
+slice_bounds-front-end-in-None-2 g c =
+    let items = c.args.items.now in
     let places = c.args.places.now in
-    let slot = c.args.slot in
     let count = c.args.count in
-    let size : ℕ = length sorted in
-    let keys = take count sorted in
+    let slot = c.args.slot in
+    let item = c.args.item in
+    let size : ℕ = length items in
+    let front = take count items in
     let heap = c.requires.heap in
-    let within : slot < length places = c.requires.slot_in in
-    let many : length keys ≡ count = length-take-le count sorted c.requires.room in
-    let room = places_room keys slots places size heap slot within in
-    let absent : count ≤ slice_index places slot = omega (arith, c.if-place-count.false) in
-    let count_in : count < size = omega (arith, absent, room_in keys slots places size heap slot within) in
-    let at = take_with_entered sorted count c.args.key count_in in
-    let same : count ≡ length keys = sym many in
-    record {
-      but = subst (λ (xs : List Timed). IsHeapBut event_before (keys_of xs c.swap.new.places) c.swap.new.slots c.swap.new.places (length xs) count) (sym at)
-          (ordered_but_entered keys slots places size heap slot within c.args.key count same absent c.swap.new.slots c.swap.new.places c.swap.ensures.swapped c.swap.ensures.places);
-    }
+    let many : length front ≡ count = length-take-le count items c.requires.room in
+    let elsewhere = c.in-None.ensures.none refl in
+    let more = one_more front places size heap slot item c.requires.item c.requires.slot_in elsewhere in
+    let count_in : count < size = omega (arith, more, many, heap.reserved) in
+    let at : set (take (count + 1) items) count item ≡ front ++ item ∷ [] = entered_at items count item count_in in
+    sym (length-take-le (count + 1) items (omega (arith, count_in)))
 
-pub returns-clause-heap : goal.returns-clause-heap
-returns-clause-heap g c =
-    let sorted = c.args.sorted.now in
-    let slots = c.args.slots.now in
+pub bounds-front-last : goal.bounds-front-last
+bounds-front-last g c =
+    let items = c.args.items.now in
     let places = c.args.places.now in
-    let slot = c.args.slot in
     let count = c.args.count in
-    let size : ℕ = length sorted in
-    let keys = take count sorted in
+    let slot = c.args.slot in
+    let item = c.args.item in
+    let size : ℕ = length items in
+    let front = take count items in
     let heap = c.requires.heap in
-    let within : slot < length places = c.requires.slot_in in
-    let many : length keys ≡ count = length-take-le count sorted c.requires.room in
-    let room = places_room keys slots places size heap slot within in
-    let absent : count ≤ slice_index places slot = omega (arith, c.if-place-count.false) in
-    let count_in : count < size = omega (arith, absent, room_in keys slots places size heap slot within) in
-    let at = take_with_entered sorted count c.args.key count_in in
-    let same : count ≡ length keys = sym many in
-    let old : List Timed = set (take (count + 1) sorted) count c.args.key in
-    let new = c.settle_among-2.new.sorted in
-    let each : length new ≡ count + 1 = omega (arith, c.settle_among-2.ensures.each, length-set (take (count + 1) sorted) count c.args.key, length-take-le (count + 1) sorted (omega (arith, count_in))) in
-    let front : take (count + 1) (new ++ drop (count + 1) sorted) ≡ new = take_at new (drop (count + 1) sorted) (count + 1) each in
-    let long : length (new ++ drop (count + 1) sorted) ≡ size = omega (arith, length-append new (drop (count + 1) sorted), length-drop (count + 1) sorted, each, count_in) in
-    let places_are = places_length_after_entering keys slots places size heap slot within c.args.key count same absent c.swap.new.slots c.swap.new.places c.swap.ensures.swapped c.swap.ensures.places in
-    subst (λ (xs : List Timed). IsSlotHeap event_before xs c.settle_among-2.new.slots c.settle_among-2.new.places (length (new ++ drop (count + 1) sorted))) (sym front)
-    (subst (IsSlotHeap event_before new c.settle_among-2.new.slots c.settle_among-2.new.places) (sym long)
-    (slot_heap_after_settling old c.swap.new.places c.settle_among-2.new.slots c.settle_among-2.new.places (length old) c.settle_among-2.ensures.heap new size c.settle_among-2.ensures.each (omega (arith, places_are, room)) c.settle_among-2.ensures.keys))
+    let many : length front ≡ count = length-take-le count items c.requires.room in
+    let elsewhere = c.in-None.ensures.none refl in
+    let more = one_more front places size heap slot item c.requires.item c.requires.slot_in elsewhere in
+    let count_in : count < size = omega (arith, more, many, heap.reserved) in
+    let at : set (take (count + 1) items) count item ≡ front ++ item ∷ [] = entered_at items count item count_in in
+    omega (arith, length-take-le (count + 1) items (omega (arith, count_in)))
 
-pub returns-clause-put : goal.returns-clause-put
-returns-clause-put g c =
-    let sorted = c.args.sorted.now in
-    let slots = c.args.slots.now in
+pub rise-requires-clause-last : goal.rise-requires-clause-last
+rise-requires-clause-last g c =
+    let items = c.args.items.now in
     let places = c.args.places.now in
+    let count = c.args.count in
     let slot = c.args.slot in
-    let count = c.args.count in
-    let size : ℕ = length sorted in
-    let keys = take count sorted in
+    let item = c.args.item in
+    let size : ℕ = length items in
+    let front = take count items in
     let heap = c.requires.heap in
-    let within : slot < length places = c.requires.slot_in in
-    let many : length keys ≡ count = length-take-le count sorted c.requires.room in
-    let room = places_room keys slots places size heap slot within in
-    let absent : count ≤ slice_index places slot = omega (arith, c.if-place-count.false) in
-    let count_in : count < size = omega (arith, absent, room_in keys slots places size heap slot within) in
-    let at = take_with_entered sorted count c.args.key count_in in
-    let same : count ≡ length keys = sym many in
-    let old : List Timed = set (take (count + 1) sorted) count c.args.key in
-    let new = c.settle_among-2.new.sorted in
-    let each : length new ≡ count + 1 = omega (arith, c.settle_among-2.ensures.each, length-set (take (count + 1) sorted) count c.args.key, length-take-le (count + 1) sorted (omega (arith, count_in))) in
-    let front : take (count + 1) (new ++ drop (count + 1) sorted) ≡ new = take_at new (drop (count + 1) sorted) (count + 1) each in
-    let long : length (new ++ drop (count + 1) sorted) ≡ size = omega (arith, length-append new (drop (count + 1) sorted), length-drop (count + 1) sorted, each, count_in) in
-    ap (λ (xs : List Timed). keys_of xs c.settle_among-2.new.places) front ∙ c.settle_among-2.ensures.keys ∙ ap (λ (xs : List Timed). keys_of xs c.swap.new.places) at
-    ∙ keys_entered keys slots places size heap slot within c.args.key count same absent c.swap.new.slots c.swap.new.places c.swap.ensures.swapped c.swap.ensures.places
+    let many : length front ≡ count = length-take-le count items c.requires.room in
+    let elsewhere = c.in-None.ensures.none refl in
+    let more = one_more front places size heap slot item c.requires.item c.requires.slot_in elsewhere in
+    let count_in : count < size = omega (arith, more, many, heap.reserved) in
+    let at : set (take (count + 1) items) count item ≡ front ++ item ∷ [] = entered_at items count item count_in in
+    omega (arith, ap length at, length-append front (item ∷ []), many)
 
-pub returns-then-place-count-clause-each : goal.returns-then-place-count-clause-each
-returns-then-place-count-clause-each g c =
-    let sorted = c.args.sorted.now in
+pub rise-requires-clause-few : goal.rise-requires-clause-few
+rise-requires-clause-few g c =
+    let items = c.args.items.now in
+    let places = c.args.places.now in
     let count = c.args.count in
-    let keys = take count sorted in
-    let many : length keys ≡ count = length-take-le count sorted c.requires.room in
-    omega (arith, length-append c.settle_among.new.sorted (drop count sorted), length-drop count sorted, c.settle_among.ensures.each, length-set keys (slice_index c.args.places.now c.args.slot) c.args.key, many, c.requires.room)
+    let slot = c.args.slot in
+    let item = c.args.item in
+    let size : ℕ = length items in
+    let front = take count items in
+    let heap = c.requires.heap in
+    let many : length front ≡ count = length-take-le count items c.requires.room in
+    let elsewhere = c.in-None.ensures.none refl in
+    let more = one_more front places size heap slot item c.requires.item c.requires.slot_in elsewhere in
+    let count_in : count < size = omega (arith, more, many, heap.reserved) in
+    let at : set (take (count + 1) items) count item ≡ front ++ item ∷ [] = entered_at items count item count_in in
+    omega (arith, ap length at, length-append front (item ∷ []), more, heap.few)
 
-pub returns-then-place-count-clause-room : goal.returns-then-place-count-clause-room
-returns-then-place-count-clause-room g c =
-    let sorted = c.args.sorted.now in
+pub rise-requires-clause-noted : goal.rise-requires-clause-noted
+rise-requires-clause-noted g c =
+    let items = c.args.items.now in
+    let places = c.args.places.now in
     let count = c.args.count in
-    let keys = take count sorted in
-    let many : length keys ≡ count = length-take-le count sorted c.requires.room in
-    omega (arith, length-append c.settle_among.new.sorted (drop count sorted), c.settle_among.ensures.each, length-set keys (slice_index c.args.places.now c.args.slot) c.args.key, many)
+    let slot = c.args.slot in
+    let item = c.args.item in
+    let size : ℕ = length items in
+    let front = take count items in
+    let heap = c.requires.heap in
+    let many : length front ≡ count = length-take-le count items c.requires.room in
+    let elsewhere = c.in-None.ensures.none refl in
+    let more = one_more front places size heap slot item c.requires.item c.requires.slot_in elsewhere in
+    let count_in : count < size = omega (arith, more, many, heap.reserved) in
+    let at : set (take (count + 1) items) count item ≡ front ++ item ∷ [] = entered_at items count item count_in in
+    subst (λ (xs : List (Item Timed)). AreListedBut xs places count) (sym at)
+    (subst (AreListedBut (front ++ item ∷ []) places) many (entered_noted front places size heap slot item c.requires.item c.requires.slot_in elsewhere))
 
-pub returns-then-place-count-clause-counted : goal.returns-then-place-count-clause-counted
-returns-then-place-count-clause-counted g c =
+pub rise-requires-clause-but : goal.rise-requires-clause-but
+rise-requires-clause-but g c =
+    let items = c.args.items.now in
+    let places = c.args.places.now in
+    let count = c.args.count in
+    let slot = c.args.slot in
+    let item = c.args.item in
+    let size : ℕ = length items in
+    let front = take count items in
+    let heap = c.requires.heap in
+    let many : length front ≡ count = length-take-le count items c.requires.room in
+    let elsewhere = c.in-None.ensures.none refl in
+    let more = one_more front places size heap slot item c.requires.item c.requires.slot_in elsewhere in
+    let count_in : count < size = omega (arith, more, many, heap.reserved) in
+    let at : set (take (count + 1) items) count item ≡ front ++ item ∷ [] = entered_at items count item count_in in
+    subst (λ (xs : List (Item Timed)). AreOrderedBut event_before (key_there xs) (length xs) count) (sym at)
+    (subst (AreOrderedBut event_before (key_there (front ++ item ∷ [])) (length (front ++ item ∷ []))) many (entered_but front places size heap slot item c.requires.item c.requires.slot_in elsewhere))
+
+pub overflow_add-result : goal.overflow_add-result
+overflow_add-result g c =
+    let items = c.args.items.now in
+    let places = c.args.places.now in
+    let count = c.args.count in
+    let slot = c.args.slot in
+    let item = c.args.item in
+    let size : ℕ = length items in
+    let front = take count items in
+    let heap = c.requires.heap in
+    let many : length front ≡ count = length-take-le count items c.requires.room in
+    let elsewhere = c.in-None.ensures.none refl in
+    let more = one_more front places size heap slot item c.requires.item c.requires.slot_in elsewhere in
+    let count_in : count < size = omega (arith, more, many, heap.reserved) in
+    let at : set (take (count + 1) items) count item ≡ front ++ item ∷ [] = entered_at items count item count_in in
+    omega (arith, more, many, heap.few)
+
+pub returns-in-Some-clause-heap : goal.returns-in-Some-clause-heap
+returns-in-Some-clause-heap g c =
+    let items = c.args.items.now in
+    let places = c.args.places.now in
+    let count = c.args.count in
+    let slot = c.args.slot in
+    let item = c.args.item in
+    let size : ℕ = length items in
+    let front = take count items in
+    let heap = c.requires.heap in
+    let many : length front ≡ count = length-take-le count items c.requires.room in
+    let at : ℕ = c.in-Some.place in
+    let there = c.in-Some.ensures.some in
+    let new = c.settle.new.items in
+    let ps = c.settle.new.places in
+    let each : length new ≡ count = omega (arith, c.settle.ensures.moved.each, length-set front at item, many) in
+    let whole : take count (new ++ drop count items) ≡ new = take_at new (drop count items) count each in
+    let long : length (new ++ drop count items) ≡ size = omega (arith, length-append new (drop count items), length-drop count items, each, c.requires.room) in
+    let sized : length ps ≡ length places = omega (arith, c.settle.auto.places) in
+    subst (λ (xs : List (Item Timed)). IsSlotHeap event_before xs ps (length (new ++ drop count items))) (sym whole)
+    (subst (IsSlotHeap event_before new ps) (sym long)
+    (replaced_heap front places size heap slot item c.requires.item at there new ps c.settle.ensures.moved sized c.settle.ensures.noted c.settle.ensures.ordered))
+
+pub returns-in-Some-clause-put : goal.returns-in-Some-clause-put
+returns-in-Some-clause-put g c =
+    let items = c.args.items.now in
+    let places = c.args.places.now in
+    let count = c.args.count in
+    let slot = c.args.slot in
+    let item = c.args.item in
+    let size : ℕ = length items in
+    let front = take count items in
+    let heap = c.requires.heap in
+    let many : length front ≡ count = length-take-le count items c.requires.room in
+    let at : ℕ = c.in-Some.place in
+    let there = c.in-Some.ensures.some in
+    let new = c.settle.new.items in
+    let ps = c.settle.new.places in
+    let each : length new ≡ count = omega (arith, c.settle.ensures.moved.each, length-set front at item, many) in
+    let whole : take count (new ++ drop count items) ≡ new = take_at new (drop count items) count each in
+    let long : length (new ++ drop count items) ≡ size = omega (arith, length-append new (drop count items), length-drop count items, each, c.requires.room) in
+    let sized : length ps ≡ length places = omega (arith, c.settle.auto.places) in
+    ap (placed (length ps)) whole ∙ replaced_keys front places size heap slot item c.requires.item at there new ps c.settle.ensures.moved sized
+
+pub returns-in-Some-clause-counted : goal.returns-in-Some-clause-counted
+returns-in-Some-clause-counted g c =
+    let items = c.args.items.now in
+    let places = c.args.places.now in
+    let count = c.args.count in
+    let slot = c.args.slot in
+    let item = c.args.item in
+    let size : ℕ = length items in
+    let front = take count items in
+    let heap = c.requires.heap in
+    let many : length front ≡ count = length-take-le count items c.requires.room in
+    let at : ℕ = c.in-Some.place in
+    let there = c.in-Some.ensures.some in
     λ k few.
-    let keys = take c.args.count c.args.sorted.now in
-    let heap = c.requires.heap.heap in
-    c.settle_among.ensures.counted k (omega (arith, few, length-set keys (slice_index c.args.places.now c.args.slot) c.args.key, heap.room, heap.inverse.same_length))
+    let counted = c.settle.ensures.counted k (omega (arith, few, fits front places size heap slot, length-set front at item)) in
+    omega (arith, counted)
 
-pub returns-clause-each : goal.returns-clause-each
-returns-clause-each g c =
-    let sorted = c.args.sorted.now in
+pub returns-in-None-clause-room : goal.returns-in-None-clause-room
+returns-in-None-clause-room g c =
+    let items = c.args.items.now in
+    let places = c.args.places.now in
     let count = c.args.count in
+    let slot = c.args.slot in
+    let item = c.args.item in
+    let size : ℕ = length items in
+    let front = take count items in
     let heap = c.requires.heap in
-    let count_in : count < length sorted = omega (arith, c.if-place-count.false, room_in (take count sorted) c.args.slots.now c.args.places.now (length sorted) heap c.args.slot c.requires.slot_in) in
-    omega (arith, length-append c.settle_among-2.new.sorted (drop (count + 1) sorted), length-drop (count + 1) sorted, c.settle_among-2.ensures.each, length-set (take (count + 1) sorted) count c.args.key, length-take-le (count + 1) sorted (omega (arith, count_in)), count_in)
+    let many : length front ≡ count = length-take-le count items c.requires.room in
+    let elsewhere = c.in-None.ensures.none refl in
+    let more = one_more front places size heap slot item c.requires.item c.requires.slot_in elsewhere in
+    let count_in : count < size = omega (arith, more, many, heap.reserved) in
+    let at : set (take (count + 1) items) count item ≡ front ++ item ∷ [] = entered_at items count item count_in in
+    let new = c.rise.new.items in
+    let ps = c.rise.new.places in
+    let moved = subst (λ (xs : List (Item Timed)). AreMoved xs new) at c.rise.ensures.moved in
+    let ordered = subst (λ (xs : List (Item Timed)). AreOrdered event_before (key_there new) (length xs)) at c.rise.ensures.ordered in
+    let each : length new ≡ count + 1 = omega (arith, moved.each, length-append front (item ∷ []), many) in
+    let whole : take (count + 1) (new ++ drop (count + 1) items) ≡ new = take_at new (drop (count + 1) items) (count + 1) each in
+    let long : length (new ++ drop (count + 1) items) ≡ size = omega (arith, length-append new (drop (count + 1) items), length-drop (count + 1) items, each, count_in) in
+    let sized : length ps ≡ length places = omega (arith, c.rise.auto.places) in
+    omega (arith, long, count_in)
 
-pub returns-clause-room : goal.returns-clause-room
-returns-clause-room g c =
-    let sorted = c.args.sorted.now in
+pub returns-in-None-clause-heap : goal.returns-in-None-clause-heap
+returns-in-None-clause-heap g c =
+    let items = c.args.items.now in
+    let places = c.args.places.now in
     let count = c.args.count in
+    let slot = c.args.slot in
+    let item = c.args.item in
+    let size : ℕ = length items in
+    let front = take count items in
     let heap = c.requires.heap in
-    let count_in : count < length sorted = omega (arith, c.if-place-count.false, room_in (take count sorted) c.args.slots.now c.args.places.now (length sorted) heap c.args.slot c.requires.slot_in) in
-    omega (arith, length-append c.settle_among-2.new.sorted (drop (count + 1) sorted), c.settle_among-2.ensures.each, length-set (take (count + 1) sorted) count c.args.key, length-take-le (count + 1) sorted (omega (arith, count_in)))
+    let many : length front ≡ count = length-take-le count items c.requires.room in
+    let elsewhere = c.in-None.ensures.none refl in
+    let more = one_more front places size heap slot item c.requires.item c.requires.slot_in elsewhere in
+    let count_in : count < size = omega (arith, more, many, heap.reserved) in
+    let at : set (take (count + 1) items) count item ≡ front ++ item ∷ [] = entered_at items count item count_in in
+    let new = c.rise.new.items in
+    let ps = c.rise.new.places in
+    let moved = subst (λ (xs : List (Item Timed)). AreMoved xs new) at c.rise.ensures.moved in
+    let ordered = subst (λ (xs : List (Item Timed)). AreOrdered event_before (key_there new) (length xs)) at c.rise.ensures.ordered in
+    let each : length new ≡ count + 1 = omega (arith, moved.each, length-append front (item ∷ []), many) in
+    let whole : take (count + 1) (new ++ drop (count + 1) items) ≡ new = take_at new (drop (count + 1) items) (count + 1) each in
+    let long : length (new ++ drop (count + 1) items) ≡ size = omega (arith, length-append new (drop (count + 1) items), length-drop (count + 1) items, each, count_in) in
+    let sized : length ps ≡ length places = omega (arith, c.rise.auto.places) in
+    subst (λ (xs : List (Item Timed)). IsSlotHeap event_before xs ps (length (new ++ drop (count + 1) items))) (sym whole)
+    (subst (IsSlotHeap event_before new ps) (sym long)
+    (entered_heap front places size heap slot item c.requires.item c.requires.slot_in elsewhere new ps moved sized c.rise.ensures.noted ordered))
 
-pub returns-clause-counted : goal.returns-clause-counted
-returns-clause-counted g c =
+pub returns-in-None-clause-put : goal.returns-in-None-clause-put
+returns-in-None-clause-put g c =
+    let items = c.args.items.now in
+    let places = c.args.places.now in
+    let count = c.args.count in
+    let slot = c.args.slot in
+    let item = c.args.item in
+    let size : ℕ = length items in
+    let front = take count items in
+    let heap = c.requires.heap in
+    let many : length front ≡ count = length-take-le count items c.requires.room in
+    let elsewhere = c.in-None.ensures.none refl in
+    let more = one_more front places size heap slot item c.requires.item c.requires.slot_in elsewhere in
+    let count_in : count < size = omega (arith, more, many, heap.reserved) in
+    let at : set (take (count + 1) items) count item ≡ front ++ item ∷ [] = entered_at items count item count_in in
+    let new = c.rise.new.items in
+    let ps = c.rise.new.places in
+    let moved = subst (λ (xs : List (Item Timed)). AreMoved xs new) at c.rise.ensures.moved in
+    let ordered = subst (λ (xs : List (Item Timed)). AreOrdered event_before (key_there new) (length xs)) at c.rise.ensures.ordered in
+    let each : length new ≡ count + 1 = omega (arith, moved.each, length-append front (item ∷ []), many) in
+    let whole : take (count + 1) (new ++ drop (count + 1) items) ≡ new = take_at new (drop (count + 1) items) (count + 1) each in
+    let long : length (new ++ drop (count + 1) items) ≡ size = omega (arith, length-append new (drop (count + 1) items), length-drop (count + 1) items, each, count_in) in
+    let sized : length ps ≡ length places = omega (arith, c.rise.auto.places) in
+    ap (placed (length ps)) whole ∙ entered_keys front places size heap slot item c.requires.item c.requires.slot_in elsewhere new ps moved sized
+
+pub returns-in-None-clause-counted : goal.returns-in-None-clause-counted
+returns-in-None-clause-counted g c =
+    let items = c.args.items.now in
+    let places = c.args.places.now in
+    let count = c.args.count in
+    let slot = c.args.slot in
+    let item = c.args.item in
+    let size : ℕ = length items in
+    let front = take count items in
+    let heap = c.requires.heap in
+    let many : length front ≡ count = length-take-le count items c.requires.room in
+    let elsewhere = c.in-None.ensures.none refl in
+    let more = one_more front places size heap slot item c.requires.item c.requires.slot_in elsewhere in
+    let count_in : count < size = omega (arith, more, many, heap.reserved) in
+    let at : set (take (count + 1) items) count item ≡ front ++ item ∷ [] = entered_at items count item count_in in
     λ k few.
-    let sorted = c.args.sorted.now in
-    let count = c.args.count in
-    let inverse = c.requires.heap.heap.inverse in
-    let place_in = inverse.place_in c.args.slot (omega (arith, inverse.same_length, c.requires.slot_in)) in
-    let count_in : count < length sorted = omega (arith, c.if-place-count.false, room_in (take count sorted) c.args.slots.now c.args.places.now (length sorted) c.requires.heap c.args.slot c.requires.slot_in) in
-    c.settle_among-2.ensures.counted k (omega (arith, few, length-set (take (count + 1) sorted) count c.args.key, length-take-le (count + 1) sorted (omega (arith, count_in)), c.if-place-count.false, place_in, inverse.same_length))
+    let counted = c.rise.ensures.counted k (omega (arith, few, more, ap length at, length-append front (item ∷ []))) in
+    omega (arith, counted)
