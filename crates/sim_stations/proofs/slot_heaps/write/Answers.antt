@@ -6,7 +6,7 @@ use Rattle.sim_queue.specs.Item.{Item}
 use Rattle.sim_queue.specs.Places.{AreOrdered, AreOrderedBut}
 use Rattle.sim_queue.specs.Sift.{AreMoved}
 use Rattle.sim_queue.specs.TopHeap.{placed, key_there, IsSlotHeap}
-use Rattle.sim_stations.proofs.SlotParts.{entered_at, AreListedBut, fits, replaced_noted, replaced_but, replaced_heap, replaced_keys, one_more, entered_noted, entered_but, entered_heap, entered_keys}
+use Rattle.sim_stations.proofs.SlotParts.{take_with_entered, AreListedBut, fits, replaced_noted, replaced_but, replaced_heap, replaced_keys, one_more, entered_noted, entered_but, entered_heap, entered_keys}
 use Rattle.sim_stations.proofs.slot_heaps.write.Goals as goal
 
 pub settle-requires-clause-noted : goal.settle-requires-clause-noted
@@ -53,7 +53,7 @@ slice_bounds-front-end-in-None g c =
     let elsewhere = c.in-None.ensures.none refl in
     let more = one_more front places size heap slot item c.requires.item c.requires.slot_in elsewhere in
     let count_in : count < size = omega (arith, more, many, heap.reserved) in
-    let at : set (take (count + 1) items) count item ≡ front ++ item ∷ [] = entered_at items count item count_in in
+    let at : set (take (count + 1) items) count item ≡ front ++ item ∷ [] = take_with_entered items count item count_in in
     omega (arith, count_in)
 
 pub slice_bounds-front-end-in-None-2 : goal.slice_bounds-front-end-in-None-2
@@ -70,7 +70,7 @@ slice_bounds-front-end-in-None-2 g c =
     let elsewhere = c.in-None.ensures.none refl in
     let more = one_more front places size heap slot item c.requires.item c.requires.slot_in elsewhere in
     let count_in : count < size = omega (arith, more, many, heap.reserved) in
-    let at : set (take (count + 1) items) count item ≡ front ++ item ∷ [] = entered_at items count item count_in in
+    let at : set (take (count + 1) items) count item ≡ front ++ item ∷ [] = take_with_entered items count item count_in in
     sym (length-take-le (count + 1) items (omega (arith, count_in)))
 
 pub bounds-front-last : goal.bounds-front-last
@@ -87,7 +87,7 @@ bounds-front-last g c =
     let elsewhere = c.in-None.ensures.none refl in
     let more = one_more front places size heap slot item c.requires.item c.requires.slot_in elsewhere in
     let count_in : count < size = omega (arith, more, many, heap.reserved) in
-    let at : set (take (count + 1) items) count item ≡ front ++ item ∷ [] = entered_at items count item count_in in
+    let at : set (take (count + 1) items) count item ≡ front ++ item ∷ [] = take_with_entered items count item count_in in
     omega (arith, length-take-le (count + 1) items (omega (arith, count_in)))
 
 pub rise-requires-clause-last : goal.rise-requires-clause-last
@@ -104,7 +104,7 @@ rise-requires-clause-last g c =
     let elsewhere = c.in-None.ensures.none refl in
     let more = one_more front places size heap slot item c.requires.item c.requires.slot_in elsewhere in
     let count_in : count < size = omega (arith, more, many, heap.reserved) in
-    let at : set (take (count + 1) items) count item ≡ front ++ item ∷ [] = entered_at items count item count_in in
+    let at : set (take (count + 1) items) count item ≡ front ++ item ∷ [] = take_with_entered items count item count_in in
     omega (arith, ap length at, length-append front (item ∷ []), many)
 
 pub rise-requires-clause-few : goal.rise-requires-clause-few
@@ -121,7 +121,7 @@ rise-requires-clause-few g c =
     let elsewhere = c.in-None.ensures.none refl in
     let more = one_more front places size heap slot item c.requires.item c.requires.slot_in elsewhere in
     let count_in : count < size = omega (arith, more, many, heap.reserved) in
-    let at : set (take (count + 1) items) count item ≡ front ++ item ∷ [] = entered_at items count item count_in in
+    let at : set (take (count + 1) items) count item ≡ front ++ item ∷ [] = take_with_entered items count item count_in in
     omega (arith, ap length at, length-append front (item ∷ []), more, heap.few)
 
 pub rise-requires-clause-noted : goal.rise-requires-clause-noted
@@ -138,7 +138,7 @@ rise-requires-clause-noted g c =
     let elsewhere = c.in-None.ensures.none refl in
     let more = one_more front places size heap slot item c.requires.item c.requires.slot_in elsewhere in
     let count_in : count < size = omega (arith, more, many, heap.reserved) in
-    let at : set (take (count + 1) items) count item ≡ front ++ item ∷ [] = entered_at items count item count_in in
+    let at : set (take (count + 1) items) count item ≡ front ++ item ∷ [] = take_with_entered items count item count_in in
     subst (λ (xs : List (Item Timed)). AreListedBut xs places count) (sym at)
     (subst (AreListedBut (front ++ item ∷ []) places) many (entered_noted front places size heap slot item c.requires.item c.requires.slot_in elsewhere))
 
@@ -156,7 +156,7 @@ rise-requires-clause-but g c =
     let elsewhere = c.in-None.ensures.none refl in
     let more = one_more front places size heap slot item c.requires.item c.requires.slot_in elsewhere in
     let count_in : count < size = omega (arith, more, many, heap.reserved) in
-    let at : set (take (count + 1) items) count item ≡ front ++ item ∷ [] = entered_at items count item count_in in
+    let at : set (take (count + 1) items) count item ≡ front ++ item ∷ [] = take_with_entered items count item count_in in
     subst (λ (xs : List (Item Timed)). AreOrderedBut event_before (key_there xs) (length xs) count) (sym at)
     (subst (AreOrderedBut event_before (key_there (front ++ item ∷ [])) (length (front ++ item ∷ []))) many (entered_but front places size heap slot item c.requires.item c.requires.slot_in elsewhere))
 
@@ -174,7 +174,7 @@ overflow_add-result g c =
     let elsewhere = c.in-None.ensures.none refl in
     let more = one_more front places size heap slot item c.requires.item c.requires.slot_in elsewhere in
     let count_in : count < size = omega (arith, more, many, heap.reserved) in
-    let at : set (take (count + 1) items) count item ≡ front ++ item ∷ [] = entered_at items count item count_in in
+    let at : set (take (count + 1) items) count item ≡ front ++ item ∷ [] = take_with_entered items count item count_in in
     omega (arith, more, many, heap.few)
 
 pub returns-in-Some-clause-heap : goal.returns-in-Some-clause-heap
@@ -252,7 +252,7 @@ returns-in-None-clause-room g c =
     let elsewhere = c.in-None.ensures.none refl in
     let more = one_more front places size heap slot item c.requires.item c.requires.slot_in elsewhere in
     let count_in : count < size = omega (arith, more, many, heap.reserved) in
-    let at : set (take (count + 1) items) count item ≡ front ++ item ∷ [] = entered_at items count item count_in in
+    let at : set (take (count + 1) items) count item ≡ front ++ item ∷ [] = take_with_entered items count item count_in in
     let new = c.rise.new.items in
     let ps = c.rise.new.places in
     let moved = subst (λ (xs : List (Item Timed)). AreMoved xs new) at c.rise.ensures.moved in
@@ -277,7 +277,7 @@ returns-in-None-clause-heap g c =
     let elsewhere = c.in-None.ensures.none refl in
     let more = one_more front places size heap slot item c.requires.item c.requires.slot_in elsewhere in
     let count_in : count < size = omega (arith, more, many, heap.reserved) in
-    let at : set (take (count + 1) items) count item ≡ front ++ item ∷ [] = entered_at items count item count_in in
+    let at : set (take (count + 1) items) count item ≡ front ++ item ∷ [] = take_with_entered items count item count_in in
     let new = c.rise.new.items in
     let ps = c.rise.new.places in
     let moved = subst (λ (xs : List (Item Timed)). AreMoved xs new) at c.rise.ensures.moved in
@@ -304,7 +304,7 @@ returns-in-None-clause-put g c =
     let elsewhere = c.in-None.ensures.none refl in
     let more = one_more front places size heap slot item c.requires.item c.requires.slot_in elsewhere in
     let count_in : count < size = omega (arith, more, many, heap.reserved) in
-    let at : set (take (count + 1) items) count item ≡ front ++ item ∷ [] = entered_at items count item count_in in
+    let at : set (take (count + 1) items) count item ≡ front ++ item ∷ [] = take_with_entered items count item count_in in
     let new = c.rise.new.items in
     let ps = c.rise.new.places in
     let moved = subst (λ (xs : List (Item Timed)). AreMoved xs new) at c.rise.ensures.moved in
@@ -329,7 +329,7 @@ returns-in-None-clause-counted g c =
     let elsewhere = c.in-None.ensures.none refl in
     let more = one_more front places size heap slot item c.requires.item c.requires.slot_in elsewhere in
     let count_in : count < size = omega (arith, more, many, heap.reserved) in
-    let at : set (take (count + 1) items) count item ≡ front ++ item ∷ [] = entered_at items count item count_in in
+    let at : set (take (count + 1) items) count item ≡ front ++ item ∷ [] = take_with_entered items count item count_in in
     λ k few.
     let counted = c.rise.ensures.counted k (omega (arith, few, more, ap length at, length-append front (item ∷ []))) in
     omega (arith, counted)
