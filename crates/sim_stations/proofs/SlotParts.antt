@@ -1,7 +1,7 @@
 -- A heap whose slots know their places, after the key of one slot was changed.
 use Rattle.std.proofs.Common.{◌≡◌, ◌<◌, ◌≤◌, ◌+◌, ◌-◌, ◌++◌, ◌∷◌, [], ℕ, List, length, set, take, slice_get, slice_set, Option, Some, None, sym, ap, ◌∙◌, subst, arith}
 use Rattle.std.proofs.lemmas.List.{length-set, length-append, length-take-le, take_all, take-take, take_more, take_more_set}
-use Rattle.std.proofs.lemmas.Option.{slice_get_within, get_or_from_slice_get}
+use Rattle.std.proofs.lemmas.Option.{get_or_from_slice_get}
 use Rattle.goal_graph.specs.declared.action.Timed.{Timed}
 use Rattle.sim_order.specs.Events.{event_before}
 use Rattle.sim_order.specs.EventLaws.{event_laws}
@@ -50,9 +50,6 @@ module _ (front : List (Item Timed)) (places : List ℕ) (capacity : ℕ) (heap 
 
     apart : AreApart slots (set front at x)
     apart = replaced_apart front x there.0 at slots heap.apart there.1 was_slot
-
-    pub replaced_in : at < length front
-    replaced_in = slice_get_within front at there.0 there.1
 
     pub replaced_noted : AreListedBut (set front at x) places at
     replaced_noted = record {
@@ -112,9 +109,6 @@ module _ (front : List (Item Timed)) (places : List ℕ) (capacity : ℕ) (heap 
 
   -- an item is removed
   module _ (rest : List (Item Timed)) (last : Item Timed) (are : front ≡ rest ++ last ∷ []) (at : ℕ) (there : IsPlaceOf slot_of_item front at slot) where
-    pub left_is_one_less : length front ≡ length rest + 1
-    left_is_one_less = omega (arith, ap length are, length-append rest (last ∷ []))
-
     module _ (some : at < length rest) where
       less_apart : AreApart slots (set rest at last)
       less_apart = left_apart front rest last there.0 at are slots heap.apart there.1 some
