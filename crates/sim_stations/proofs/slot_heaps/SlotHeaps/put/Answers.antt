@@ -173,7 +173,7 @@ new-item-requires g c =
     let part = c.index-part.result.now in
     let within : home.group < length parts = omega (arith, c.requires.group_in, ap length c.self.view_is, length-map parts (map_of_slots items)) in
     let at = part_read parts home.group part within c.index-part.ensures in
-    omega (arith, c.requires.place_in, ap (λ hs. length (heap_at hs home.group)) c.self.view_is, length_there parts items places heaps home.group part at, part_small parts items places heaps home.group part at)
+    omega (arith, c.requires.place_in, ap (λ hs. length (heap_at hs home.group)) c.self.view_is, map_length_is_room parts items places heaps home.group part at, part_small parts items places heaps home.group part at)
 
 pub write-count-requires-clause-item : goal.write-count-requires-clause-item
 write-count-requires-clause-item g c = ap (λ (x : Item Timed). x.slot) c.new-item.ensures
