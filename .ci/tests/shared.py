@@ -16,6 +16,13 @@ import tool_calls
 from common import command, program
 
 
+def nameless(text: str, *names: str) -> str:
+    """The text with FILE in place of each of the names, where it stands alone."""
+    for name in names:
+        text = re.sub(rf"(?<![\w/.-]){re.escape(name)}(?![\w/-])", "FILE", text)
+    return text
+
+
 class Calls(unittest.TestCase):
     def test_a_text_is_read_from_standard_input(self) -> None:
         answer = program.call(program.chosen(), ["sim", "/dev/stdin"], "num_ranks 1 rank 0 { calc 100 }")
@@ -86,7 +93,8 @@ class Tools(unittest.TestCase):
                         ended = tool_calls.called_with_bytes(name, *given, given=content)
                         self.assertEqual((ended.returncode, ended.stderr.decode()), (wanted.returncode, wanted.stderr), (name, given))
                         if content == contents[0]:
-                            self.assertEqual(ended.stdout.decode().replace("standard input", path).replace(one, path), wanted.stdout.replace(one, path), (name, given))
+                            said = ended.stdout.decode().replace("standard input", path)
+                            self.assertEqual(nameless(said, path, one), nameless(wanted.stdout, path, one), (name, given))
 
     def works(self) -> dict[str, list[str]]:
         """For each tool words with which it writes something."""
