@@ -1,5 +1,5 @@
 -- The free times that a queue knows stay right as actions hold resources.
-use Rattle.std.proofs.Common.{◌≡◌, ◌≢◌, ◌⊎◌, ◌<◌, ◌≤◌, ℕ, Bool, true, false, List, ◌∷◌, length, Some, slice_get, slice_index, slice_set, sym, ap, ◌∙◌, arith, inl, inr}
+use Rattle.std.proofs.Common.{◌≡◌, ◌≢◌, ◌⊎◌, ◌<◌, ◌≤◌, ℕ, Bool, true, false, List, ◌∷◌, length, Some, get_or, slice_get, slice_index, slice_set, sym, ap, subst, ◌∙◌, arith, inl, inr}
 use Rattle.std.proofs.lemmas.Bool.{cases_eq}
 use Rattle.std.proofs.lemmas.List.{length-set, get_or-set_same, get_or-set_other}
 use Rattle.std.proofs.lemmas.Option.{same_Some, slice_get-get_or, slice_get_within, get_or_from_slice_get}
@@ -11,8 +11,9 @@ use Rattle.goal_graph.proofs.ForCallers.{listed_op}
 use Rattle.sim_params.specs.Costs.{CostModel}
 use Rattle.sim_params.specs.Times.{cpu, Possible}
 use Rattle.sim_resources.specs.declared.pair.Pair.{Pair}
-use Rattle.sim_stations.specs.Stations.{Stationed, waits_for_room, pair_at, pair_of, held, IsLater}
-use Rattle.sim_state.specs.Free.{side}
+use Rattle.sim_resources.specs.ByNumber.{HasTimes}
+use Rattle.sim_stations.specs.Stations.{Stationed, waits_for_room, pair_at, pair_of, held, held_by, IsLater, IsLaterBy, AreKnown, AreTimesOf}
+use Rattle.sim_state.specs.Free.{side, AreFreeByNumber}
 use Rattle.sim_resources.specs.Numbering.{AreStationed}
 use Rattle.sim_events.specs.Cost.{station_of, cpu_alone, side_alone}
 use Rattle.sim_events.specs.Queue.{AreFree, IsOfSchedule}
@@ -120,3 +121,31 @@ module _ (plans : List Plan) (costs : CostModel) where
     cpus = λ i x at. (λ j. slice_index (same j) (pair_at (pairs j) (slice_index (stations j) i)).cpu) ∙ free.cpus i x at ∙ sym (cpu_at_once plans costs a h x w);
     sides = λ i x at. (λ j. slice_index (same j) (pair_at (pairs j) (slice_index (stations j) i)).side) ∙ free.sides i x at ∙ sym (side_at_once plans costs a h x w);
   }
+
+  -- the times that a queue borrows are those that it knows
+  pub borrowed_times_are_known : (h : List Timed) (queue : Stationed) → IsOfSchedule plans costs h queue → (times : List ℕ) → AreFreeByNumber plans costs h queue.stations queue.pairs times → (slot : ℕ) → slot < length queue.keys → AreTimesOf times queue.free (pair_of queue slot)
+  borrowed_times_are_known h queue q times free slot within =
+      let x = get_or (operations plans) slot (record { rank = 0; op = 0 }) in
+      let at : slice_get (operations plans) slot ≡ Some x = slice_get-get_or (operations plans) slot (record { rank = 0; op = 0 }) (omega (arith, within, q.each)) in
+      let now = free slot x at in
+      record {
+        cpu_time = now.cpu_time ∙ ap Some (sym (q.free.cpus slot x at));
+        side_time = now.side_time ∙ ap Some (sym (q.free.sides slot x at));
+      }
+
+-- the times of a pair, read from a list that has them
+module _ (times : List ℕ) (p : Pair) (c s : ℕ) (has : HasTimes times p c s) where
+  cpu_read : slice_index times p.cpu ≡ c
+  cpu_read = get_or_from_slice_get times p.cpu c 0 has.cpu_time
+
+  side_read : slice_index times p.side ≡ s
+  side_read = get_or_from_slice_get times p.side s 0 has.side_time
+
+  pub both_times_known : AreKnown times p
+  both_times_known = record { has_cpu = slice_get_within times p.cpu c has.cpu_time; has_side = slice_get_within times p.side s has.side_time }
+
+  pub later_by_times : (free : List ℕ) → IsLater free p c s → IsLaterBy free p times
+  later_by_times free later = subst (λ (b : ℕ). IsLater free p (slice_index times p.cpu) b) (sym side_read) (subst (λ (a : ℕ). IsLater free p a s) (sym cpu_read) later)
+
+  pub held_by_times : (free : List ℕ) → held_by free p times ≡ held free p c s
+  held_by_times free = λ i. held free p (cpu_read i) (side_read i)

@@ -8,6 +8,7 @@ ghost use Rattle.sim_params.specs.Times.{mate, cpu};
 ghost use Rattle.sim_params.specs.Run.{IsNext, IsFinished};
 ghost use Rattle.sim_queue.specs.Map.{key_at, IsEmptyMap};
 ghost use Rattle.sim_stations.specs.Stations.{waits_for_room, pair_of, IsLater, cost_of_waiting, cost_of_moves};
+ghost use Rattle.sim_resources.specs.Numbering.{AreStationed};
 ghost use Rattle.sim_state.specs.Free.{side};
 ghost use Rattle.sim_events.specs.Blanks.{IsBlankOf};
 ghost use Rattle.sim_events.specs.Comparisons.{spent};
@@ -61,7 +62,7 @@ pub fn next<C: Costs, H: History, L: Ledger, R: Ledger>(
     ensures moved { (all : ℕ) → HaveChanged state.now.plans state.now.history queue.old all → HaveChangedOn state.now.plans state.now.history queue.new all moves.old moves.new }
 {
     state.known();
-    let (slot, key) = queue.least(state.sched(), steps, moves)?;
+    let (slot, key) = queue.least(state.free_times(), state.sched(), steps, moves)?;
     let action = Timed {
         time: key.time(),
         class: key.class(),
@@ -81,7 +82,8 @@ pub fn settle<C: Costs, H: History, L: Ledger>(
 )
     requires key { key_at queue.old.keys slot ≡ Some action }
     requires found { queue.old.found ≡ Some slot }
-    requires exists { IsOp state.now.plans action.op }
+    requires stationed { AreStationed state.now.plans queue.old.stations queue.old.pairs }
+    requires slot { slice_get (operations state.now.plans) slot ≡ Some action.op }
     requires later { waits_for_room action.class ≡ true → IsLater queue.old.free (pair_of queue.old slot) (cpu state.now.plans (C.model state.now.costs) state.now.history action.op) (side state.now.plans (C.model state.now.costs) state.now.history action.op) }
     ensures settled { IsSettledBy (cpu state.now.plans (C.model state.now.costs) state.now.history action.op) (side state.now.plans (C.model state.now.costs) state.now.history action.op) slot action queue.old queue.new }
     ensures counted { (k : ℕ) → length queue.old.keys ≤ 2 ^ k
@@ -90,7 +92,7 @@ pub fn settle<C: Costs, H: History, L: Ledger>(
     match action.class {
         Class::Arrive | Class::Post => queue.take(slot, steps),
         Class::Begin | Class::Data | Class::Serve => {
-            queue.act(slot, state.cpu(action.op), state.side(action.op), steps);
+            queue.act(state.free_times(), slot, steps);
         }
     }
 }
@@ -225,7 +227,12 @@ fn refresh<C: Costs, H: History, L: Ledger>(
         return;
     }
     if let Some(action) = state.choice(id) {
-        queue.put(slot, compact(state.sched(), action), steps);
+        queue.put(
+            state.free_times(),
+            slot,
+            compact(state.sched(), action),
+            steps,
+        );
     }
 }
 

@@ -6,4 +6,5 @@ pub mod Placed
 pub mod FreeTimes
 pub mod Worth
 pub mod HoldLemmas
+pub mod ByNumber
 pub mod ForCallers

@@ -4,7 +4,7 @@ use Rattle.std.specs.List.{list_any}
 use Rattle.std.proofs.lemmas.Bool.{both_ways, cases_lt, or_cases}
 use Rattle.std.proofs.lemmas.List.{length-append, get_or_append_left, take_all}
 use Rattle.std.proofs.lemmas.List.Folds.{list_any_at}
-use Rattle.std.proofs.lemmas.List.Sums.{fold_more}
+use Rattle.std.proofs.lemmas.List.Sums.{fold_more, fold-append}
 use Rattle.std.proofs.lemmas.List.Elements.{All-push}
 use Rattle.std.proofs.lemmas.Option.{same_Some, slice_get-get_or, slice_get_within, get_or_from_slice_get}
 use Rattle.goal_graph.specs.declared.action.OpId.{OpId}
@@ -19,7 +19,7 @@ use Rattle.sim_resources.specs.declared.pair.Pair.{Pair}
 use Rattle.sim_resources.specs.Numbering.{DoExist}
 use Rattle.sim_resources.specs.declared.station.Station.{Station}
 use Rattle.sim_resources.specs.Numbering.{IsNotAfter, AreOnce, HasNumber, HasPair, IsNumbering, AreStationed}
-use Rattle.sim_resources.specs.Stations.{station_by, station_of, station_as, same_station, with_station, stations_among, cpu_alone, side_by, side_alone}
+use Rattle.sim_resources.specs.Stations.{station_by, station_of, station_as, same_station, with_station, stations_among, resources_among, cpu_alone, side_by, side_alone}
 use Rattle.sim_resources.proofs.Placing.{same_station_true, same_station_from}
 
 -- what is appended to a list
@@ -63,44 +63,6 @@ not_after_with_station : (before after : List Station) (station : Station) (numb
 not_after_with_station before after station number rank has was l j s e =
     elim (earlier_or_numbered_station before after station number has j s e) [ inl old ↦ was j s old | inr new ↦ omega (arith, l, ap (λ (t : Station). t.rank) new) ]
 
-module _ (stations resources : List Station) (pairs : List Pair) (is : IsNumbering stations resources pairs) (after : List Station) (station : Station) (number : ℕ) (has : HasNumber stations after station number) (once : AreOnce after) where
-  -- it is a new one
-  pub numbered_new : number ≡ length pairs → (more : List Station) (p : Pair) → HasPair resources more station p → AreOnce more → IsNumbering after more (pairs ++ p ∷ [])
-  numbered_new new more p pair more_once = record {
-    each = omega (arith, length-append pairs (p ∷ []), is.each, sizes.0, there, new);
-    few = omega (arith, is.few, (numbering_adds_one_at_most _ _ _ _ pair.cpu).0, (numbering_adds_one_at_most _ _ _ _ pair.side).0, is.each, there, new);
-    once = once;
-    resources_once = more_once;
-    cpus = λ n s q at there. elim (appended_or_earlier pairs p n q there) [
-      | inl was ↦ numbering_keeps_stations _ _ _ _ pair.side q.cpu _ (numbering_keeps_stations _ _ _ _ pair.cpu q.cpu _ (is.cpus n s q (old n s q at was) was))
-      | inr one ↦ subst (λ (t : Pair). slice_get more t.cpu ≡ Some (cpu_alone s)) (sym one.1) (subst (λ (t : Station). slice_get more p.cpu ≡ Some (cpu_alone t)) (newest n s at one.0) (numbering_keeps_stations _ _ _ _ pair.side p.cpu _ pair.cpu.is))
-    ];
-    sides = λ n s q at there. elim (appended_or_earlier pairs p n q there) [
-      | inl was ↦ numbering_keeps_stations _ _ _ _ pair.side q.side _ (numbering_keeps_stations _ _ _ _ pair.cpu q.side _ (is.sides n s q (old n s q at was) was))
-      | inr one ↦ subst (λ (t : Pair). slice_get more t.side ≡ Some (side_alone s)) (sym one.1) (subst (λ (t : Station). slice_get more p.side ≡ Some (side_alone t)) (newest n s at one.0) pair.side.is)
-    ];
-    of_stations = λ rank last.
-        let own : station.rank ≤ rank = last number station has.is in
-        let before : IsNotAfter resources rank = is.of_stations rank (λ j s e. last j s (numbering_keeps_stations _ _ _ _ has j s e)) in
-        let between : IsNotAfter pair.between rank = not_after_with_station _ _ _ _ rank pair.cpu before own in
-        not_after_with_station _ _ _ _ rank pair.side between (omega (arith, own, side_rank station station.sends station.receives));
-  }
-    where
-      sizes : (length after ≤ length stations + 1) × (length stations ≤ length after)
-      sizes = numbering_adds_one_at_most stations after station number has
-
-      there : number < length after
-      there = slice_get_within after number station has.is
-
-      old : (n : ℕ) (s : Station) (q : Pair) → slice_get after n ≡ Some s → slice_get pairs n ≡ Some q → slice_get stations n ≡ Some s
-      old n s q at was = elim (earlier_or_numbered_station stations after station number has n s at) [
-        | inl e ↦ e
-        | inr same ↦ (let one : n ≡ number = once n number station (at ∙ ap Some same) has.is in absurd (omega (arith, one, new, slice_get_within pairs n q was)))
-      ]
-
-      newest : (n : ℕ) (s : Station) → slice_get after n ≡ Some s → n ≡ length pairs → station ≡ s
-      newest n s at e = same_Some station s (sym has.is ∙ ap (slice_get after) (new ∙ sym e) ∙ at)
-
 -- what passes a test in a list
 list_any_has_witness : (test : Station → Bool) (xs : List Station) → list_any test xs ≡ true → (i : ℕ) × (x : Station) × (slice_get xs i ≡ Some x) × (test x ≡ true)
 list_any_has_witness test [] e = absurd (both_ways false refl e)
@@ -134,6 +96,67 @@ numbered_is_with_station before after station number has once = go has.more has.
         let new : slice_get after (length before) ≡ Some station = ap (λ (xs : List Station). slice_get xs (length before)) grown ∙ appended_is_at_length before t [] ∙ ap Some (of_it 0 t refl) in
         absurd (omega (arith, once found.0 (length before) station old new, slice_get_within before found.0 found.1 found.2))
     go (t ∷ u ∷ more) one grown of_it b e = absurd (omega (arith, one))
+
+module _ (stations resources : List Station) (pairs : List Pair) (is : IsNumbering stations resources pairs) (after : List Station) (station : Station) (number : ℕ) (has : HasNumber stations after station number) (once : AreOnce after) where
+  -- it is a new one
+  pub numbered_new : number ≡ length pairs → (more : List Station) (p : Pair) → HasPair resources more station p → AreOnce more → IsNumbering after more (pairs ++ p ∷ [])
+  numbered_new new more p pair more_once = record {
+    each = omega (arith, length-append pairs (p ∷ []), is.each, sizes.0, there, new);
+    few = omega (arith, is.few, (numbering_adds_one_at_most _ _ _ _ pair.cpu).0, (numbering_adds_one_at_most _ _ _ _ pair.side).0, is.each, there, new);
+    once = once;
+    resources_once = more_once;
+    listed = resources_listed;
+    cpus = λ n s q at there. elim (appended_or_earlier pairs p n q there) [
+      | inl was ↦ numbering_keeps_stations _ _ _ _ pair.side q.cpu _ (numbering_keeps_stations _ _ _ _ pair.cpu q.cpu _ (is.cpus n s q (old n s q at was) was))
+      | inr one ↦ subst (λ (t : Pair). slice_get more t.cpu ≡ Some (cpu_alone s)) (sym one.1) (subst (λ (t : Station). slice_get more p.cpu ≡ Some (cpu_alone t)) (newest n s at one.0) (numbering_keeps_stations _ _ _ _ pair.side p.cpu _ pair.cpu.is))
+    ];
+    sides = λ n s q at there. elim (appended_or_earlier pairs p n q there) [
+      | inl was ↦ numbering_keeps_stations _ _ _ _ pair.side q.side _ (numbering_keeps_stations _ _ _ _ pair.cpu q.side _ (is.sides n s q (old n s q at was) was))
+      | inr one ↦ subst (λ (t : Pair). slice_get more t.side ≡ Some (side_alone s)) (sym one.1) (subst (λ (t : Station). slice_get more p.side ≡ Some (side_alone t)) (newest n s at one.0) pair.side.is)
+    ];
+    of_stations = λ rank last.
+        let own : station.rank ≤ rank = last number station has.is in
+        let before : IsNotAfter resources rank = is.of_stations rank (λ j s e. last j s (numbering_keeps_stations _ _ _ _ has j s e)) in
+        let between : IsNotAfter pair.between rank = not_after_with_station _ _ _ _ rank pair.cpu before own in
+        not_after_with_station _ _ _ _ rank pair.side between (omega (arith, own, side_rank station station.sends station.receives));
+  }
+    where
+      sizes : (length after ≤ length stations + 1) × (length stations ≤ length after)
+      sizes = numbering_adds_one_at_most stations after station number has
+
+      there : number < length after
+      there = slice_get_within after number station has.is
+
+      old : (n : ℕ) (s : Station) (q : Pair) → slice_get after n ≡ Some s → slice_get pairs n ≡ Some q → slice_get stations n ≡ Some s
+      old n s q at was = elim (earlier_or_numbered_station stations after station number has n s at) [
+        | inl e ↦ e
+        | inr same ↦ (let one : n ≡ number = once n number station (at ∙ ap Some same) has.is in absurd (omega (arith, one, new, slice_get_within pairs n q was)))
+      ]
+
+      -- the stations with it are the stations and it
+      appended : after ≡ stations ++ station ∷ []
+      appended = go has.more has.by_one has.grown has.of_it
+        where
+          go : (added : List Station) → length added ≤ 1 → after ≡ stations ++ added → ((j : ℕ) (t : Station) → slice_get added j ≡ Some t → t ≡ station) → after ≡ stations ++ station ∷ []
+          go [] one grown of_it = absurd (omega (arith, there, new, is.each, ap length (grown ∙ append-nil stations)))
+          go (t ∷ []) one grown of_it = grown ∙ ap (λ (u : Station). stations ++ u ∷ []) (of_it 0 t refl)
+          go (t ∷ u ∷ added) one grown of_it = absurd (omega (arith, one))
+
+      -- the resources with those of it
+      resources_listed : more ≡ resources_among after
+      resources_listed =
+          let between_once : AreOnce pair.between = λ i j s e f. more_once i j s (numbering_keeps_stations _ _ _ _ pair.side i s e) (numbering_keeps_stations _ _ _ _ pair.side j s f) in
+          numbered_is_with_station pair.between more (side_alone station) p.side pair.side more_once
+          ∙ ap (λ (rs : List Station). with_station rs (side_alone station)) (numbered_is_with_station resources pair.between (cpu_alone station) p.cpu pair.cpu between_once)
+          ∙ ap (λ (rs : List Station). with_station (with_station rs (cpu_alone station)) (side_alone station)) is.listed
+          ∙ sym (fold-append with_resources [] stations (station ∷ []))
+          ∙ ap resources_among (sym appended)
+        where
+          with_resources : List Station → Station → List Station
+          with_resources rs s = with_station (with_station rs (cpu_alone s)) (side_alone s)
+
+      newest : (n : ℕ) (s : Station) → slice_get after n ≡ Some s → n ≡ length pairs → station ≡ s
+      newest n s at e = same_Some station s (sym has.is ∙ ap (slice_get after) (new ∙ sym e) ∙ at)
 
 module _ (plans : List Plan) where
   -- the first operations have their stations

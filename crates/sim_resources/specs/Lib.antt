@@ -3,6 +3,7 @@ pub mod FreeTimes
 pub mod Stations
 pub mod Numbering
 pub mod Held
+pub mod ByNumber
 -- Laws.
 pub mod Laws
 -- What the clauses cite of lower crates.

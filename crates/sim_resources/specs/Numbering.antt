@@ -11,7 +11,7 @@ use Rattle.sim_resources.specs.declared.station.Latest.{Latest}
 use Rattle.sim_resources.specs.declared.station.Places.{Places}
 use Rattle.sim_resources.specs.declared.station.Places.TheVariants.{Table, Map}
 use Rattle.sim_resources.specs.declared.station.StationNumbers.{StationNumbers}
-use Rattle.sim_resources.specs.Stations.{station_of, cpu_alone, side_alone, stations_among}
+use Rattle.sim_resources.specs.Stations.{station_of, cpu_alone, side_alone, stations_among, resources_among}
 
 -- the place where a rank keeps the number of a station
 abbrev pub cpu_place : Option ℕ → ℕ
@@ -91,6 +91,7 @@ pub record IsNumbering (stations resources : List Station) (pairs : List Pair) :
   pub few : length resources ≤ 2 * length stations
   pub once : AreOnce stations
   pub resources_once : AreOnce resources
+  pub listed : resources ≡ resources_among stations
   pub cpus : (n : ℕ) (s : Station) (p : Pair) → slice_get stations n ≡ Some s → slice_get pairs n ≡ Some p → slice_get resources p.cpu ≡ Some (cpu_alone s)
   pub sides : (n : ℕ) (s : Station) (p : Pair) → slice_get stations n ≡ Some s → slice_get pairs n ≡ Some p → slice_get resources p.side ≡ Some (side_alone s)
   pub of_stations : (rank : ℕ) → IsNotAfter stations rank → IsNotAfter resources rank

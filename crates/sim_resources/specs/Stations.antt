@@ -47,3 +47,7 @@ with_station stations s = if list_any (same_station s) stations then stations el
 -- the stations of these operations, each once
 abbrev pub stations_among : List Plan → List OpId → List Station
 stations_among plans ops = fold (λ stations x. with_station stations (station_as x (op_at plans x))) [] ops
+
+-- the resources of these stations, each once
+abbrev pub resources_among : List Station → List Station
+resources_among stations = fold (λ resources s. with_station (with_station resources (cpu_alone s)) (side_alone s)) [] stations

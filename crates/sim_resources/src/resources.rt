@@ -1,9 +1,11 @@
 //! The cpus and NICs of a schedule, with their free times.
-ghost use Rattle.std.specs.Prelude.{◌≡◌, ◌<◌, ℕ, IfOk, Some, length, max, slice_get, slice_set};
+ghost use Rattle.std.specs.Prelude.{◌≡◌, ◌<◌, ℕ, IfOk, List, Some, length, max, slice_get, slice_set};
 ghost use Rattle.goal_graph.specs.Fault.{IsOp};
 ghost use Rattle.goal_graph.specs.Schedule.{IsSend, IsReceive};
 ghost use Rattle.sim_resources.specs.FreeTimes.{SameFreeTimes, cpu_free, tx_free, rx_free, hold_cpu, hold_tx, hold_rx, unheld};
-ghost use Rattle.sim_resources.specs.Numbering.{AreNumbered};
+ghost use Rattle.sim_resources.specs.Numbering.{AreNumbered, AreStationed};
+ghost use Rattle.sim_resources.specs.ByNumber.{AreTimesByNumber};
+ghost use Rattle.sim_resources.specs.declared.pair.Pair.{Pair};
 
 use crate::station::StationNumbers;
 use goal_graph::{OpId, Sched};
@@ -76,6 +78,14 @@ impl<'a> Resources<'a> {
         ensures { AreNumbered self.now.plans result.now }
     {
         &self.stations
+    }
+
+    /// Returns when each cpu and each side of a NIC is free, by the numbers that `stations` gives. Two numberings of
+    /// one schedule give each operation the same numbers.
+    pub fn free_times(&self) -> &[u64]
+        ensures { (numbers : List ℕ) (pairs : List Pair) → AreStationed self.now.plans numbers pairs → AreTimesByNumber self.now numbers pairs result.now }
+    {
+        &self.free
     }
 
     /// Returns when the cpu that an operation uses is free.

@@ -2,12 +2,16 @@
 use Rattle.std.proofs.Common.{◌≡◌, ◌&&◌, ◌+◌, ℕ, max, Bool, true, false, List, ◌∷◌, Option, Some, None, if◌then◌else◌, refl, ap, ap₂, ◌∙◌, arith}
 use Rattle.goal_graph.specs.declared.action.OpId.{OpId}
 use Rattle.goal_graph.specs.declared.action.Timed.{Timed}
+use Rattle.goal_graph.specs.declared.plan.Kind.{Kind}
+use Rattle.goal_graph.specs.declared.plan.Kind.TheVariants.{Calc, Send, Recv}
 use Rattle.goal_graph.specs.declared.plan.Op.{Op}
 use Rattle.goal_graph.specs.Schedule.{Plan, op_at, kind_at}
 use Rattle.goal_graph.specs.Action.{holds_cpu}
 use Rattle.sim_params.specs.Costs.{CostModel}
 use Rattle.sim_params.specs.Times.{same_place, holds_tx, holds_rx, cpu_hold, tx_hold, rx_hold, cpu, tx, rx}
 use Rattle.sim_resources.specs.FreeTimes.{Hold, Holds, shares_place, shares, free_at, hold, hold_cpu, hold_tx, hold_rx, SameFreeTimes}
+use Rattle.sim_resources.specs.ByNumber.{side_free_of, side_free}
+use Rattle.sim_state.specs.Free.{side_of, side}
 use Rattle.sim_state.specs.Represents.{AreFreeTimes}
 
 -- the two words for operations that use one cpu, or one NIC, say the same
@@ -97,3 +101,13 @@ module _ (plans : List Plan) (costs : CostModel) (h : List Timed) (a : Timed) wh
         senders = λ x. after.tx x ∙ before.senders x ∙ tx_same f x;
         receivers = λ x. after.rx x ∙ rx_more r before received g t x;
       }
+
+-- the side of an operation is free when the history says so
+pub side_at_history : (plans : List Plan) (costs : CostModel) (h : List Timed) (r : Holds) → AreFreeTimes plans costs h r → (x : OpId) → side_free r x ≡ side plans costs h x
+side_at_history plans costs h r free x = ap (λ (ps : List Plan). side_free_of r x (kind_at ps x)) free.same_plans ∙ go (kind_at plans x)
+  where
+    go : (k : Option Kind) → side_free_of r x k ≡ side_of plans costs h x k
+    go None = refl
+    go (Some (Calc nanos)) = free.cpus x
+    go (Some (Send bytes to tag)) = free.senders x
+    go (Some (Recv room from tag)) = free.receivers x

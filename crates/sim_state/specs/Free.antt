@@ -1,12 +1,14 @@
 -- When all that an operation uses is free: its cpu and, if it sends or receives, that side of its NIC.
-use Rattle.std.specs.Prelude.{ℕ, List, Option, Some, None, max}
+use Rattle.std.specs.Prelude.{ℕ, ◌≡◌, List, Option, Some, None, max, slice_get}
 use Rattle.goal_graph.specs.declared.action.OpId.{OpId}
 use Rattle.goal_graph.specs.declared.action.Timed.{Timed}
 use Rattle.goal_graph.specs.declared.plan.Kind.{Kind}
 use Rattle.goal_graph.specs.declared.plan.Kind.TheVariants.{Calc, Send, Recv}
-use Rattle.goal_graph.specs.Schedule.{Plan, kind_at}
+use Rattle.goal_graph.specs.Schedule.{Plan, kind_at, operations}
 use Rattle.sim_params.specs.Costs.{CostModel}
 use Rattle.sim_params.specs.Times.{cpu, tx, rx}
+use Rattle.sim_resources.specs.declared.pair.Pair.{Pair}
+use Rattle.sim_resources.specs.ByNumber.{HasTimes, pair_in}
 
 module _ (plans : List Plan) where
   abbrev pub free_of : CostModel → List Timed → OpId → Option Kind → ℕ
@@ -27,3 +29,8 @@ module _ (plans : List Plan) where
 
   abbrev pub side : CostModel → List Timed → OpId → ℕ
   side costs h x = side_of costs h x (kind_at plans x)
+
+  -- the times are, for each operation, those at which its cpu and its side are free
+  abbrev pub AreFreeByNumber : CostModel → List Timed → List ℕ → List Pair → List ℕ → Type 0
+  AreFreeByNumber costs h numbers pairs times =
+      (slot : ℕ) (x : OpId) → slice_get (operations plans) slot ≡ Some x → HasTimes times (pair_in numbers pairs slot) (cpu plans costs h x) (side costs h x)

@@ -18,6 +18,7 @@ pub use Rattle.goal_graph.specs.Fault
 pub use Rattle.goal_graph.specs.Interleaving
 pub use Rattle.goal_graph.specs.Schedule
 pub use Rattle.sim_eager.specs.Messages
+pub use Rattle.sim_resources.specs.ByNumber
 pub use Rattle.sim_resources.specs.Numbering
 pub use Rattle.sim_params.specs.Budget
 pub use Rattle.sim_params.specs.Costs

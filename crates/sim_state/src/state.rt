@@ -1,5 +1,5 @@
 //! The actions so far, and what is known of each operation.
-ghost use Rattle.std.specs.Prelude.{◌≡◌, ◌+◌, ◌<◌, ◌≤◌, ◌^◌, ◌↔◌, List, [], ◌∷◌, IsTrue, IfSome, IfNone, IfOk, IfErr, OnOk, All, count_by, length, reverse};
+ghost use Rattle.std.specs.Prelude.{◌≡◌, ℕ, ◌+◌, ◌<◌, ◌≤◌, ◌^◌, ◌↔◌, List, [], ◌∷◌, IsTrue, IfSome, IfNone, IfOk, IfErr, OnOk, All, count_by, length, reverse};
 ghost use Rattle.goal_graph.specs.declared.action.OpId.{OpId};
 ghost use Rattle.goal_graph.specs.declared.action.Timed.{Timed};
 ghost use Rattle.goal_graph.specs.Schedule.{needs, needed};
@@ -9,14 +9,15 @@ ghost use Rattle.goal_graph.specs.Action.{plain, same_op};
 ghost use Rattle.goal_graph.specs.Interleaving.{IsCompleteInterleaving};
 ghost use Rattle.sim_params.specs.Costs.{is_eager};
 ghost use Rattle.sim_params.specs.Budget.{budget};
-ghost use Rattle.sim_params.specs.Times.{mate, cpu};
+ghost use Rattle.sim_params.specs.Times.{mate};
 ghost use Rattle.sim_params.specs.Run.{IsNext, IsRun, IsFinished, IsCompleteRun};
 ghost use Rattle.sim_params.specs.Laws.{IsWithin};
-ghost use Rattle.sim_resources.specs.Numbering.{AreNumbered};
+ghost use Rattle.sim_resources.specs.Numbering.{AreNumbered, AreStationed};
+ghost use Rattle.sim_resources.specs.declared.pair.Pair.{Pair};
 ghost use Rattle.sim_state.specs.Engine.{IsEngineFault, start_known, end_known};
 ghost use Rattle.sim_state.specs.Represents.{entry_known};
 ghost use Rattle.sim_state.specs.Tasks.{task_of, work_of};
-ghost use Rattle.sim_state.specs.Free.{side};
+ghost use Rattle.sim_state.specs.Free.{AreFreeByNumber};
 
 use crate::entry::{OpState, first_entries, read};
 use crate::fault::EngineFault;
@@ -141,24 +142,11 @@ impl<'a, C: Costs, H: History> RunState<'a, C, H> {
         self.entry(id).link.partner()
     }
 
-    /// Returns when the cpu of an operation is free, in nanoseconds.
-    pub fn cpu(&self, id: OpId) -> u64
-        requires { IsOp self.now.plans id }
-        ensures { result ≡ cpu self.now.plans (C.model self.now.costs) self.now.history id }
+    /// Returns when each cpu and each side of a NIC is free, in nanoseconds, by the numbers that `stations` gives.
+    pub fn free_times(&self) -> &[u64]
+        ensures { (numbers : List ℕ) (pairs : List Pair) → AreStationed self.now.plans numbers pairs → AreFreeByNumber self.now.plans (C.model self.now.costs) self.now.history numbers pairs result.now }
     {
-        self.resources.cpu(id)
-    }
-
-    /// Returns when the side of the NIC that an operation uses is free, in nanoseconds, or its cpu if it uses no NIC.
-    pub fn side(&self, id: OpId) -> u64
-        requires { IsOp self.now.plans id }
-        ensures { result ≡ side self.now.plans (C.model self.now.costs) self.now.history id }
-    {
-        match self.task(id) {
-            Task::Calc => self.resources.cpu(id),
-            Task::Eager | Task::Rendezvous => self.resources.tx(id),
-            Task::Receive => self.resources.rx(id),
-        }
+        self.resources.free_times()
     }
 
     /// Returns the numbers of what the operations wait for.

@@ -8,7 +8,7 @@ use Rattle.goal_graph.specs.declared.action.Timed.{Timed}
 use Rattle.sim_queue.specs.Groups.{Grouped}
 use Rattle.sim_resources.specs.declared.pair.Pair.{Pair}
 use Rattle.sim_stations.specs.declared.key_place.KeyPlace.{KeyPlace}
-use Rattle.sim_stations.specs.Stations.{pair_at, count_ahead, cost_of_waiting, cost_of_moves}
+use Rattle.sim_stations.specs.Stations.{pair_at, AreTimesOf, count_ahead, cost_of_waiting, cost_of_moves}
 use Rattle.sim_stations.specs.Moves.{one_if, HaveReturned, HaveMoved}
 use Rattle.sim_stations.specs.Rows.{Rowed, side_of, turned_at}
 use Rattle.sim_stations.specs.Kept.{seen_of, AreShown, IsKept, is_late, count_late}
@@ -69,6 +69,14 @@ late_set free (q ∷ pairs) (b ∷ turned) (suc s) p e l h =
     let rest = late_set free pairs turned s p e (omega (arith, l)) h in omega (arith, rest)
 
 module _ (ahead : List (Option Timed)) (waiting : Grouped Timed) (rows : Rowed) (stands : List KeyPlace) (steps moves : ℕ) (mid_ahead : List (Option Timed)) (mid_waiting : Grouped Timed) (mid_rows : Rowed) (mid_stands : List KeyPlace) (then moves_then : ℕ) (so_far : IsSettling ahead waiting rows stands steps moves mid_ahead mid_waiting mid_rows mid_stands then moves_then) where
+  -- the times are still those at which the resources of the slots are free
+  pub times_now : (times : List ℕ) → ((slot : ℕ) → slot < length waiting.keys → AreTimesOf times rows.free (pair_at rows.pairs (slice_index waiting.groups slot))) → (slot : ℕ) → slot < length mid_waiting.keys → AreTimesOf times mid_rows.free (pair_at mid_rows.pairs (slice_index mid_waiting.groups slot))
+  times_now times known slot within =
+      let then_known = known slot (omega (arith, within, so_far.long)) in
+      let at_groups = subst (λ gs. AreTimesOf times rows.free (pair_at rows.pairs (slice_index gs slot))) (sym so_far.groups) then_known in
+      let at_pairs = subst (λ ps. AreTimesOf times rows.free (pair_at ps (slice_index mid_waiting.groups slot))) (sym so_far.pairs) at_groups in
+      subst (λ fs. AreTimesOf times fs (pair_at mid_rows.pairs (slice_index mid_waiting.groups slot))) (sym so_far.free) at_pairs
+
   -- a slot has begun to wait
   module _ (new_ahead : List (Option Timed)) (new_waiting : Grouped Timed) (new_rows : Rowed) (new_stands : List KeyPlace) (looked now : ℕ) (kept : IsKept new_ahead new_waiting new_rows new_stands) (seen : seen_of new_ahead new_waiting new_rows ≡ seen_of mid_ahead mid_waiting mid_rows) (groups : new_waiting.groups ≡ mid_waiting.groups) (pairs : new_rows.pairs ≡ mid_rows.pairs) (turned : new_rows.turned ≡ mid_rows.turned) (free : new_rows.free ≡ mid_rows.free) (fewer : count_ahead new_stands + 1 ≡ count_ahead mid_stands) (look : looked ≤ then + 3) (counted : (k : ℕ) → length mid_waiting.keys ≤ 2 ^ k → now ≤ looked + (8 * k + 9)) where
     pub waited : IsSettling ahead waiting rows stands steps moves new_ahead new_waiting new_rows new_stands now moves_then

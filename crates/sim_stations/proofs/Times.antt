@@ -1,5 +1,6 @@
 -- Events at later times.
-use Rattle.std.proofs.Common.{◌≡◌, ◌≤◌, ℕ, max, Bool, true, false, nat_lt, List, if◌then◌else◌, refl, sym, ap, ◌∙◌, arith, le-ltb}
+use Rattle.std.proofs.Common.{◌≡◌, ◌≤◌, ℕ, max, Bool, true, false, nat_lt, List, Some, slice_get, slice_index, if◌then◌else◌, refl, sym, ap, ◌∙◌, arith, le-ltb}
+use Rattle.std.proofs.lemmas.Option.{get_or_from_slice_get}
 use Rattle.goal_graph.specs.declared.action.Timed.{Timed}
 use Rattle.goal_graph.specs.Action.{place}
 use Rattle.sim_order.specs.Order.{lexical}
@@ -7,7 +8,7 @@ use Rattle.sim_order.specs.Events.{event_before}
 use Rattle.sim_order.specs.EventLaws.{event_laws}
 use Rattle.sim_queue.proofs.ForCallers.{through}
 use Rattle.sim_resources.specs.declared.pair.Pair.{Pair}
-use Rattle.sim_stations.specs.Stations.{waits_for_room, at_time, both_free, earliest, when_free}
+use Rattle.sim_stations.specs.Stations.{waits_for_room, at_time, both_free, earliest, when_free, pair_at}
 use Rattle.sim_stations.proofs.Heads.{at_own}
 
 -- an event is not before itself at an earlier time
@@ -72,3 +73,7 @@ raised_again free now p l k = go (waits_for_room k.class) refl
     go false e =
         let right : earliest now p (when_free free p k) ≡ earliest free p k = earliest_at_once now p (when_free free p k) e in
         ap (λ t. at_time t k) (earliest_at_once now p k e ∙ sym (earliest_at_once free p k e) ∙ sym right)
+
+-- the resources of a slot are those of its station
+pub pair_of_station : (pairs : List Pair) (groups : List ℕ) (slot station : ℕ) → slice_get groups slot ≡ Some station → pair_at pairs (slice_index groups slot) ≡ pair_at pairs station
+pair_of_station pairs groups slot station e = ap (pair_at pairs) (get_or_from_slice_get groups slot station 0 e)

@@ -1,6 +1,6 @@
 -- A queue whose slots wait with their stations. The slots of a station need the same two resources, and their events
 -- are not before the times at which these are free.
-use Rattle.std.specs.Prelude.{◌≡◌, ◌≤◌, ◌+◌, ◌*◌, ℕ, Bool, List, Option, Some, max, slice_get, slice_index, slice_index_or, slice_set, if◌then◌else◌}
+use Rattle.std.specs.Prelude.{◌≡◌, ◌<◌, ◌≤◌, ◌+◌, ◌*◌, ℕ, Bool, List, Option, Some, length, max, slice_get, slice_index, slice_index_or, slice_set, if◌then◌else◌}
 use Rattle.std.specs.List.{sum_by}
 use Rattle.goal_graph.specs.Action.{holds_cpu}
 use Rattle.goal_graph.specs.declared.action.OpId.{OpId}
@@ -9,6 +9,7 @@ use Rattle.goal_graph.specs.declared.action.Class.{Class}
 pub use Rattle.sim_queue.specs.Item.{at_time}
 use Rattle.sim_queue.specs.Map.{key_at}
 use Rattle.sim_resources.specs.declared.pair.Pair.{Pair}
+pub use Rattle.sim_resources.specs.ByNumber.{HasTimes}
 pub use Rattle.sim_resources.specs.Numbering.{DoExist}
 use Rattle.sim_stations.specs.declared.key_place.KeyPlace.{KeyPlace}
 use Rattle.sim_stations.specs.declared.key_place.KeyPlace.TheVariants.{Nowhere, Ahead, Waiting}
@@ -54,6 +55,22 @@ held free p cpu side = slice_set (slice_set free p.cpu cpu) p.side side
 pub record IsLater (free : List ℕ) (p : Pair) (cpu side : ℕ) : Type 0 where
   pub cpu_later : slice_index free p.cpu ≤ cpu
   pub side_later : slice_index (slice_set free p.cpu cpu) p.side ≤ side
+
+-- `times` has a time for both resources of a pair
+pub record AreKnown (times : List ℕ) (p : Pair) : Type 0 where
+  pub has_cpu : p.cpu < length times
+  pub has_side : p.side < length times
+
+-- it has those at which they are free
+abbrev pub AreTimesOf : List ℕ → List ℕ → Pair → Type 0
+AreTimesOf times free p = HasTimes times p (slice_index free p.cpu) (slice_index free p.side)
+
+-- the resources of a pair are free at the times that `times` has for them, which are not earlier than before
+abbrev pub held_by : List ℕ → Pair → List ℕ → List ℕ
+held_by free p times = held free p (slice_index times p.cpu) (slice_index times p.side)
+
+abbrev pub IsLaterBy : List ℕ → Pair → List ℕ → Type 0
+IsLaterBy free p times = IsLater free p (slice_index times p.cpu) (slice_index times p.side)
 
 -- each key is that of the operation of its slot
 abbrev pub AreOfSlots : List OpId → List (Option Timed) → Type 0

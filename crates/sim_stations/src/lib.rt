@@ -5,6 +5,7 @@
 mod groups;
 mod item_heaps;
 mod key_place;
+mod known_times;
 mod laws;
 mod parts;
 mod rows;

@@ -4,9 +4,10 @@ ghost use Rattle.goal_graph.specs.declared.action.Timed.{Timed};
 ghost use Rattle.sim_queue.specs.declared.heap_item.TheConstants.{MAX_SLOTS};
 ghost use Rattle.sim_queue.specs.Groups.{IsEmptyGroup};
 ghost use Rattle.sim_queue.specs.Map.{key_at, IsEmptyMap};
-ghost use Rattle.sim_stations.specs.Stations.{both_free, pair_at, held, DoExist};
+ghost use Rattle.sim_stations.specs.Stations.{both_free, pair_at, held_by, AreTimesOf, AreKnown, DoExist};
 ghost use Rattle.sim_stations.specs.Rows.{sides, place_in, side_of, turned_at, IsFirst, IsTold, AreBothTold};
 
+use crate::known_times::KnownTimes;
 use crate::slot_groups::SlotGroups;
 use goal_limits::NoMemory;
 use sim_order::{CompactKey, Steps};
@@ -27,7 +28,8 @@ pub struct Rows {
     pairs: Vec<Pair>,
     // whether each station waits at its side
     turned: Vec<bool>,
-    free: Vec<u64>,
+    // for proofs only
+    free: KnownTimes,
 }
 
 impl Model for Rows {
@@ -35,9 +37,9 @@ impl Model for Rows {
 
     ghost Value = { Rowed };
 
-    ghost view = { λ q. record { keys = seen q.turned.items q.rows.keys; pairs = q.pairs.items; turned = q.turned.items; free = q.free.items } };
+    ghost view = { λ q. record { keys = seen q.turned.items q.rows.keys; pairs = q.pairs.items; turned = q.turned.items; free = q.free.times } };
 
-    ghost invariant = { λ q. IsInRows q.rows q.pairs.items q.turned.items q.free.items × AreHeads q.rows q.heads q.free.items };
+    ghost invariant = { λ q. IsInRows q.rows q.pairs.items q.turned.items q.free.times × AreHeads q.rows q.heads q.free.times };
 }
 
 // Returns the resources of the slots of the rows.
@@ -77,7 +79,7 @@ fn tell<L: Ledger>(
     steps: &mut Steps<L>,
 )
     requires exists { resource < length heads.old }
-    requires each { length heads.old ≡ length free.now }
+    requires known { resource < length free.now }
     requires at_zero { (slot : ℕ) (k : Timed) → key_at rows.now.keys slot ≡ Some k → k.time ≡ 0 }
     ensures told { IsTold rows.now free.now heads.old heads.new resource }
     ensures counted { (k : ℕ) → length heads.old ≤ 2 ^ k → steps.new ≤ steps.old + (2 * k + 1) }
@@ -99,7 +101,8 @@ fn tell_both<L: Ledger>(
 )
     requires cpu { pair.cpu < length heads.old }
     requires side { pair.side < length heads.old }
-    requires each { length heads.old ≡ length free.now }
+    requires known_cpu { pair.cpu < length free.now }
+    requires known_side { pair.side < length free.now }
     requires at_zero { (slot : ℕ) (k : Timed) → key_at rows.now.keys slot ≡ Some k → k.time ≡ 0 }
     ensures told { AreBothTold rows.now free.now heads.old heads.new pair }
     ensures counted { (k : ℕ) → length heads.old ≤ 2 ^ k → steps.new ≤ steps.old + (4 * k + 2) }
@@ -121,7 +124,7 @@ fn raise<L: Ledger>(
     steps: &mut Steps<L>,
 )
     requires exists { resource < length heads.old }
-    requires each { length heads.old ≡ length free.now }
+    requires known { resource < length free.now }
     requires at_zero { (slot : ℕ) (k : Timed) → key_at rows.now.keys slot ≡ Some k → k.time ≡ 0 }
     requires empty { IsEmptyGroup rows.now resource → key_at heads.old resource ≡ None }
     ensures told { IsTold rows.now free.now heads.old heads.new resource }
@@ -144,7 +147,8 @@ fn raise_both<L: Ledger>(
 )
     requires cpu { pair.cpu < length heads.old }
     requires side { pair.side < length heads.old }
-    requires each { length heads.old ≡ length free.now }
+    requires known_cpu { pair.cpu < length free.now }
+    requires known_side { pair.side < length free.now }
     requires at_zero { (slot : ℕ) (k : Timed) → key_at rows.now.keys slot ≡ Some k → k.time ≡ 0 }
     requires empty_cpu { IsEmptyGroup rows.now pair.cpu → key_at heads.old pair.cpu ≡ None }
     requires empty_side { IsEmptyGroup rows.now pair.side → key_at heads.old pair.side ≡ None }
@@ -186,19 +190,20 @@ impl Rows {
             heads: SlotHeap::new(alloc, resources)?,
             pairs: Vec::from_slice(alloc, pairs)?,
             turned: vec![in alloc; false; pairs.len()]?,
-            free: vec![in alloc; 0; resources as usize]?,
+            free: KnownTimes::new(resources),
         })
     }
 
     /// Returns when both resources of a station are free.
-    pub fn free<L: Ledger>(&self, station: u32, steps: &mut Steps<L>) -> u64
-        requires { station < length self.now.pairs }
+    pub fn free<L: Ledger>(&self, times: &[u64], station: u32, steps: &mut Steps<L>) -> u64
+        requires exists { station < length self.now.pairs }
+        requires times { AreTimesOf times.now self.now.free (pair_at self.now.pairs station) }
         ensures free { result ≡ both_free self.now.free (pair_at self.now.pairs station) }
         ensures counted { steps.new ≡ steps.old + 1 }
     {
         let pair = self.pairs[station as usize];
         steps.tick();
-        self.free[pair.cpu as usize].max(self.free[pair.side as usize])
+        times[pair.cpu as usize].max(times[pair.side as usize])
     }
 
     /// Returns the least key of the stations, each at the time at which the resource is free at which it waits.
@@ -212,8 +217,15 @@ impl Rows {
     }
 
     /// Gives a station another key, with time 0, or none.
-    pub fn tell<L: Ledger>(&mut self, station: u32, key: Option<CompactKey>, steps: &mut Steps<L>)
+    pub fn tell<L: Ledger>(
+        &mut self,
+        times: &[u64],
+        station: u32,
+        key: Option<CompactKey>,
+        steps: &mut Steps<L>,
+    )
         requires exists { station < length self.old.pairs }
+        requires times { AreTimesOf times.now self.old.free (pair_at self.old.pairs station) }
         requires at_zero { IfSome key (λ k. k.time ≡ 0) }
         ensures told { self.new ≡ record self.old { keys = slice_set self.old.keys station key } }
         ensures counted { (k : ℕ) → 2 * length self.old.pairs ≤ 2 ^ k → length self.old.free ≤ 2 ^ k → steps.new ≤ steps.old + (4 * k + 2) }
@@ -223,13 +235,20 @@ impl Rows {
         let turned = self.turned[station as usize];
         write(&mut self.rows, place_in(station, turned), key, steps);
         let resource = side_of(pair, turned);
-        tell(&self.rows, &mut self.heads, &self.free, resource, steps);
+        tell(&self.rows, &mut self.heads, times, resource, steps);
     }
 
     /// Switches a station that has a key to its other resource.
     #[inline(never)]
-    pub fn turn<L: Ledger>(&mut self, station: u32, key: CompactKey, steps: &mut Steps<L>)
+    pub fn turn<L: Ledger>(
+        &mut self,
+        times: &[u64],
+        station: u32,
+        key: CompactKey,
+        steps: &mut Steps<L>,
+    )
         requires exists { station < length self.old.pairs }
+        requires times { AreTimesOf times.now self.old.free (pair_at self.old.pairs station) }
         requires has { key_at self.old.keys station ≡ Some key }
         ensures turned { self.new ≡ record self.old { turned = slice_set self.old.turned station (not (turned_at self.old.turned station)) } }
         ensures counted { (k : ℕ) → 2 * length self.old.pairs ≤ 2 ^ k → length self.old.free ≤ 2 ^ k → steps.new ≤ steps.old + (8 * k + 4) }
@@ -240,42 +259,41 @@ impl Rows {
         self.rows.drop_slot(place_in(station, turned), steps);
         self.rows.put(place_in(station, !turned), key, steps);
         self.turned[station as usize] = !turned;
-        tell_both(&self.rows, &mut self.heads, &self.free, pair, steps);
+        tell_both(&self.rows, &mut self.heads, times, pair, steps);
     }
 
-    /// Sets the times from which the resources of a station are free.
-    pub fn hold<L: Ledger>(&mut self, station: u32, cpu: u64, side: u64, steps: &mut Steps<L>)
-        requires { station < length self.old.pairs }
-        ensures held { self.new ≡ record self.old { free = held self.old.free (pair_at self.old.pairs station) cpu side } }
+    /// The resources of a station are free at other times.
+    pub fn hold<L: Ledger>(&mut self, times: &[u64], station: u32, steps: &mut Steps<L>)
+        requires exists { station < length self.old.pairs }
+        requires known { AreKnown times.now (pair_at self.old.pairs station) }
+        ensures held { self.new ≡ record self.old { free = held_by self.old.free (pair_at self.old.pairs station) times.now } }
         ensures counted { (k : ℕ) → length self.old.free ≤ 2 ^ k → steps.new ≤ steps.old + (4 * k + 2) }
         ensures onward { steps.old ≤ steps.new }
     {
         let pair = self.pairs[station as usize];
-        self.free[pair.cpu as usize] = cpu;
-        self.free[pair.side as usize] = side;
-        raise_both(&self.rows, &mut self.heads, &self.free, pair, steps);
+        self.free = self.free.with(pair, times);
+        raise_both(&self.rows, &mut self.heads, times, pair, steps);
     }
 
     /// Does the same, and gives the station another key, with time 0, or none.
     pub fn leave<L: Ledger>(
         &mut self,
+        times: &[u64],
         station: u32,
         key: Option<CompactKey>,
-        cpu: u64,
-        side: u64,
         steps: &mut Steps<L>,
     )
         requires exists { station < length self.old.pairs }
+        requires known { AreKnown times.now (pair_at self.old.pairs station) }
         requires at_zero { IfSome key (λ k. k.time ≡ 0) }
-        ensures held { self.new ≡ record { keys = slice_set self.old.keys station key; pairs = self.old.pairs; turned = self.old.turned; free = held self.old.free (pair_at self.old.pairs station) cpu side } }
+        ensures held { self.new ≡ record { keys = slice_set self.old.keys station key; pairs = self.old.pairs; turned = self.old.turned; free = held_by self.old.free (pair_at self.old.pairs station) times.now } }
         ensures counted { (k : ℕ) → 2 * length self.old.pairs ≤ 2 ^ k → length self.old.free ≤ 2 ^ k → steps.new ≤ steps.old + (6 * k + 3) }
         ensures onward { steps.old ≤ steps.new }
     {
         let pair = self.pairs[station as usize];
         let turned = self.turned[station as usize];
         write(&mut self.rows, place_in(station, turned), key, steps);
-        self.free[pair.cpu as usize] = cpu;
-        self.free[pair.side as usize] = side;
-        tell_both(&self.rows, &mut self.heads, &self.free, pair, steps);
+        self.free = self.free.with(pair, times);
+        tell_both(&self.rows, &mut self.heads, times, pair, steps);
     }
 }

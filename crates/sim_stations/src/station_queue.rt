@@ -7,7 +7,7 @@ ghost use Rattle.sim_order.specs.Events.{event_before};
 ghost use Rattle.sim_queue.specs.Map.{key_at, IsEmptyMap, IsLeast, IsSoleLeast};
 ghost use Rattle.goal_graph.specs.declared.action.Timed.{Timed};
 ghost use Rattle.sim_stations.specs.declared.key_place.KeyPlace.TheVariants.{Nowhere};
-ghost use Rattle.sim_stations.specs.Stations.{waits_for_room, at_time, both_free, earliest, when_free, pair_at, pair_of, held, DoExist, IsLater, AreOfSlots, count_ahead, cost_of_waiting, cost_of_moves};
+ghost use Rattle.sim_stations.specs.Stations.{waits_for_room, at_time, both_free, earliest, when_free, pair_at, pair_of, held_by, DoExist, IsLaterBy, AreKnown, AreTimesOf, AreOfSlots, count_ahead, cost_of_waiting, cost_of_moves};
 ghost use Rattle.sim_stations.specs.Moves.{HaveReturned, HaveMoved, held_once_more};
 ghost use Rattle.sim_stations.specs.Rows.{IsFirst};
 ghost use Rattle.sim_stations.specs.Kept.{has_key, is_waiting, seen_of, AreShown, IsKept, IsFound, IsFirstOfAll, IsDeparted, IsBeforeAll, HasOneBefore};
@@ -118,12 +118,14 @@ fn first<L: Ledger>(ahead: &RunHeap, rows: &Rows, steps: &mut Steps<L>) -> Optio
 fn is_held_up<L: Ledger>(
     waiting: &Groups,
     rows: &Rows,
+    times: &[u64],
     slot: u32,
     key: CompactKey,
     steps: &mut Steps<L>,
 ) -> bool
     requires slot_in { slot < length waiting.now.groups }
     requires within { slice_index waiting.now.groups slot < length rows.now.pairs }
+    requires times { AreTimesOf times.now rows.now.free (pair_at rows.now.pairs (slice_index waiting.now.groups slot)) }
     ensures held_up { result ≡ true → (waits_for_room key.class ≡ true) × (key.time < both_free rows.now.free (pair_at rows.now.pairs (slice_index waiting.now.groups slot))) }
     ensures due { result ≡ false → when_free rows.now.free (pair_at rows.now.pairs (slice_index waiting.now.groups slot)) key ≡ key }
     ensures counted { steps.new ≤ steps.old + 2 }
@@ -132,7 +134,7 @@ fn is_held_up<L: Ledger>(
     if !waits_for_room(key.class()) {
         return false;
     }
-    let free = rows.free(waiting.group(slot), steps);
+    let free = rows.free(times, waiting.group(slot), steps);
     steps.tick();
     key.time() < free
 }
@@ -142,12 +144,14 @@ fn is_held_up<L: Ledger>(
 fn may_wait<L: Ledger>(
     waiting: &Groups,
     rows: &Rows,
+    times: &[u64],
     slot: u32,
     key: CompactKey,
     steps: &mut Steps<L>,
 ) -> bool
     requires slot_in { slot < length waiting.now.groups }
     requires within { slice_index waiting.now.groups slot < length rows.now.pairs }
+    requires times { AreTimesOf times.now rows.now.free (pair_at rows.now.pairs (slice_index waiting.now.groups slot)) }
     ensures waits { result ≡ true → waits_for_room key.class ≡ true }
     ensures late { result ≡ true → key.time ≤ both_free rows.now.free (pair_at rows.now.pairs (slice_index waiting.now.groups slot)) }
     ensures counted { steps.new ≤ steps.old + 3 }
@@ -157,7 +161,7 @@ fn may_wait<L: Ledger>(
         return false;
     }
     let station = waiting.group(slot);
-    let free = rows.free(station, steps);
+    let free = rows.free(times, station, steps);
     steps.tick();
     if key.time() < free {
         return true;
@@ -188,6 +192,7 @@ fn is_first<L: Ledger>(
 fn join<L: Ledger>(
     waiting: &mut Groups,
     rows: &mut Rows,
+    times: &[u64],
     slot: u32,
     key: CompactKey,
     steps: &mut Steps<L>,
@@ -198,6 +203,7 @@ fn join<L: Ledger>(
     requires free { key_at waiting.old.keys slot ≡ None }
     requires shown { AreShown waiting.old rows.old.keys (length rows.old.pairs) }
     requires keyed { length rows.old.keys ≡ length rows.old.pairs }
+    requires times { AreTimesOf times.now rows.old.free (pair_at rows.old.pairs (slice_index waiting.old.groups slot)) }
     ensures put { waiting.new ≡ record waiting.old { keys = slice_set waiting.old.keys slot (Some (at_time 0 key)) } }
     ensures shown { AreShown waiting.new rows.new.keys (length rows.new.pairs) }
     ensures keyed { length rows.new.keys ≡ length rows.new.pairs }
@@ -212,7 +218,7 @@ fn join<L: Ledger>(
     let key = key.at(0);
     if is_first(waiting, station, key, steps) {
         waiting.put(slot, key, steps);
-        rows.tell(station, Some(key), steps);
+        rows.tell(times, station, Some(key), steps);
     } else {
         waiting.put(slot, key, steps);
     }
@@ -226,6 +232,7 @@ fn begin_to_wait<L: Ledger>(
     ahead: &mut RunHeap,
     waiting: &mut Groups,
     rows: &mut Rows,
+    times: &[u64],
     stands: &mut [KeyPlace],
     slot: u32,
     key: CompactKey,
@@ -236,6 +243,7 @@ fn begin_to_wait<L: Ledger>(
     requires key { key_at ahead.old slot ≡ Some key }
     requires waits { waits_for_room key.class ≡ true }
     requires late { (station : ℕ) → slice_get waiting.old.groups slot ≡ Some station → key.time ≤ both_free rows.old.free (pair_at rows.old.pairs station) }
+    requires times { AreTimesOf times.now rows.old.free (pair_at rows.old.pairs (slice_index waiting.old.groups slot)) }
     ensures kept { IsKept ahead.new waiting.new rows.new stands.new }
     ensures seen { seen_of ahead.new waiting.new rows.new ≡ seen_of ahead.old waiting.old rows.old }
     ensures groups { waiting.new.groups ≡ waiting.old.groups }
@@ -247,7 +255,7 @@ fn begin_to_wait<L: Ledger>(
     ensures onward { steps.old ≤ steps.new }
 {
     ahead.take(slot, steps);
-    join(waiting, rows, slot, key, steps);
+    join(waiting, rows, times, slot, key, steps);
     stands[slot as usize] = KeyPlace::Waiting;
 }
 
@@ -257,6 +265,7 @@ fn settle<L: Ledger, R: Ledger>(
     ahead: &mut RunHeap,
     waiting: &mut Groups,
     rows: &mut Rows,
+    times: &[u64],
     stands: &mut [KeyPlace],
     sched: &Sched,
     steps: &mut Steps<L>,
@@ -264,6 +273,7 @@ fn settle<L: Ledger, R: Ledger>(
 ) -> Option<(u32, CompactKey)>
     requires kept { IsKept ahead.old waiting.old rows.old stands.old }
     requires of_slots { AreOfSlots (operations sched.now) (seen_of ahead.old waiting.old rows.old) }
+    requires times { (slot : ℕ) → slot < length waiting.old.keys → AreTimesOf times.now rows.old.free (pair_at rows.old.pairs (slice_index waiting.old.groups slot)) }
     ensures kept { IsKept ahead.new waiting.new rows.new stands.new }
     ensures seen { seen_of ahead.new waiting.new rows.new ≡ seen_of ahead.old waiting.old rows.old }
     ensures groups { waiting.new.groups ≡ waiting.old.groups }
@@ -280,14 +290,14 @@ fn settle<L: Ledger, R: Ledger>(
     'looks: while let Some(look) = first(ahead, rows, steps) {
         let Look { key, is_ahead } = look;
         let slot = sched.index(key.id());
-        if !is_held_up(waiting, rows, slot, key, steps) {
+        if !is_held_up(waiting, rows, times, slot, key, steps) {
             return Some((slot, key));
         }
         if is_ahead {
-            begin_to_wait(ahead, waiting, rows, stands, slot, key, steps);
+            begin_to_wait(ahead, waiting, rows, times, stands, slot, key, steps);
         } else {
             let station = waiting.group(slot);
-            rows.turn(station, key.at(0), steps);
+            rows.turn(times, station, key.at(0), steps);
             moves.tick();
         }
     }
@@ -299,17 +309,17 @@ fn depart<L: Ledger>(
     ahead: &mut RunHeap,
     waiting: &mut Groups,
     rows: &mut Rows,
+    times: &[u64],
     stands: &[KeyPlace],
     slot: u32,
-    cpu: u64,
-    side: u64,
     steps: &mut Steps<L>,
 )
     requires kept { IsKept ahead.old waiting.old rows.old stands.now }
     requires found { IsFound ahead.old waiting.old (Some slot) }
     requires slot_in { slot < length waiting.old.keys }
-    requires later { IsLater rows.old.free (pair_at rows.old.pairs (slice_index waiting.old.groups slot)) cpu side }
-    ensures departed { IsDeparted ahead.old waiting.old rows.old stands.now slot cpu side ahead.new waiting.new rows.new }
+    requires known { AreKnown times.now (pair_at rows.old.pairs (slice_index waiting.old.groups slot)) }
+    requires later { IsLaterBy rows.old.free (pair_at rows.old.pairs (slice_index waiting.old.groups slot)) times.now }
+    ensures departed { IsDeparted ahead.old waiting.old rows.old stands.now slot (slice_index times.now (pair_at rows.old.pairs (slice_index waiting.old.groups slot)).cpu) (slice_index times.now (pair_at rows.old.pairs (slice_index waiting.old.groups slot)).side) ahead.new waiting.new rows.new }
     ensures counted { (k : ℕ) → length waiting.old.keys ≤ 2 ^ k → steps.new ≤ steps.old + (8 * k + 10) }
     ensures onward { steps.old ≤ steps.new }
 {
@@ -317,17 +327,17 @@ fn depart<L: Ledger>(
     if is_waiting(stands[slot as usize]) {
         waiting.take(slot, steps);
         let least = waiting.least_of(station);
-        rows.leave(station, least, cpu, side, steps);
+        rows.leave(times, station, least, steps);
     } else {
         ahead.take(slot, steps);
-        rows.hold(station, cpu, side, steps);
+        rows.hold(times, station, steps);
     }
 }
 
 /// A map from slots to the keys of events, whose slots are in stations. Each station needs two resources, whose free
-/// times the map knows. The key of an action that waits for them is at the earliest time at which it can happen, so not
-/// before both are free. If these become free later, the keys of all that wait for them are raised together: a change
-/// of free times compares a few keys of heaps, however many slots wait.
+/// times each call borrows. The key of an action that waits for them is at the earliest time at which it can happen, so
+/// not before both are free. If these become free later, the keys of all that wait for them are raised together: a
+/// change of free times compares a few keys of heaps, however many slots wait.
 ///
 /// A waiting slot waits with its station, and a station waits at that of its two resources which is free later, as far
 /// as is known (`turned`). It switches only when its key becomes the head. So nothing moves when the other resource of
@@ -407,8 +417,16 @@ impl StationQueue {
         first(&self.ahead, &self.rows, steps).is_none()
     }
 
-    /// Gives a slot that has no key one, at the earliest time at which its action can happen.
-    pub fn put<L: Ledger>(&mut self, slot: u32, key: CompactKey, steps: &mut Steps<L>)
+    /// Gives a slot that has no key one, at the earliest time at which its action can happen. `times` says when the
+    /// resources of the slot are free.
+    pub fn put<L: Ledger>(
+        &mut self,
+        times: &[u64],
+        slot: u32,
+        key: CompactKey,
+        steps: &mut Steps<L>,
+    )
+        requires times { AreTimesOf times.now self.old.free (pair_of self.old slot) }
         requires slot_in { slot < length self.old.keys }
         requires free { key_at self.old.keys slot ≡ None }
         ensures put { self.new.keys ≡ slice_set self.old.keys slot (Some (when_free self.old.free (pair_of self.old slot) key)) }
@@ -419,8 +437,8 @@ impl StationQueue {
         ensures counted { (k : ℕ) → length self.old.keys ≤ 2 ^ k → steps.new + cost_of_waiting k self.new.stands ≤ steps.old + cost_of_waiting k self.old.stands + (10 * k + 16) }
     {
         self.found = None;
-        if may_wait(&self.waiting, &self.rows, slot, key, steps) {
-            join(&mut self.waiting, &mut self.rows, slot, key, steps);
+        if may_wait(&self.waiting, &self.rows, times, slot, key, steps) {
+            join(&mut self.waiting, &mut self.rows, times, slot, key, steps);
             self.stands[slot as usize] = KeyPlace::Waiting;
         } else {
             self.ahead.put(slot, key, steps);
@@ -430,17 +448,19 @@ impl StationQueue {
 
     /// Returns the least key with its slot, or `None` if no slot has a key. No key of the map is before it, and none is
     /// changed. On the way slots may begin to wait, and stations may switch to their other resource, which `moves`
-    /// counts.
+    /// counts. `times` says when the resources of all slots are free.
     ///
     /// - `counted`: its comparisons are at most the cost of the slots that begin to wait and of the stations that
     ///   switch.
     /// - `moved`: the number of switches is bounded by how often the resources were held.
     pub fn least<L: Ledger, R: Ledger>(
         &mut self,
+        times: &[u64],
         sched: &Sched,
         steps: &mut Steps<L>,
         moves: &mut Steps<R>,
     ) -> Option<(u32, CompactKey)>
+        requires times { (slot : ℕ) → slot < length self.old.keys → AreTimesOf times.now self.old.free (pair_of self.old slot) }
         requires of_slots { AreOfSlots (operations sched.now) self.old.keys }
         ensures none { IsNone result ↔ IsEmptyMap self.old.keys }
         ensures least { IfSome result (λ r. IsLeast event_before self.old.keys r.0 r.1) }
@@ -457,6 +477,7 @@ impl StationQueue {
             &mut self.ahead,
             &mut self.waiting,
             &mut self.rows,
+            times,
             &mut self.stands,
             sched,
             steps,
@@ -482,18 +503,19 @@ impl StationQueue {
         self.stands[slot as usize] = KeyPlace::Nowhere;
     }
 
-    /// Removes the key that was found to be the least, whose action holds the resources of its slot. These are free at
-    /// the given times from now on, which are not earlier than before. Keys that wait for them are raised.
-    pub fn act<L: Ledger>(&mut self, slot: u32, cpu: u64, side: u64, steps: &mut Steps<L>)
+    /// Removes the key that was found to be the least, whose action holds the resources of its slot. `times` says when
+    /// these are free from now on, which is not earlier than before. Keys that wait for them are raised.
+    pub fn act<L: Ledger>(&mut self, times: &[u64], slot: u32, steps: &mut Steps<L>)
+        requires known { AreKnown times.now (pair_of self.old slot) }
         requires found { self.old.found ≡ Some slot }
-        requires later { IsLater self.old.free (pair_of self.old slot) cpu side }
+        requires later { IsLaterBy self.old.free (pair_of self.old slot) times.now }
         ensures each { length self.new.keys ≡ length self.old.keys }
         ensures gone { key_at self.new.keys slot ≡ None }
         ensures raised { (other : ℕ) → other ≢ slot → key_at self.new.keys other ≡ option_map (when_free self.new.free (pair_of self.old other)) (key_at self.old.keys other) }
         ensures stations { self.new.stations ≡ self.old.stations }
         ensures pairs { self.new.pairs ≡ self.old.pairs }
         ensures turned { self.new.turned ≡ self.old.turned }
-        ensures free { self.new.free ≡ held self.old.free (pair_of self.old slot) cpu side }
+        ensures free { self.new.free ≡ held_by self.old.free (pair_of self.old slot) times.now }
         ensures counted { (k : ℕ) → length self.old.keys ≤ 2 ^ k → steps.new + cost_of_waiting k self.new.stands ≤ steps.old + cost_of_waiting k self.old.stands + (8 * k + 10) }
         ensures returned { (holds returns : List ℕ) → HaveReturned self.old.pairs self.old.turned self.old.free holds returns → HaveReturned self.new.pairs self.new.turned self.new.free (held_once_more holds (pair_of self.old slot)) returns }
     {
@@ -502,10 +524,9 @@ impl StationQueue {
             &mut self.ahead,
             &mut self.waiting,
             &mut self.rows,
+            times,
             &self.stands,
             slot,
-            cpu,
-            side,
             steps,
         );
         self.stands[slot as usize] = KeyPlace::Nowhere;

@@ -3,11 +3,15 @@ use Rattle.goal_graph.specs.declared.action.Timed.{Timed}
 use Rattle.sim_queue.specs.Map.{key_at, IsLeast}
 use Rattle.sim_order.specs.Events.{event_before}
 use Rattle.sim_events.proofs.Changes.{changed_as_least_is_found}
+use Rattle.sim_events.proofs.Held.{borrowed_times_are_known}
 use Rattle.sim_events.proofs.Queue.{keys_are_of_their_slots, same_queue, empty_queue_is_finished, least_key_is_next, key_found}
 use Rattle.sim_events.proofs.follow.next.Goals as goal
 
 pub least-requires : goal.least-requires
-least-requires g c = record { of_slots = keys_are_of_their_slots _ _ _ _ c.args.queue.now _ c.requires.queue c.sched.ensures }
+least-requires g c = record {
+  times = borrowed_times_are_known _ _ _ c.args.queue.now c.requires.queue.of_it _ (c.free_times.ensures c.args.queue.now.stations c.args.queue.now.pairs c.requires.queue.of_it.stationed);
+  of_slots = keys_are_of_their_slots _ _ _ _ c.args.queue.now _ c.requires.queue c.sched.ensures;
+}
 
 pub returns-in_err-slot-clause-queue : goal.returns-in_err-slot-clause-queue
 returns-in_err-slot-clause-queue g c =

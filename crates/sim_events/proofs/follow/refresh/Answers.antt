@@ -2,6 +2,7 @@ use Rattle.std.proofs.Common.{◌<◌, List, length, ap, ◌∙◌, sym, subst, 
 use Rattle.std.proofs.lemmas.List.{length-set}
 use Rattle.goal_graph.specs.Schedule.{Plan, operations}
 use Rattle.goal_graph.specs.Fault.{IsOp}
+use Rattle.sim_events.proofs.Held.{borrowed_times_are_known}
 use Rattle.sim_events.proofs.Queue.{not_some_is_none, key_kept, idle_kept, put_enabled}
 use Rattle.sim_events.proofs.Costs.{spent_put}
 use Rattle.sim_state.proofs.ForCallers.{possible_exists}
@@ -19,6 +20,7 @@ has-requires g c =
 
 pub put-requires : goal.put-requires
 put-requires g c = record {
+  times = borrowed_times_are_known _ _ _ c.args.queue.now c.requires.possible.of_it _ (c.free_times.ensures c.args.queue.now.stations c.args.queue.now.pairs c.requires.possible.of_it.stationed) c.index-slot.result (omega (arith, c.index-slot.ensures.below, c.requires.possible.of_it.each, ap (λ (ps : List Plan). length (operations ps)) c.sched.ensures));
   slot_in = omega (arith, c.index-slot.ensures.below, c.requires.possible.of_it.each, ap (λ (ps : List Plan). length (operations ps)) c.sched.ensures);
   free = not_some_is_none _ (sym c.has.ensures ∙ c.if-has.false);
 }

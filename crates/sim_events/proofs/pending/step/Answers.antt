@@ -1,9 +1,10 @@
-use Rattle.std.proofs.Common.{◌<◌, ◌∙◌, List, All, length, ap, subst, arith}
+use Rattle.std.proofs.Common.{◌≡◌, ◌<◌, ◌∙◌, List, All, Some, length, slice_get, ap, subst, arith}
 use Rattle.std.proofs.lemmas.Option.{slice_get_within}
 use Rattle.goal_graph.specs.declared.plan.Need.{Need}
 use Rattle.goal_graph.specs.Schedule.{Plan, operations, needed}
 use Rattle.goal_graph.specs.Concerned.{waiting_on}
 use Rattle.goal_graph.specs.Fault.{IsOp}
+use Rattle.sim_resources.specs.Numbering.{AreStationed}
 use Rattle.sim_events.specs.Comparisons.{count_of, last_look}
 use Rattle.sim_events.proofs.Costs.{spent_same}
 use Rattle.sim_events.proofs.Settled.{spent_settled}
@@ -21,9 +22,13 @@ pub waiting_after-waiting-requires : goal.waiting_after-waiting-requires
 waiting_after-waiting-requires g c =
     (next_is_of_an_op g.C.Costs.model c.args.state.now c.in_ok-slot.action c.in_ok-slot.ensures.next)
 
-pub settle-requires-clause-exists : goal.settle-requires-clause-exists
-settle-requires-clause-exists g c =
-    op_after g.C.Costs.model c.args.state.now c.perform.new.self c.in_ok-slot.action c.perform.ensures.performed c.in_ok-slot.ensures.next
+pub settle-requires-clause-stationed : goal.settle-requires-clause-stationed
+settle-requires-clause-stationed g c =
+    subst (λ (ps : List Plan). AreStationed ps c.next.new.queue.stations c.next.new.queue.pairs) (plans_after g.C.Costs.model c.args.state.now c.perform.new.self c.in_ok-slot.action c.perform.ensures.performed) c.in_ok-slot.ensures.queue.of_it.stationed
+
+pub settle-requires-clause-slot : goal.settle-requires-clause-slot
+settle-requires-clause-slot g c =
+    subst (λ (ps : List Plan). slice_get (operations ps) c.in_ok-slot.slot ≡ Some c.in_ok-slot.action.op) (plans_after g.C.Costs.model c.args.state.now c.perform.new.self c.in_ok-slot.action c.perform.ensures.performed) c.in_ok-slot.ensures.slot
 
 pub settle-requires-clause-later : goal.settle-requires-clause-later
 settle-requires-clause-later g c =

@@ -1,9 +1,13 @@
-use Rattle.std.proofs.Common.{◌≡◌, true, sym, ap, ◌∙◌, arith}
+use Rattle.std.proofs.Common.{◌≡◌, true, sym, ap, ◌∙◌, subst, arith}
 use Rattle.std.proofs.lemmas.Bool.{ltb-true, ltb-false}
 use Rattle.std.proofs.lemmas.Option.{get_or_from_slice_get}
-use Rattle.sim_stations.specs.Stations.{waits_for_room, both_free, pair_at}
-use Rattle.sim_stations.proofs.Times.{due_itself}
+use Rattle.sim_stations.specs.Stations.{waits_for_room, both_free, pair_at, AreTimesOf}
+use Rattle.sim_stations.proofs.Times.{due_itself, pair_of_station}
 use Rattle.sim_stations.proofs.station_queue.is_held_up.Goals as goal
+
+pub free-free-requires-clause-times : goal.free-free-requires-clause-times
+free-free-requires-clause-times g c =
+    subst (AreTimesOf c.args.times.now c.args.rows.now.free) (pair_of_station c.args.rows.now.pairs c.args.waiting.now.groups c.args.slot c.group.result c.group.ensures) c.requires.times
 
 pub returns-clause-held_up : goal.returns-clause-held_up
 returns-clause-held_up g c = λ e.

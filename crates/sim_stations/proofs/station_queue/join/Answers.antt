@@ -1,11 +1,16 @@
 use Rattle.std.proofs.Common.{◌+◌, Some, length, set, sym, ap, ◌∙◌, refl, subst, arith}
 use Rattle.goal_graph.specs.declared.action.Timed.{Timed}
-use Rattle.sim_stations.specs.Stations.{at_time}
+use Rattle.sim_stations.specs.Stations.{at_time, AreTimesOf}
 use Rattle.sim_stations.specs.Rows.{Rowed}
 use Rattle.sim_stations.specs.Kept.{AreShown, IsBeforeAll, HasOneBefore}
 use Rattle.sim_stations.proofs.Shown.{told_station, shown_with_kept_least, first_is_new_least, later_keeps_least}
+use Rattle.sim_stations.proofs.Times.{pair_of_station}
 use Rattle.sim_stations.proofs.Settling.{twice}
 use Rattle.sim_stations.proofs.station_queue.join.Goals as goal
+
+pub tell-requires-clause-times : goal.tell-requires-clause-times
+tell-requires-clause-times g c =
+    subst (AreTimesOf c.args.times.now c.args.rows.now.free) (pair_of_station c.args.rows.now.pairs c.args.waiting.now.groups c.args.slot c.group-station.result c.group-station.ensures) c.requires.times
 
 pub returns-then-is_first-clause-shown : goal.returns-then-is_first-clause-shown
 returns-then-is_first-clause-shown g c =

@@ -4,10 +4,11 @@ use Rattle.goal_graph.specs.Schedule.{operations}
 use Rattle.goal_graph.specs.Fault.{IsOp}
 use Rattle.sim_order.specs.Events.{event_before}
 use Rattle.sim_queue.specs.Map.{IsEmptyMap, IsLeast}
-use Rattle.sim_stations.specs.Stations.{both_free, pair_at, AreOfSlots}
+use Rattle.sim_stations.specs.Stations.{both_free, pair_at, AreOfSlots, AreTimesOf}
 use Rattle.sim_stations.proofs.Listed.{listed_exists}
 use Rattle.sim_stations.proofs.Least.{listed, least_found, found_slot, sole_ahead, ahead_slot, row_key, turn_late, slot_within, not_empty, empty_both}
-use Rattle.sim_stations.proofs.Settling.{settling, waited, waited_less, went_over, over_less}
+use Rattle.sim_stations.proofs.Times.{pair_of_station}
+use Rattle.sim_stations.proofs.Settling.{settling, times_now, waited, waited_less, went_over, over_less}
 use Rattle.sim_stations.proofs.station_queue.settle.Goals as goal
 
 pub looks-init : goal.looks-init
@@ -37,6 +38,14 @@ is_held_up-requires-clause-within g c =
     let within = slot_within c.looks.ahead c.looks.waiting c.looks.rows c.looks.stands c.looks.invariant.kept c.in-Some.look.key c.in-Some.look.is_ahead c.in-Some.ensures.first plans of_slots c.index-slot.result is_slot in
     let there = slice_get-get_or c.looks.waiting.groups c.index-slot.result 0 (omega (arith, within, c.looks.invariant.kept.mapped.grouped)) in
     c.looks.invariant.kept.mapped.within c.index-slot.result (slice_index c.looks.waiting.groups c.index-slot.result) there
+
+pub is_held_up-requires-clause-times : goal.is_held_up-requires-clause-times
+is_held_up-requires-clause-times g c =
+    let plans = c.args.sched.now in
+    let of_slots = subst (AreOfSlots (operations plans)) (sym c.looks.invariant.seen) c.requires.of_slots in
+    let is_slot : slice_get (operations plans) c.index-slot.result ≡ Some c.in-Some.look.key.op = c.index-slot.ensures.index ∙ ap Some c.id.ensures in
+    let within = slot_within c.looks.ahead c.looks.waiting c.looks.rows c.looks.stands c.looks.invariant.kept c.in-Some.look.key c.in-Some.look.is_ahead c.in-Some.ensures.first plans of_slots c.index-slot.result is_slot in
+    times_now c.args.ahead.now c.args.waiting.now c.args.rows.now c.args.stands.now c.args.steps.now c.args.moves.now c.looks.ahead c.looks.waiting c.looks.rows c.looks.stands c.looks.steps c.looks.moves c.looks.invariant c.args.times.now c.requires.times c.index-slot.result within
 
 pub returns-then-not-is_held_up-clause-none : goal.returns-then-not-is_held_up-clause-none
 returns-then-not-is_held_up-clause-none g c =
@@ -75,6 +84,14 @@ begin_to_wait-requires-clause-key g c =
     let is_slot : slice_get (operations plans) c.index-slot.result ≡ Some c.in-Some.look.key.op = c.index-slot.ensures.index ∙ ap Some c.id.ensures in
     ahead_slot c.looks.ahead c.looks.waiting c.looks.rows c.looks.stands c.looks.invariant.kept c.in-Some.look.key c.in-Some.look.is_ahead c.in-Some.ensures.first plans of_slots c.index-slot.result is_slot c.if-is_ahead.true
 
+pub begin_to_wait-requires-clause-times : goal.begin_to_wait-requires-clause-times
+begin_to_wait-requires-clause-times g c =
+    let plans = c.args.sched.now in
+    let of_slots = subst (AreOfSlots (operations plans)) (sym c.looks.invariant.seen) c.requires.of_slots in
+    let is_slot : slice_get (operations plans) c.index-slot.result ≡ Some c.in-Some.look.key.op = c.index-slot.ensures.index ∙ ap Some c.id.ensures in
+    let within = slot_within c.looks.ahead c.looks.waiting c.looks.rows c.looks.stands c.looks.invariant.kept c.in-Some.look.key c.in-Some.look.is_ahead c.in-Some.ensures.first plans of_slots c.index-slot.result is_slot in
+    times_now c.args.ahead.now c.args.waiting.now c.args.rows.now c.args.stands.now c.args.steps.now c.args.moves.now c.looks.ahead c.looks.waiting c.looks.rows c.looks.stands c.looks.steps c.looks.moves c.looks.invariant c.args.times.now c.requires.times c.index-slot.result within
+
 pub looks-smaller-then-is_ahead : goal.looks-smaller-then-is_ahead
 looks-smaller-then-is_ahead g c =
     waited_less c.args.ahead.now c.args.waiting.now c.args.rows.now c.args.stands.now c.args.steps.now c.args.moves.now c.looks.ahead c.looks.waiting c.looks.rows c.looks.stands c.looks.steps c.looks.moves c.looks.invariant c.begin_to_wait.new.ahead c.begin_to_wait.new.waiting c.begin_to_wait.new.rows c.begin_to_wait.new.stands c.is_held_up.new.steps c.begin_to_wait.new.steps c.begin_to_wait.ensures.kept c.begin_to_wait.ensures.seen c.begin_to_wait.ensures.groups c.begin_to_wait.ensures.pairs c.begin_to_wait.ensures.turned c.begin_to_wait.ensures.free c.begin_to_wait.ensures.fewer (omega (arith, c.first.ensures.counted, c.is_held_up.ensures.counted)) c.begin_to_wait.ensures.counted
@@ -97,6 +114,15 @@ turn-requires-clause-has g c =
     let of_slots = subst (AreOfSlots (operations plans)) (sym c.looks.invariant.seen) c.requires.of_slots in
     let is_slot : slice_get (operations plans) c.index-slot.result ≡ Some c.in-Some.look.key.op = c.index-slot.ensures.index ∙ ap Some c.id.ensures in
     row_key c.looks.ahead c.looks.waiting c.looks.rows c.looks.stands c.looks.invariant.kept c.in-Some.look.key c.in-Some.look.is_ahead c.in-Some.ensures.first plans of_slots c.index-slot.result is_slot c.group-station.result c.group-station.ensures c.if-is_ahead.false ∙ ap Some (sym c.at.ensures)
+
+pub turn-requires-clause-times : goal.turn-requires-clause-times
+turn-requires-clause-times g c =
+    let plans = c.args.sched.now in
+    let of_slots = subst (AreOfSlots (operations plans)) (sym c.looks.invariant.seen) c.requires.of_slots in
+    let is_slot : slice_get (operations plans) c.index-slot.result ≡ Some c.in-Some.look.key.op = c.index-slot.ensures.index ∙ ap Some c.id.ensures in
+    let within = slot_within c.looks.ahead c.looks.waiting c.looks.rows c.looks.stands c.looks.invariant.kept c.in-Some.look.key c.in-Some.look.is_ahead c.in-Some.ensures.first plans of_slots c.index-slot.result is_slot in
+    let same = pair_of_station c.looks.rows.pairs c.looks.waiting.groups c.index-slot.result c.group-station.result c.group-station.ensures in
+    subst (AreTimesOf c.args.times.now c.looks.rows.free) same (times_now c.args.ahead.now c.args.waiting.now c.args.rows.now c.args.stands.now c.args.steps.now c.args.moves.now c.looks.ahead c.looks.waiting c.looks.rows c.looks.stands c.looks.steps c.looks.moves c.looks.invariant c.args.times.now c.requires.times c.index-slot.result within)
 
 pub looks-smaller : goal.looks-smaller
 looks-smaller g c =

@@ -1,8 +1,7 @@
-use Rattle.std.proofs.Common.{◌≡◌, ◌<◌, Some, length, set, slice_get, sym, ap, ◌∙◌, subst, arith}
-use Rattle.std.proofs.lemmas.List.{length-set}
-use Rattle.sim_stations.specs.Stations.{held, pair_at}
-use Rattle.sim_stations.specs.Rows.{Rowed, place_in, turned_at, AreBothTold}
-use Rattle.sim_stations.proofs.InRows.{held_long, with_key, if_some, pair_read, pair_there, turned_read, written_inside, left_heads, written_seen}
+use Rattle.std.proofs.Common.{◌≡◌, ◌<◌, Some, length, set, slice_get, slice_index, sym, ap, ◌∙◌, subst, arith}
+use Rattle.sim_stations.specs.Stations.{held_by, pair_at, AreKnown}
+use Rattle.sim_stations.specs.Rows.{Rowed, place_in, turned_at, AreBothTold, IsInRows, AreHeads}
+use Rattle.sim_stations.proofs.InRows.{known_here, held_times, both_told_same, held_long, with_key, if_some, pair_read, pair_there, turned_read, written_inside, left_heads, written_seen}
 use Rattle.sim_stations.proofs.rows.Rows.leave.Given.{Over}
 use Rattle.sim_stations.proofs.rows.Rows.leave.Goals.{After-tell_both}
 use Rattle.sim_stations.proofs.rows.Rows.leave.Goals as goal
@@ -22,25 +21,12 @@ module _ (g : Over) (c : After-tell_both g) where
   is_new =
       c.write.ensures.written ∙ ap (λ i. with_key c.self.inside.rows i c.args.key) (c.place_in.ensures ∙ ap (place_in c.args.station) turned)
 
-  told : AreBothTold c.write.new.rows (held c.self.inside.free.items c.index-pair.result.now c.args.cpu c.args.side) c.self.inside.heads c.tell_both.new.heads c.index-pair.result.now
+  told : AreBothTold c.write.new.rows (held_by c.self.inside.free.times c.index-pair.result.now c.args.times.now) c.self.inside.heads c.tell_both.new.heads c.index-pair.result.now
   told =
-      subst (λ f. AreBothTold c.write.new.rows f c.self.inside.heads c.tell_both.new.heads c.index-pair.result.now) c.deref.ensures.value c.tell_both.ensures.told
-
-pub index_mut-requires : goal.index_mut-requires
-index_mut-requires g c =
-    let q = c.self.inside in
-    let p = c.index-pair.result.now in
-    let within : c.args.station < length q.pairs.items = omega (arith, c.requires.exists, ap (λ (r : Rowed). length r.pairs) c.self.view_is) in
-    let at = pair_read q.pairs.items c.args.station p within c.index-pair.ensures in
-    omega (arith, (c.self.invariant.0.exist c.args.station p at).0, q.free.ok.0)
-
-pub index_mut-requires-2 : goal.index_mut-requires-2
-index_mut-requires-2 g c =
-    let q = c.self.inside in
-    let p = c.index-pair.result.now in
-    let within : c.args.station < length q.pairs.items = omega (arith, c.requires.exists, ap (λ (r : Rowed). length r.pairs) c.self.view_is) in
-    let at = pair_read q.pairs.items c.args.station p within c.index-pair.ensures in
-    omega (arith, (c.self.invariant.0.exist c.args.station p at).1, length-set q.free.items p.cpu c.args.cpu)
+      let q = c.self.inside in
+      let p = c.index-pair.result.now in
+      let exist = c.self.invariant.0.exist c.args.station p at in
+      both_told_same c.write.new.rows c.args.times.now (held_by q.free.times p c.args.times.now) q.heads c.tell_both.new.heads p (held_times c.args.times.now q.free.times p exist.0 exist.1) c.tell_both.ensures.told
 
 pub tell_both-requires-clause-cpu : goal.tell_both-requires-clause-cpu
 tell_both-requires-clause-cpu g c =
@@ -58,26 +44,41 @@ tell_both-requires-clause-side g c =
     let at = pair_read q.pairs.items c.args.station p within c.index-pair.ensures in
     omega (arith, c.self.invariant.1.each, (c.self.invariant.0.exist c.args.station p at).1)
 
-pub tell_both-requires-clause-each : goal.tell_both-requires-clause-each
-tell_both-requires-clause-each g c =
-    c.self.invariant.1.each ∙ sym (ap length c.deref.ensures.value ∙ held_long c.self.inside.free.items c.index-pair.result.now c.args.cpu c.args.side)
+pub tell_both-requires-clause-known_cpu : goal.tell_both-requires-clause-known_cpu
+tell_both-requires-clause-known_cpu g c =
+    let q = c.self.inside in
+    let p = c.index-pair.result.now in
+    let within : c.args.station < length q.pairs.items = omega (arith, c.requires.exists, ap (λ (r : Rowed). length r.pairs) c.self.view_is) in
+    let at = pair_read q.pairs.items c.args.station p within c.index-pair.ensures in
+    (known_here c.args.times.now q.pairs.items c.args.station p at (subst (λ (r : Rowed). AreKnown c.args.times.now (pair_at r.pairs c.args.station)) (sym c.self.view_is) c.requires.known)).has_cpu
+
+pub tell_both-requires-clause-known_side : goal.tell_both-requires-clause-known_side
+tell_both-requires-clause-known_side g c =
+    let q = c.self.inside in
+    let p = c.index-pair.result.now in
+    let within : c.args.station < length q.pairs.items = omega (arith, c.requires.exists, ap (λ (r : Rowed). length r.pairs) c.self.view_is) in
+    let at = pair_read q.pairs.items c.args.station p within c.index-pair.ensures in
+    (known_here c.args.times.now q.pairs.items c.args.station p at (subst (λ (r : Rowed). AreKnown c.args.times.now (pair_at r.pairs c.args.station)) (sym c.self.view_is) c.requires.known)).has_side
 
 pub invariant_of-self : goal.invariant_of-self
 invariant_of-self g c =
     let q = c.self.inside in
     let p = c.index-pair.result.now in
+    let times = c.args.times.now in
+    let cpu = slice_index times p.cpu in
+    let side = slice_index times p.side in
     let zero = if_some c.args.key c.requires.at_zero in
-    let l = length-set (set q.free.items p.cpu c.args.cpu) p.side c.args.side ∙ length-set q.free.items p.cpu c.args.cpu in
-    (written_inside q.rows q.heads q.pairs.items q.turned.items q.free.items c.self.invariant.0 c.self.invariant.1 c.args.station p (at g c) c.args.key zero c.write.new.rows (is_new g c) (held q.free.items p c.args.cpu c.args.side) l, left_heads q.rows q.heads q.pairs.items q.turned.items q.free.items c.self.invariant.0 c.self.invariant.1 c.args.station p (at g c) c.args.key zero c.write.new.rows (is_new g c) c.args.cpu c.args.side c.tell_both.new.heads (told g c))
+    subst (λ f. IsInRows c.write.new.rows q.pairs.items q.turned.items f × AreHeads c.write.new.rows c.tell_both.new.heads f) (sym c.with-self-inside.ensures) (written_inside q.rows q.heads q.pairs.items q.turned.items q.free.times c.self.invariant.0 c.self.invariant.1 c.args.station p (at g c) c.args.key zero c.write.new.rows (is_new g c) (held_by q.free.times p times) (held_long q.free.times p cpu side), left_heads q.rows q.heads q.pairs.items q.turned.items q.free.times c.self.invariant.0 c.self.invariant.1 c.args.station p (at g c) c.args.key zero c.write.new.rows (is_new g c) cpu side c.tell_both.new.heads (told g c))
 
 pub returns-clause-held : goal.returns-clause-held
 returns-clause-held g c =
     let q = c.self.inside in
     let p = c.index-pair.result.now in
+    let times = c.args.times.now in
     let zero = if_some c.args.key c.requires.at_zero in
-    let keys = written_seen q.rows q.heads q.pairs.items q.turned.items q.free.items c.self.invariant.0 c.self.invariant.1 c.args.station p (at g c) c.args.key zero c.write.new.rows (is_new g c) in
-    let pair = pair_there q.pairs.items c.args.station p (at g c) in
-    (λ i. record { keys = keys i; pairs = q.pairs.items; turned = q.turned.items; free = held q.free.items (sym pair i) c.args.cpu c.args.side }) ∙ ap (λ (r : Rowed). record { keys = set r.keys c.args.station c.args.key; pairs = r.pairs; turned = r.turned; free = held r.free (pair_at r.pairs c.args.station) c.args.cpu c.args.side }) c.self.view_is
+    let keys = written_seen q.rows q.heads q.pairs.items q.turned.items q.free.times c.self.invariant.0 c.self.invariant.1 c.args.station p (at g c) c.args.key zero c.write.new.rows (is_new g c) in
+    let free = c.with-self-inside.ensures ∙ ap (λ x. held_by q.free.times x times) (sym (pair_there q.pairs.items c.args.station p (at g c))) in
+    (λ i. record { keys = keys i; pairs = q.pairs.items; turned = q.turned.items; free = free i }) ∙ ap (λ (r : Rowed). record { keys = set r.keys c.args.station c.args.key; pairs = r.pairs; turned = r.turned; free = held_by r.free (pair_at r.pairs c.args.station) times }) c.self.view_is
 
 pub returns-clause-counted : goal.returns-clause-counted
 returns-clause-counted g c =

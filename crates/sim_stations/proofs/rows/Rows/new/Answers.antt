@@ -21,12 +21,12 @@ pub invariant_of-result : goal.invariant_of-result
 invariant_of-result c =
     let rows = c.in_ok-new.ensures ∙ ap rows_of (c.deref.ensures.value ∙ c.in_ok-numbers.ensures) in
     let turned = c.in_ok-vec.ensures.items_if_clones_equal (λ y h. h) in
-    let free = c.in_ok-vec-2.ensures.items_if_clones_equal (λ y h. h) in
-    (new_inside c.args.pairs.now c.args.resources c.requires.exist (omega (arith, c.requires.few)) (omega arith) c.in_ok-new.field-0 c.in_ok-new-2.field-0 c.in_ok-from_slice.field-0.items c.in_ok-vec.field-0.items c.in_ok-vec-2.field-0.items rows c.in_ok-new-2.ensures c.in_ok-from_slice.ensures.items turned free, new_heads c.args.pairs.now c.args.resources c.requires.exist (omega (arith, c.requires.few)) (omega arith) c.in_ok-new.field-0 c.in_ok-new-2.field-0 c.in_ok-from_slice.field-0.items c.in_ok-vec.field-0.items c.in_ok-vec-2.field-0.items rows c.in_ok-new-2.ensures c.in_ok-from_slice.ensures.items turned free)
+    let free = c.new-3.ensures in
+    (new_inside c.args.pairs.now c.args.resources c.requires.exist (omega (arith, c.requires.few)) (omega arith) c.in_ok-new.field-0 c.in_ok-new-2.field-0 c.in_ok-from_slice.field-0.items c.in_ok-vec.field-0.items c.new-3.result.times rows c.in_ok-new-2.ensures c.in_ok-from_slice.ensures.items turned free, new_heads c.args.pairs.now c.args.resources c.requires.exist (omega (arith, c.requires.few)) (omega arith) c.in_ok-new.field-0 c.in_ok-new-2.field-0 c.in_ok-from_slice.field-0.items c.in_ok-vec.field-0.items c.new-3.result.times rows c.in_ok-new-2.ensures c.in_ok-from_slice.ensures.items turned free)
 
 pub returns : goal.returns
 returns c =
     let rows = c.in_ok-new.ensures ∙ ap rows_of (c.deref.ensures.value ∙ c.in_ok-numbers.ensures) in
     let turned = c.in_ok-vec.ensures.items_if_clones_equal (λ y h. h) in
-    let free = c.in_ok-vec-2.ensures.items_if_clones_equal (λ y h. h) in
-    new_rowed c.args.pairs.now c.args.resources c.requires.exist (omega (arith, c.requires.few)) (omega arith) c.in_ok-new.field-0 c.in_ok-new-2.field-0 c.in_ok-from_slice.field-0.items c.in_ok-vec.field-0.items c.in_ok-vec-2.field-0.items rows c.in_ok-new-2.ensures c.in_ok-from_slice.ensures.items turned free
+    let free = c.new-3.ensures in
+    new_rowed c.args.pairs.now c.args.resources c.requires.exist (omega (arith, c.requires.few)) (omega arith) c.in_ok-new.field-0 c.in_ok-new-2.field-0 c.in_ok-from_slice.field-0.items c.in_ok-vec.field-0.items c.new-3.result.times rows c.in_ok-new-2.ensures c.in_ok-from_slice.ensures.items turned free

@@ -1,6 +1,7 @@
 use Rattle.std.proofs.Common.{◌≡◌, ◌<◌, Some, length, set, slice_get, sym, ap, ◌∙◌, subst, arith}
+use Rattle.sim_stations.specs.Stations.{pair_at, AreTimesOf}
 use Rattle.sim_stations.specs.Rows.{Rowed, place_in, side_of, turned_at, IsTold}
-use Rattle.sim_stations.proofs.InRows.{side_in, with_key, if_some, pair_read, turned_read, written_inside, written_heads, written_seen}
+use Rattle.sim_stations.proofs.InRows.{side_in, times_here, times_known, known_side, same_times, told_same, with_key, if_some, pair_read, turned_read, written_inside, written_heads, written_seen}
 use Rattle.sim_stations.proofs.rows.Rows.tell.Given.{Over}
 use Rattle.sim_stations.proofs.rows.Rows.tell.Goals.{After-tell}
 use Rattle.sim_stations.proofs.rows.Rows.tell.Goals as goal
@@ -20,33 +21,46 @@ module _ (g : Over) (c : After-tell g) where
   is_new =
       c.write.ensures.written ∙ ap (λ i. with_key c.self.inside.rows i c.args.key) (c.place_in.ensures ∙ ap (place_in c.args.station) turned)
 
-  told : IsTold c.write.new.rows c.self.inside.free.items c.self.inside.heads c.tell.new.heads (side_of c.index-pair.result.now (turned_at c.self.inside.turned.items c.args.station))
+  times : AreTimesOf c.args.times.now c.self.inside.free.times c.index-pair.result.now
+  times =
+      let q = c.self.inside in
+      times_here c.args.times.now q.free.times q.pairs.items c.args.station c.index-pair.result.now at (subst (λ (r : Rowed). AreTimesOf c.args.times.now r.free (pair_at r.pairs c.args.station)) (sym c.self.view_is) c.requires.times)
+
+  told : IsTold c.write.new.rows c.self.inside.free.times c.self.inside.heads c.tell.new.heads (side_of c.index-pair.result.now (turned_at c.self.inside.turned.items c.args.station))
   told =
-      subst (IsTold c.write.new.rows c.self.inside.free.items c.self.inside.heads c.tell.new.heads) (c.side_of-resource.ensures ∙ ap (side_of c.index-pair.result.now) turned) (subst (λ f. IsTold c.write.new.rows f c.self.inside.heads c.tell.new.heads c.side_of-resource.result) c.deref.ensures.value c.tell.ensures.told)
+      let q = c.self.inside in
+      let p = c.index-pair.result.now in
+      told_same c.write.new.rows c.args.times.now q.free.times q.heads c.tell.new.heads p (turned_at q.turned.items c.args.station) (same_times c.args.times.now q.free.times p times) (subst (IsTold c.write.new.rows c.args.times.now q.heads c.tell.new.heads) (c.side_of-resource.ensures ∙ ap (side_of p) turned) c.tell.ensures.told)
 
 pub tell-requires-clause-exists : goal.tell-requires-clause-exists
 tell-requires-clause-exists g c =
     let q = c.self.inside in
     let p = c.index-pair.result.now in
     let there : c.args.station < length q.pairs.items = omega (arith, c.requires.exists, ap (λ (r : Rowed). length r.pairs) c.self.view_is) in
-    let side = side_in q.rows q.heads q.pairs.items q.turned.items q.free.items c.self.invariant.0 c.self.invariant.1 c.args.station p c.index-turned.result.now (pair_read q.pairs.items c.args.station p there c.index-pair.ensures) in
+    let side = side_in q.rows q.heads q.pairs.items q.turned.items q.free.times c.self.invariant.0 c.self.invariant.1 c.args.station p c.index-turned.result.now (pair_read q.pairs.items c.args.station p there c.index-pair.ensures) in
     omega (arith, side, c.side_of-resource.ensures, c.self.invariant.1.each)
 
-pub tell-requires-clause-each : goal.tell-requires-clause-each
-tell-requires-clause-each g c = c.self.invariant.1.each ∙ sym (ap length c.deref.ensures.value)
+pub tell-requires-clause-known : goal.tell-requires-clause-known
+tell-requires-clause-known g c =
+    let q = c.self.inside in
+    let p = c.index-pair.result.now in
+    let there : c.args.station < length q.pairs.items = omega (arith, c.requires.exists, ap (λ (r : Rowed). length r.pairs) c.self.view_is) in
+    let at = pair_read q.pairs.items c.args.station p there c.index-pair.ensures in
+    let times : AreTimesOf c.args.times.now q.free.times p = times_here c.args.times.now q.free.times q.pairs.items c.args.station p at (subst (λ (r : Rowed). AreTimesOf c.args.times.now r.free (pair_at r.pairs c.args.station)) (sym c.self.view_is) c.requires.times) in
+    omega (arith, known_side c.args.times.now p c.index-turned.result.now (times_known c.args.times.now q.free.times p times), c.side_of-resource.ensures)
 
 pub invariant_of-self : goal.invariant_of-self
 invariant_of-self g c =
     let q = c.self.inside in
     let zero = if_some c.args.key c.requires.at_zero in
-    (written_inside q.rows q.heads q.pairs.items q.turned.items q.free.items c.self.invariant.0 c.self.invariant.1 c.args.station c.index-pair.result.now (at g c) c.args.key zero c.write.new.rows (is_new g c) q.free.items (omega arith), written_heads q.rows q.heads q.pairs.items q.turned.items q.free.items c.self.invariant.0 c.self.invariant.1 c.args.station c.index-pair.result.now (at g c) c.args.key zero c.write.new.rows (is_new g c) c.tell.new.heads (told g c))
+    (written_inside q.rows q.heads q.pairs.items q.turned.items q.free.times c.self.invariant.0 c.self.invariant.1 c.args.station c.index-pair.result.now (at g c) c.args.key zero c.write.new.rows (is_new g c) q.free.times (omega arith), written_heads q.rows q.heads q.pairs.items q.turned.items q.free.times c.self.invariant.0 c.self.invariant.1 c.args.station c.index-pair.result.now (at g c) c.args.key zero c.write.new.rows (is_new g c) c.tell.new.heads (told g c))
 
 pub returns-clause-told : goal.returns-clause-told
 returns-clause-told g c =
     let q = c.self.inside in
     let zero = if_some c.args.key c.requires.at_zero in
-    let keys = written_seen q.rows q.heads q.pairs.items q.turned.items q.free.items c.self.invariant.0 c.self.invariant.1 c.args.station c.index-pair.result.now (at g c) c.args.key zero c.write.new.rows (is_new g c) in
-    (λ i. record { keys = keys i; pairs = q.pairs.items; turned = q.turned.items; free = q.free.items }) ∙ ap (λ (r : Rowed). record { keys = set r.keys c.args.station c.args.key; pairs = r.pairs; turned = r.turned; free = r.free }) c.self.view_is
+    let keys = written_seen q.rows q.heads q.pairs.items q.turned.items q.free.times c.self.invariant.0 c.self.invariant.1 c.args.station c.index-pair.result.now (at g c) c.args.key zero c.write.new.rows (is_new g c) in
+    (λ i. record { keys = keys i; pairs = q.pairs.items; turned = q.turned.items; free = q.free.times }) ∙ ap (λ (r : Rowed). record { keys = set r.keys c.args.station c.args.key; pairs = r.pairs; turned = r.turned; free = r.free }) c.self.view_is
 
 pub returns-clause-counted : goal.returns-clause-counted
 returns-clause-counted g c =

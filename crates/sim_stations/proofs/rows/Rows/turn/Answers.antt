@@ -3,10 +3,10 @@ use Rattle.std.proofs.lemmas.List.{length-set}
 use Rattle.goal_graph.specs.declared.action.Timed.{Timed}
 use Rattle.sim_queue.specs.Map.{key_at}
 use Rattle.sim_queue.specs.Groups.{Grouped}
-use Rattle.sim_stations.specs.Stations.{at_time}
+use Rattle.sim_stations.specs.Stations.{at_time, pair_at, AreTimesOf}
 use Rattle.sim_stations.specs.Rows.{Rowed, place_in, turned_at, seen, AreBothTold, IsInRows}
 use Rattle.sim_stations.proofs.Heads.{at_own}
-use Rattle.sim_stations.proofs.InRows.{with_key, key_zero, pair_read, turned_read, turned_zero, turned_inside, turned_heads, turned_seen}
+use Rattle.sim_stations.proofs.InRows.{times_here, times_known, same_times, both_told_same, with_key, key_zero, pair_read, turned_read, turned_zero, turned_inside, turned_heads, turned_seen}
 use Rattle.sim_stations.proofs.rows.Rows.turn.Given.{Over}
 use Rattle.sim_stations.proofs.rows.Rows.turn.Goals.{After-tell_both-arg-3-1, After-tell_both}
 use Rattle.sim_stations.proofs.rows.Rows.turn.Goals as goal
@@ -18,6 +18,11 @@ module _ (g : Over) (c : After-tell_both-arg-3-1 g) where
 
   at_before : slice_get c.self.inside.pairs.items c.args.station ≡ Some c.index-pair.result.now
   at_before = pair_read c.self.inside.pairs.items c.args.station c.index-pair.result.now within_before c.index-pair.ensures
+
+  times_before : AreTimesOf c.args.times.now c.self.inside.free.times c.index-pair.result.now
+  times_before =
+      let q = c.self.inside in
+      times_here c.args.times.now q.free.times q.pairs.items c.args.station c.index-pair.result.now at_before (subst (λ (r : Rowed). AreTimesOf c.args.times.now r.free (pair_at r.pairs c.args.station)) (sym c.self.view_is) c.requires.times)
 
   turned_before : c.index-turned.result.now ≡ turned_at c.self.inside.turned.items c.args.station
   turned_before =
@@ -33,7 +38,7 @@ module _ (g : Over) (c : After-tell_both-arg-3-1 g) where
   zero_before : c.args.key.time ≡ 0
   zero_before =
       let q = c.self.inside in
-      key_zero q.rows q.heads q.pairs.items q.turned.items q.free.items c.self.invariant.0 c.self.invariant.1 c.args.station c.index-pair.result.now at_before c.args.key has_before
+      key_zero q.rows q.heads q.pairs.items q.turned.items q.free.times c.self.invariant.0 c.self.invariant.1 c.args.station c.index-pair.result.now at_before c.args.key has_before
 
   new_before : c.put.new.self ≡ with_key c.drop_slot.new.self (place_in c.args.station (not (turned_at c.self.inside.turned.items c.args.station))) (Some c.args.key)
   new_before =
@@ -46,6 +51,11 @@ module _ (g : Over) (c : After-tell_both g) where
 
   at : slice_get c.self.inside.pairs.items c.args.station ≡ Some c.index-pair.result.now
   at = pair_read c.self.inside.pairs.items c.args.station c.index-pair.result.now within c.index-pair.ensures
+
+  times : AreTimesOf c.args.times.now c.self.inside.free.times c.index-pair.result.now
+  times =
+      let q = c.self.inside in
+      times_here c.args.times.now q.free.times q.pairs.items c.args.station c.index-pair.result.now at (subst (λ (r : Rowed). AreTimesOf c.args.times.now r.free (pair_at r.pairs c.args.station)) (sym c.self.view_is) c.requires.times)
 
   turned : c.index-turned.result.now ≡ turned_at c.self.inside.turned.items c.args.station
   turned =
@@ -61,14 +71,17 @@ module _ (g : Over) (c : After-tell_both g) where
   zero : c.args.key.time ≡ 0
   zero =
       let q = c.self.inside in
-      key_zero q.rows q.heads q.pairs.items q.turned.items q.free.items c.self.invariant.0 c.self.invariant.1 c.args.station c.index-pair.result.now at c.args.key has
+      key_zero q.rows q.heads q.pairs.items q.turned.items q.free.times c.self.invariant.0 c.self.invariant.1 c.args.station c.index-pair.result.now at c.args.key has
 
   new : c.put.new.self ≡ with_key c.drop_slot.new.self (place_in c.args.station (not (turned_at c.self.inside.turned.items c.args.station))) (Some c.args.key)
   new =
       c.put.ensures.put ∙ ap (λ i. with_key c.drop_slot.new.self i (Some (at_time 0 c.args.key))) (c.place_in-2.ensures ∙ ap (λ b. place_in c.args.station (not b)) turned) ∙ ap (λ k. with_key c.drop_slot.new.self (place_in c.args.station (not (turned_at c.self.inside.turned.items c.args.station))) (Some k)) (at_own c.args.key 0 zero)
 
-  told : AreBothTold c.put.new.self c.self.inside.free.items c.self.inside.heads c.tell_both.new.heads c.index-pair.result.now
-  told = subst (λ f. AreBothTold c.put.new.self f c.self.inside.heads c.tell_both.new.heads c.index-pair.result.now) c.deref.ensures.value c.tell_both.ensures.told
+  told : AreBothTold c.put.new.self c.self.inside.free.times c.self.inside.heads c.tell_both.new.heads c.index-pair.result.now
+  told =
+      let q = c.self.inside in
+      let p = c.index-pair.result.now in
+      both_told_same c.put.new.self c.args.times.now q.free.times q.heads c.tell_both.new.heads p (same_times c.args.times.now q.free.times p times) c.tell_both.ensures.told
 
   over : set c.self.inside.turned.items c.args.station (not c.index-turned.result.now) ≡ set c.self.inside.turned.items c.args.station (not (turned_at c.self.inside.turned.items c.args.station))
   over = ap (λ b. set c.self.inside.turned.items c.args.station (not b)) turned
@@ -81,25 +94,30 @@ pub tell_both-requires-clause-side : goal.tell_both-requires-clause-side
 tell_both-requires-clause-side g c =
     omega (arith, c.self.invariant.1.each, (c.self.invariant.0.exist c.args.station c.index-pair.result.now (at_before g c)).1)
 
-pub tell_both-requires-clause-each : goal.tell_both-requires-clause-each
-tell_both-requires-clause-each g c = c.self.invariant.1.each ∙ sym (ap length c.deref.ensures.value)
+pub tell_both-requires-clause-known_cpu : goal.tell_both-requires-clause-known_cpu
+tell_both-requires-clause-known_cpu g c =
+    (times_known c.args.times.now c.self.inside.free.times c.index-pair.result.now (times_before g c)).has_cpu
+
+pub tell_both-requires-clause-known_side : goal.tell_both-requires-clause-known_side
+tell_both-requires-clause-known_side g c =
+    (times_known c.args.times.now c.self.inside.free.times c.index-pair.result.now (times_before g c)).has_side
 
 pub tell_both-requires-clause-at_zero : goal.tell_both-requires-clause-at_zero
 tell_both-requires-clause-at_zero g c =
     let q = c.self.inside in
-    turned_zero q.rows q.heads q.pairs.items q.turned.items q.free.items c.self.invariant.0 c.self.invariant.1 c.args.station c.index-pair.result.now (at_before g c) c.args.key (has_before g c) c.drop_slot.new.self c.put.new.self (mid_before g c) (new_before g c)
+    turned_zero q.rows q.heads q.pairs.items q.turned.items q.free.times c.self.invariant.0 c.self.invariant.1 c.args.station c.index-pair.result.now (at_before g c) c.args.key (has_before g c) c.drop_slot.new.self c.put.new.self (mid_before g c) (new_before g c)
 
 pub invariant_of-self : goal.invariant_of-self
 invariant_of-self g c =
     let q = c.self.inside in
-    let inside = turned_inside q.rows q.heads q.pairs.items q.turned.items q.free.items c.self.invariant.0 c.self.invariant.1 c.args.station c.index-pair.result.now (at g c) c.args.key (has g c) c.drop_slot.new.self c.put.new.self (mid g c) (new g c) in
-    (subst (λ bs. IsInRows c.put.new.self q.pairs.items bs q.free.items) (sym (over g c)) inside, turned_heads q.rows q.heads q.pairs.items q.turned.items q.free.items c.self.invariant.0 c.self.invariant.1 c.args.station c.index-pair.result.now (at g c) c.args.key (has g c) c.drop_slot.new.self c.put.new.self (mid g c) (new g c) c.tell_both.new.heads (told g c))
+    let inside = turned_inside q.rows q.heads q.pairs.items q.turned.items q.free.times c.self.invariant.0 c.self.invariant.1 c.args.station c.index-pair.result.now (at g c) c.args.key (has g c) c.drop_slot.new.self c.put.new.self (mid g c) (new g c) in
+    (subst (λ bs. IsInRows c.put.new.self q.pairs.items bs q.free.times) (sym (over g c)) inside, turned_heads q.rows q.heads q.pairs.items q.turned.items q.free.times c.self.invariant.0 c.self.invariant.1 c.args.station c.index-pair.result.now (at g c) c.args.key (has g c) c.drop_slot.new.self c.put.new.self (mid g c) (new g c) c.tell_both.new.heads (told g c))
 
 pub returns-clause-turned : goal.returns-clause-turned
 returns-clause-turned g c =
     let q = c.self.inside in
-    let keys = ap (λ bs. seen bs c.put.new.self.keys) (over g c) ∙ turned_seen q.rows q.heads q.pairs.items q.turned.items q.free.items c.self.invariant.0 c.self.invariant.1 c.args.station c.index-pair.result.now (at g c) c.args.key (has g c) c.drop_slot.new.self c.put.new.self (mid g c) (new g c) in
-    (λ i. record { keys = keys i; pairs = q.pairs.items; turned = over g c i; free = q.free.items }) ∙ ap (λ (r : Rowed). record { keys = r.keys; pairs = r.pairs; turned = set r.turned c.args.station (not (turned_at r.turned c.args.station)); free = r.free }) c.self.view_is
+    let keys = ap (λ bs. seen bs c.put.new.self.keys) (over g c) ∙ turned_seen q.rows q.heads q.pairs.items q.turned.items q.free.times c.self.invariant.0 c.self.invariant.1 c.args.station c.index-pair.result.now (at g c) c.args.key (has g c) c.drop_slot.new.self c.put.new.self (mid g c) (new g c) in
+    (λ i. record { keys = keys i; pairs = q.pairs.items; turned = over g c i; free = q.free.times }) ∙ ap (λ (r : Rowed). record { keys = r.keys; pairs = r.pairs; turned = set r.turned c.args.station (not (turned_at r.turned c.args.station)); free = r.free }) c.self.view_is
 
 pub returns-clause-counted : goal.returns-clause-counted
 returns-clause-counted g c =

@@ -1,4 +1,4 @@
-use Rattle.std.proofs.Common.{◌≡◌, ◌++◌, ℕ, List, Option, Some, None, length, take, drop, IfSome, IsNone, sym, ap, ◌∙◌, subst, arith}
+use Rattle.std.proofs.Common.{◌≡◌, ◌<◌, ◌++◌, ℕ, List, Option, Some, None, length, take, drop, IfSome, IsNone, sym, ap, ◌∙◌, subst, arith}
 use Rattle.std.specs.Option.{option_map}
 use Rattle.std.proofs.lemmas.List.{take-append-le, take_all}
 use Rattle.goal_graph.specs.declared.action.Timed.{Timed}
@@ -6,7 +6,7 @@ use Rattle.goal_graph.specs.Schedule.{operations}
 use Rattle.sim_order.specs.Events.{event_before}
 use Rattle.sim_queue.specs.Map.{IsEmptyMap, IsLeast}
 use Rattle.sim_queue.specs.Groups.{Grouped}
-use Rattle.sim_stations.specs.Stations.{Stationed, AreOfSlots, cost_of_waiting}
+use Rattle.sim_stations.specs.Stations.{Stationed, pair_of, AreTimesOf, AreOfSlots, cost_of_waiting}
 use Rattle.sim_stations.specs.Moves.{HaveReturned, HaveMoved}
 use Rattle.sim_stations.specs.Kept.{IsKept, IsFound}
 use Rattle.sim_stations.proofs.Changed.{seen_size}
@@ -31,6 +31,13 @@ settle-least-requires-clause-kept g c =
 pub settle-least-requires-clause-of_slots : goal.settle-least-requires-clause-of_slots
 settle-least-requires-clause-of_slots g c =
     subst (λ (s : Stationed). AreOfSlots (operations c.args.sched.now) s.keys) (sym c.self.view_is) c.requires.of_slots
+
+pub settle-least-requires-clause-times : goal.settle-least-requires-clause-times
+settle-least-requires-clause-times g c = λ slot l.
+    let q = c.self.inside in
+    let size = seen_size q.ahead q.waiting q.rows q.stands.items c.self.invariant.0 in
+    let times = subst (λ (s : Stationed). (i : ℕ) → i < length s.keys → AreTimesOf c.args.times.now s.free (pair_of s i)) (sym c.self.view_is) c.requires.times in
+    times slot (omega (arith, l, size))
 
 pub invariant_of-self : goal.invariant_of-self
 invariant_of-self g c =

@@ -1,7 +1,7 @@
-use Rattle.std.proofs.Common.{◌≡◌, ◌≤◌, ◌<◌, ◌+◌, ◌*◌, ◌^◌, Some, None, length, set, slice_index, ap, ◌∙◌, arith}
+use Rattle.std.proofs.Common.{◌≡◌, ◌≤◌, ◌<◌, ◌+◌, ◌*◌, ◌^◌, Some, None, length, set, slice_index, sym, ap, ◌∙◌, subst, arith}
 use Rattle.sim_queue.specs.Map.{key_at}
 use Rattle.sim_stations.specs.declared.key_place.KeyPlace.TheVariants.{Ahead, Waiting}
-use Rattle.sim_stations.specs.Stations.{Stationed, when_free, pair_of, count_ahead, cost_of_waiting}
+use Rattle.sim_stations.specs.Stations.{Stationed, when_free, pair_of, AreTimesOf, count_ahead, cost_of_waiting}
 use Rattle.sim_stations.specs.Kept.{seen_of}
 use Rattle.std.proofs.lemmas.Option.{slice_get-get_or}
 use Rattle.sim_stations.proofs.Settling.{one_more, twice}
@@ -21,6 +21,10 @@ may_wait-requires-clause-within g c =
     let listed : c.args.slot < length q.waiting.groups = omega (arith, c.requires.slot_in, ap (λ (s : Stationed). length s.keys) c.self.view_is, size, c.self.invariant.0.mapped.grouped) in
     c.self.invariant.0.mapped.within c.args.slot (slice_index q.waiting.groups c.args.slot) (slice_get-get_or q.waiting.groups c.args.slot 0 listed)
 
+pub may_wait-requires-clause-times : goal.may_wait-requires-clause-times
+may_wait-requires-clause-times g c =
+    subst (λ (s : Stationed). AreTimesOf c.args.times.now s.free (pair_of s c.args.slot)) (sym c.self.view_is) c.requires.times
+
 pub join-requires-clause-slot_in : goal.join-requires-clause-slot_in
 join-requires-clause-slot_in g c =
     let q = c.self.inside in
@@ -36,6 +40,10 @@ join-requires-clause-free g c =
     let within : c.args.slot < length q.waiting.keys = omega (arith, c.requires.slot_in, ap (λ (s : Stationed). length s.keys) c.self.view_is, size) in
     let idle : key_at (seen_of q.ahead q.waiting q.rows) c.args.slot ≡ None = ap (λ (s : Stationed). key_at s.keys c.args.slot) c.self.view_is ∙ c.requires.free in
     idle_waiting q.ahead q.waiting q.rows q.stands.items c.self.invariant.0 c.args.slot idle
+
+pub join-requires-clause-times : goal.join-requires-clause-times
+join-requires-clause-times g c =
+    subst (λ (s : Stationed). AreTimesOf c.args.times.now s.free (pair_of s c.args.slot)) (sym c.self.view_is) c.requires.times
 
 pub index_mut-requires : goal.index_mut-requires
 index_mut-requires g c =
