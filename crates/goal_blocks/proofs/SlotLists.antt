@@ -1,12 +1,11 @@
 -- Lists of slots, note by note.
-use Rattle.std.proofs.Common.{ℕ, zero, suc, ◌+◌, ◌-◌, ◌<◌, ◌≤◌, ◌≡◌, ◌≢◌, ◌⊎◌, inl, inr, true, eq-eqb, List, [], ◌∷◌, ◌++◌, length, take, get_or, map, flat_map, Option, Some, None, slice_get, refl, sym, ap, ◌∙◌, subst, arith, append_assoc, append-nil, is_some, add-zero, unwrap_or}
+use Rattle.std.proofs.Common.{ℕ, ◌+◌, ◌-◌, ◌<◌, ◌≤◌, ◌≡◌, ◌≢◌, ◌⊎◌, inl, inr, true, eq-eqb, List, [], ◌∷◌, ◌++◌, length, take, get_or, flat_map, Option, Some, None, slice_get, refl, sym, ap, ◌∙◌, subst, arith, append-nil, is_some, unwrap_or}
 use Rattle.std.specs.Option.{option_map, option_and_then}
 use Rattle.std.proofs.lemmas.Bool.{cases_lt, true≢false, ne_eqb}
 use Rattle.std.proofs.lemmas.Option.{slice_get_within, slice_get-get_or}
 use Rattle.std.proofs.lemmas.List.{take_more, get_or_append_left, get_or-append-add}
 use Rattle.std.proofs.lemmas.List.Concat.{flat_map-cons}
 use Rattle.std.proofs.lemmas.Grind.{flat_map-append}
-use Rattle.std.proofs.lemmas.List.{map-append}
 use Rattle.goal_graph.specs.declared.action.OpId.{OpId}
 use Rattle.goal_graph.specs.declared.plan.Note.{Note}
 use Rattle.goal_graph.specs.declared.plan.Note.TheVariants.{Moves}
@@ -17,32 +16,6 @@ use Rattle.goal_blocks.specs.Slots.{slots_from, notes_at, moved_by, added_by, sl
 pub slots_none : (lo : ℕ) → slots_from lo 0 ≡ []
 unfolding slots_from
 slots_none lo = refl
-
-pub slots_more : (lo n : ℕ) → slots_from lo (suc n) ≡ slots_from lo n ++ (lo + n) ∷ []
-unfolding slots_from
-slots_more lo zero = ap (λ (k : ℕ). k ∷ []) (sym (add-zero lo))
-slots_more lo (suc n) =
-    ap (λ (ks : List ℕ). lo ∷ ks) (slots_more (lo + 1) n) ∙ ap (λ (k : ℕ). (lo ∷ slots_from (lo + 1) n) ++ k ∷ []) next
-  where
-    next : lo + 1 + n ≡ lo + suc n
-    next = omega arith
-
--- what is pushed for each slot
-module _ {A : Type 0} (f : ℕ → A) (start : List A) (lo : ℕ) where
-  pub pushed_none : start ≡ start ++ map f (slots_from lo (lo - lo))
-  pushed_none =
-      let none : lo - lo ≡ 0 = omega arith in
-      sym (ap (λ (n : ℕ). start ++ map f (slots_from lo n)) none ∙ ap (λ (ks : List ℕ). start ++ map f ks) (slots_none lo) ∙ append-nil start)
-
-  pub pushed_slot : (list more : List A) (slot : ℕ) → lo ≤ slot → list ≡ start ++ map f (slots_from lo (slot - lo)) → more ≡ list ++ f slot ∷ [] → more ≡ start ++ map f (slots_from lo (slot + 1 - lo))
-  pushed_slot list more slot low so_far pushed =
-      let count : slot + 1 - lo ≡ suc (slot - lo) = omega (arith, low) in
-      let last : lo + (slot - lo) ≡ slot = omega (arith, low) in
-      pushed ∙ ap (λ (xs : List A). xs ++ f slot ∷ []) so_far ∙ append_assoc start (map f (slots_from lo (slot - lo))) (f slot ∷ [])
-      ∙ ap (λ (k : ℕ). start ++ (map f (slots_from lo (slot - lo)) ++ f k ∷ [])) (sym last)
-      ∙ ap (λ (xs : List A). start ++ xs) (sym (map-append f (slots_from lo (slot - lo)) ((lo + (slot - lo)) ∷ [])))
-      ∙ ap (λ (ks : List ℕ). start ++ map f ks) (sym (slots_more lo (slot - lo)))
-      ∙ ap (λ (n : ℕ). start ++ map f (slots_from lo n)) (sym count)
 
 -- one more note
 pub note_more : {A : Type 0} (f : Note → List A) (notes : List Note) (i : ℕ) (d : Note) → i < length notes → flat_map f (take (i + 1) notes) ≡ flat_map f (take i notes) ++ f (get_or notes i d)

@@ -12,7 +12,7 @@ use Rattle.goal_graph.specs.Schedule.{Plan, operations, op_at}
 use Rattle.sim_params.specs.Costs.{CostModel}
 use Rattle.sim_resources.proofs.ForCallers.{appended_or_earlier, same_station_true, same_station_from}
 use Rattle.sim_resources.specs.declared.pair.Pair.{Pair}
-use Rattle.sim_stations.specs.Stations.{Stationed, waits_for_room, pair_at, pair_of}
+use Rattle.sim_stations.specs.Stations.{Stationed, holds_cpu, pair_at, pair_of}
 use Rattle.sim_stations.specs.Moves.{HaveReturned, HaveMoved, changes, held_once_more}
 use Rattle.sim_stations.proofs.ForCallers.{few_changes}
 use Rattle.sim_resources.specs.declared.station.Station.{Station}
@@ -86,14 +86,14 @@ module _ (plans : List Plan) (h : List Timed) (a : Timed) where
   times_held_by_answer r b e = times_held_after_action r ∙ ap (λ (c : Bool). cond c 1 0 + times_held plans h r) e
 
   -- what waits for nothing holds nothing
-  holds_nothing : waits_for_room a.class ≡ false → (r : Station) (o : Option Op) → holds_as r a o ≡ false
+  holds_nothing : holds_cpu a.class ≡ false → (r : Station) (o : Option Op) → holds_as r a o ≡ false
   holds_nothing w r None = refl
   holds_nothing w r (Some o) =
       ap (λ (b : Bool). b && (same_station (cpu_alone (station_of a.op o)) r || same_station (side_alone (station_of a.op o)) r)) w
 
   module _ (p : Op) (is_p : op_at plans a.op ≡ Some p) where
-    holds_cpu : waits_for_room a.class ≡ true → (r : Station) → r ≡ cpu_alone (station_of a.op p) → holds_as r a (op_at plans a.op) ≡ true
-    holds_cpu w r e =
+    action_holds_cpu : holds_cpu a.class ≡ true → (r : Station) → r ≡ cpu_alone (station_of a.op p) → holds_as r a (op_at plans a.op) ≡ true
+    action_holds_cpu w r e =
         ap (holds_as r a) is_p
         ∙ ap₂ (λ (b c : Bool). b && (c || same_station (side_alone (station_of a.op p)) r)) w (same_station_from (cpu_alone (station_of a.op p)) r (sym e))
 
@@ -101,8 +101,8 @@ module _ (plans : List Plan) (h : List Timed) (a : Timed) where
     or_true true = refl
     or_true false = refl
 
-    holds_side : waits_for_room a.class ≡ true → (r : Station) → r ≡ side_alone (station_of a.op p) → holds_as r a (op_at plans a.op) ≡ true
-    holds_side w r e =
+    action_holds_side : holds_cpu a.class ≡ true → (r : Station) → r ≡ side_alone (station_of a.op p) → holds_as r a (op_at plans a.op) ≡ true
+    action_holds_side w r e =
         ap (holds_as r a) is_p
         ∙ ap₂ (λ (b c : Bool). b && (same_station (cpu_alone (station_of a.op p)) r || c)) w (same_station_from (side_alone (station_of a.op p)) r (sym e))
         ∙ or_true (same_station (cpu_alone (station_of a.op p)) r)
@@ -114,8 +114,8 @@ module _ (plans : List Plan) (h : List Timed) (a : Timed) where
     holds_no_other_resource : (r : Station) → (r ≡ cpu_alone (station_of a.op p) → ⊥) → (r ≡ side_alone (station_of a.op p) → ⊥) → holds_as r a (op_at plans a.op) ≡ false
     holds_no_other_resource r c s =
         ap (holds_as r a) is_p
-        ∙ ap₂ (λ (b d : Bool). waits_for_room a.class && (b || d)) (unequal_is_not_same_station (cpu_alone (station_of a.op p)) r c) (unequal_is_not_same_station (side_alone (station_of a.op p)) r s)
-        ∙ and_false (waits_for_room a.class)
+        ∙ ap₂ (λ (b d : Bool). holds_cpu a.class && (b || d)) (unequal_is_not_same_station (cpu_alone (station_of a.op p)) r c) (unequal_is_not_same_station (side_alone (station_of a.op p)) r s)
+        ∙ and_false (holds_cpu a.class)
 
 module _ (plans : List Plan) (costs : CostModel) (h : List Timed) (a : Timed) (queue : Stationed) (q : IsOfSchedule plans costs h queue) (slot : ℕ) (here : slice_get (operations plans) slot ≡ Some a.op) where
   -- what was known of one of the two resources
@@ -123,7 +123,7 @@ module _ (plans : List Plan) (costs : CostModel) (h : List Timed) (a : Timed) (q
   held_by_number holds held i x o at is false = held.cpus i x o at is
   held_by_number holds held i x o at is true = held.sides i x o at is
 
-  module _ (p : Op) (is_p : op_at plans a.op ≡ Some p) (w : waits_for_room a.class ≡ true) (holds : List ℕ) (resources : length holds ≡ length queue.free) (held : AreHeld plans h queue holds) where
+  module _ (p : Op) (is_p : op_at plans a.op ≡ Some p) (w : holds_cpu a.class ≡ true) (holds : List ℕ) (resources : length holds ≡ length queue.free) (held : AreHeld plans h queue holds) where
     held_number_after_action : (i : ℕ) (x : OpId) (o : Op) → slice_get (operations plans) i ≡ Some x → op_at plans x ≡ Some o → (b : Bool) → slice_index (held_once_more holds (pair_of queue slot)) (number b (pair_of queue i)) ≡ times_held plans (a ∷ h) (needs b (station_of x o))
     held_number_after_action i x o at is b = go (cases_eq n (pair_of queue slot).side) (cases_eq n (pair_of queue slot).cpu)
       where
@@ -157,7 +157,7 @@ module _ (plans : List Plan) (costs : CostModel) (h : List Timed) (a : Timed) (q
         go : (n ≡ (pair_of queue slot).side) ⊎ (n ≢ (pair_of queue slot).side) → (n ≡ (pair_of queue slot).cpu) ⊎ (n ≢ (pair_of queue slot).cpu) → slice_index (held_once_more holds (pair_of queue slot)) n ≡ times_held plans (a ∷ h) r
         go (inl e) other =
             let one : r ≡ side_alone (station_of a.op p) = same_Some _ _ (sym theirs ∙ ap (slice_get q.stationed.resources) e ∙ at_side) in
-            let more = times_held_by_answer plans h a r true (holds_side plans h a p is_p w r one) in
+            let more = times_held_by_answer plans h a r true (action_holds_side plans h a p is_p w r one) in
             let now : slice_index (held_once_more holds (pair_of queue slot)) n ≡ side_more = ap (slice_index (held_once_more holds (pair_of queue slot))) e ∙ get_or-set_same (set_once) (pair_of queue slot).side side_more 0 (omega (arith, exist.1, resources, length-set holds (pair_of queue slot).cpu cpu_more)) in
             omega (arith, now, more, was, ap (slice_index holds) e)
           where
@@ -165,7 +165,7 @@ module _ (plans : List Plan) (costs : CostModel) (h : List Timed) (a : Timed) (q
             set_once = set holds (pair_of queue slot).cpu cpu_more
         go (inr d) (inl e) =
             let one : r ≡ cpu_alone (station_of a.op p) = same_Some _ _ (sym theirs ∙ ap (slice_get q.stationed.resources) e ∙ at_cpu) in
-            let more = times_held_by_answer plans h a r true (holds_cpu plans h a p is_p w r one) in
+            let more = times_held_by_answer plans h a r true (action_holds_cpu plans h a p is_p w r one) in
             let now : slice_index (held_once_more holds (pair_of queue slot)) n ≡ cpu_more = get_or-set_other (set holds (pair_of queue slot).cpu cpu_more) (pair_of queue slot).side n side_more 0 d ∙ ap (slice_index (set holds (pair_of queue slot).cpu cpu_more)) e ∙ get_or-set_same holds (pair_of queue slot).cpu cpu_more 0 (omega (arith, exist.0, resources)) in
             omega (arith, now, more, was, ap (slice_index holds) e)
         go (inr d) (inr f) =
@@ -182,7 +182,7 @@ module _ (plans : List Plan) (costs : CostModel) (h : List Timed) (a : Timed) (q
     }
 
   -- what is held by an action that waits for nothing
-  held_at_once : waits_for_room a.class ≡ false → (holds : List ℕ) → AreHeld plans h queue holds → AreHeld plans (a ∷ h) queue holds
+  held_at_once : holds_cpu a.class ≡ false → (holds : List ℕ) → AreHeld plans h queue holds → AreHeld plans (a ∷ h) queue holds
   held_at_once w holds held = record {
     cpus = λ i x o at is. omega (arith, held.cpus i x o at is, times_held_by_answer plans h a (cpu_alone (station_of x o)) false (holds_nothing plans h a w (cpu_alone (station_of x o)) (op_at plans a.op)));
     sides = λ i x o at is. omega (arith, held.sides i x o at is, times_held_by_answer plans h a (side_alone (station_of x o)) false (holds_nothing plans h a w (side_alone (station_of x o)) (op_at plans a.op)));
@@ -190,12 +190,12 @@ module _ (plans : List Plan) (costs : CostModel) (h : List Timed) (a : Timed) (q
 
   -- as an action has happened
   pub changed_after_action : (c s : ℕ) (new : Stationed) → IsSettledBy c s slot a queue new → (all : ℕ) → HaveChanged plans h queue all → HaveChanged plans (a ∷ h) new all
-  changed_after_action c s new settled all changed = elim (cases_Bool (waits_for_room a.class)) [ inl w ↦ holding w | inr w ↦ at_once w ]
+  changed_after_action c s new settled all changed = elim (cases_Bool (holds_cpu a.class)) [ inl w ↦ holding w | inr w ↦ at_once w ]
     where
       counted : all ≡ changes new.turned changed.returns
       counted = changed.counted ∙ ap (λ bs. changes bs changed.returns) (sym settled.turned)
 
-      holding : waits_for_room a.class ≡ true → HaveChanged plans (a ∷ h) new all
+      holding : holds_cpu a.class ≡ true → HaveChanged plans (a ∷ h) new all
       holding w =
           let o = listed_op_exists plans costs slot a.op here in
           record {
@@ -206,7 +206,7 @@ module _ (plans : List Plan) (costs : CostModel) (h : List Timed) (a : Timed) (q
             counted = counted;
           }
 
-      at_once : waits_for_room a.class ≡ false → HaveChanged plans (a ∷ h) new all
+      at_once : holds_cpu a.class ≡ false → HaveChanged plans (a ∷ h) new all
       at_once w = record {
         holds = changed.holds;
         returns = changed.returns;

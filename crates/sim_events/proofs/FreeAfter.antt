@@ -16,7 +16,6 @@ use Rattle.goal_graph.proofs.ForCallers.{allowed_serve}
 use Rattle.sim_params.specs.Costs.{CostModel, is_eager}
 use Rattle.sim_params.specs.Times.{same_place, holds_tx, holds_rx, cpu_hold, tx_hold, rx_hold, cpu, tx, rx, Possible}
 use Rattle.goal_graph.specs.Allowed.{allowed}
-use Rattle.sim_stations.specs.Stations.{waits_for_room}
 use Rattle.sim_state.specs.Free.{free, free_of, side, side_of}
 use Rattle.sim_resources.specs.declared.station.Station.{Station}
 use Rattle.sim_events.specs.Cost.{station_by, station_of, cpu_alone, side_alone}
@@ -199,34 +198,34 @@ module _ (plans : List Plan) (costs : CostModel) (a : Timed) (h : List Timed) wh
         go true (Recv n t u) nc ns = rx_stays ns
 
   -- what waits for nothing holds nothing
-  pub cpu_at_once : (x : OpId) → waits_for_room a.class ≡ false → cpu plans costs (a ∷ h) x ≡ cpu plans costs h x
+  pub cpu_at_once : (x : OpId) → holds_cpu a.class ≡ false → cpu plans costs (a ∷ h) x ≡ cpu plans costs h x
   unfolding cpu
   cpu_at_once x w = go a.class w
     where
-      go : (c : Class) → waits_for_room c ≡ false → max (cpu plans costs h x) (if holds_cpu c && same_place (λ (p : Op). p.cpu) x (op_at plans x) a.op (op_at plans a.op) then a.time + cpu_hold plans costs h c a.op (kind_at plans a.op) else 0) ≡ cpu plans costs h x
+      go : (c : Class) → holds_cpu c ≡ false → max (cpu plans costs h x) (if holds_cpu c && same_place (λ (p : Op). p.cpu) x (op_at plans x) a.op (op_at plans a.op) then a.time + cpu_hold plans costs h c a.op (kind_at plans a.op) else 0) ≡ cpu plans costs h x
       go Arrive v = omega arith
       go Post v = omega arith
       go _ v = absurd (both_ways true v refl)
 
-  tx_at_once : (x : OpId) → waits_for_room a.class ≡ false → tx plans costs (a ∷ h) x ≡ tx plans costs h x
+  tx_at_once : (x : OpId) → holds_cpu a.class ≡ false → tx plans costs (a ∷ h) x ≡ tx plans costs h x
   unfolding tx
   tx_at_once x w = go a.class w
     where
-      go : (c : Class) → waits_for_room c ≡ false → max (tx plans costs h x) (if holds_tx c (kind_at plans a.op) && same_place (λ (p : Op). p.nic) x (op_at plans x) a.op (op_at plans a.op) then a.time + tx_hold plans costs c a.op (kind_at plans a.op) else 0) ≡ tx plans costs h x
+      go : (c : Class) → holds_cpu c ≡ false → max (tx plans costs h x) (if holds_tx c (kind_at plans a.op) && same_place (λ (p : Op). p.nic) x (op_at plans x) a.op (op_at plans a.op) then a.time + tx_hold plans costs c a.op (kind_at plans a.op) else 0) ≡ tx plans costs h x
       go Arrive v = omega arith
       go Post v = omega arith
       go _ v = absurd (both_ways true v refl)
 
-  rx_at_once : (x : OpId) → waits_for_room a.class ≡ false → rx plans costs (a ∷ h) x ≡ rx plans costs h x
+  rx_at_once : (x : OpId) → holds_cpu a.class ≡ false → rx plans costs (a ∷ h) x ≡ rx plans costs h x
   unfolding rx
   rx_at_once x w = go a.class w
     where
-      go : (c : Class) → waits_for_room c ≡ false → max (rx plans costs h x) (if holds_rx c && same_place (λ (p : Op). p.nic) x (op_at plans x) a.op (op_at plans a.op) then a.time + rx_hold plans costs h c a.op (kind_at plans a.op) else 0) ≡ rx plans costs h x
+      go : (c : Class) → holds_cpu c ≡ false → max (rx plans costs h x) (if holds_rx c && same_place (λ (p : Op). p.nic) x (op_at plans x) a.op (op_at plans a.op) then a.time + rx_hold plans costs h c a.op (kind_at plans a.op) else 0) ≡ rx plans costs h x
       go Arrive v = omega arith
       go Post v = omega arith
       go _ v = absurd (both_ways true v refl)
 
-  pub side_at_once : (x : OpId) → waits_for_room a.class ≡ false → side plans costs (a ∷ h) x ≡ side plans costs h x
+  pub side_at_once : (x : OpId) → holds_cpu a.class ≡ false → side plans costs (a ∷ h) x ≡ side plans costs h x
   side_at_once x w = go (kind_at plans x)
     where
       go : (k : Option Kind) → side_of plans costs (a ∷ h) x k ≡ side_of plans costs h x k

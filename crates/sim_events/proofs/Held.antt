@@ -12,7 +12,7 @@ use Rattle.sim_params.specs.Costs.{CostModel}
 use Rattle.sim_params.specs.Times.{cpu, Possible}
 use Rattle.sim_resources.specs.declared.pair.Pair.{Pair}
 use Rattle.sim_resources.specs.ByNumber.{HasTimes}
-use Rattle.sim_stations.specs.Stations.{Stationed, waits_for_room, pair_at, pair_of, held, held_by, IsLater, IsLaterBy, AreKnown, AreTimesOf}
+use Rattle.sim_stations.specs.Stations.{Stationed, holds_cpu, pair_at, pair_of, held, held_by, IsLater, IsLaterBy, AreKnown, AreTimesOf}
 use Rattle.sim_state.specs.Free.{side, AreFreeByNumber}
 use Rattle.sim_resources.specs.Numbering.{AreStationed}
 use Rattle.sim_events.specs.Cost.{station_of, cpu_alone, side_alone}
@@ -116,7 +116,7 @@ module _ (plans : List Plan) (costs : CostModel) where
               let a = listed_op plans x (i, slice_get_within (operations plans) i x at, get_or_from_slice_get (operations plans) i x x at) in (a.op, a.is)
 
   -- and after one that needs none
-  pub free_at_once : (h : List Timed) (a : Timed) (queue new : Stationed) → waits_for_room a.class ≡ false → AreFree plans costs h queue → new.stations ≡ queue.stations → new.pairs ≡ queue.pairs → new.free ≡ queue.free → AreFree plans costs (a ∷ h) new
+  pub free_at_once : (h : List Timed) (a : Timed) (queue new : Stationed) → holds_cpu a.class ≡ false → AreFree plans costs h queue → new.stations ≡ queue.stations → new.pairs ≡ queue.pairs → new.free ≡ queue.free → AreFree plans costs (a ∷ h) new
   free_at_once h a queue new w free stations pairs same = record {
     cpus = λ i x at. (λ j. slice_index (same j) (pair_at (pairs j) (slice_index (stations j) i)).cpu) ∙ free.cpus i x at ∙ sym (cpu_at_once plans costs a h x w);
     sides = λ i x at. (λ j. slice_index (same j) (pair_at (pairs j) (slice_index (stations j) i)).side) ∙ free.sides i x at ∙ sym (side_at_once plans costs a h x w);

@@ -24,7 +24,7 @@ use Rattle.sim_params.specs.Laws.{HasBound}
 use Rattle.sim_params.proofs.ForCallers.{run_interleaving, least_is_next}
 use Rattle.sim_order.specs.Events.{event_before}
 use Rattle.sim_queue.specs.Map.{key_at, IsEmptyMap, IsLeast}
-use Rattle.sim_stations.specs.Stations.{Stationed, waits_for_room, pair_at, pair_of, held, when_free, both_free, at_time, DoExist, AreOfSlots}
+use Rattle.sim_stations.specs.Stations.{Stationed, holds_cpu, pair_at, pair_of, held, when_free, both_free, at_time, DoExist, AreOfSlots}
 use Rattle.sim_resources.specs.declared.pair.Pair.{Pair}
 use Rattle.sim_stations.specs.declared.key_place.KeyPlace.TheVariants.{Nowhere}
 use Rattle.sim_state.specs.Enabled.{IsIdle, IsEnabledActionOf}
@@ -47,7 +47,7 @@ not_some_is_none (Some k) e = absurd (both_ways true e refl)
 
 -- the time of a key once room is free at f
 abbrev pub time_then : ℕ → Timed → ℕ
-time_then f k = if waits_for_room k.class then max k.time f else k.time
+time_then f k = if holds_cpu k.class then max k.time f else k.time
 
 module _ (plans : List Plan) (costs : CostModel) where
   -- what is listed is an operation of some kind
@@ -123,7 +123,7 @@ module _ (plans : List Plan) (costs : CostModel) where
     possible_once_room_is_free : (x : OpId) (k : Timed) (f : ℕ) → ¬ (x ≡ a.op) → k.op ≡ x → Possible plans costs h k → f ≡ free plans costs (a ∷ h) x → Possible plans costs (a ∷ h) (at_time (time_then f k) k)
     possible_once_room_is_free x k f d op p e = record {
       allowed = other_stays_allowed k.class k.op (λ s. d (sym op ∙ s)) p.allowed;
-      time = ap₂ (λ (n m : ℕ). if waits_for_room k.class then max n m else n) p.time (e ∙ ap (free plans costs (a ∷ h)) (sym op)) ∙ sym (time_after plans costs a h run k.class k.op p.allowed);
+      time = ap₂ (λ (n m : ℕ). if holds_cpu k.class then max n m else n) p.time (e ∙ ap (free plans costs (a ∷ h)) (sym op)) ∙ sym (time_after plans costs a h run k.class k.op p.allowed);
     }
 
     -- The key of a slot is gone, and the others are those that they were, once they know when room is free.
@@ -164,7 +164,7 @@ module _ (plans : List Plan) (costs : CostModel) where
         is_idle i x at none (inr d) = idle_then i x (key_at old.keys i) at refl (sym (settled.others i x d at) ∙ none)
 
     -- if it waited for nothing, the others are unchanged
-    pub settled_at_once : (old new : Stationed) (slot : ℕ) → IsQueue plans costs h old → slice_get (operations plans) slot ≡ Some a.op → waits_for_room a.class ≡ false → new.keys ≡ slice_set old.keys slot None → new.stations ≡ old.stations → new.pairs ≡ old.pairs → new.free ≡ old.free → IsSettled old new slot
+    pub settled_at_once : (old new : Stationed) (slot : ℕ) → IsQueue plans costs h old → slice_get (operations plans) slot ≡ Some a.op → holds_cpu a.class ≡ false → new.keys ≡ slice_set old.keys slot None → new.stations ≡ old.stations → new.pairs ≡ old.pairs → new.free ≡ old.free → IsSettled old new slot
     settled_at_once old new slot q here w keys stations pairs same = record {
       of_it = record {
         each = ap length keys ∙ length-set old.keys slot None ∙ q.of_it.each;
@@ -193,7 +193,7 @@ module _ (plans : List Plan) (costs : CostModel) where
         kept i x at None was = refl
         kept i x at (Some k) was =
             let own = q.possible i x k at was in
-            ap Some (λ j. record { time = go (waits_for_room k.class) (λ w2. free_before_possible plans costs h k.class k.op w2 own.1.allowed) own.1.time (unmoved i x at) (ap (free plans costs h) own.0) j; class = k.class; op = k.op })
+            ap Some (λ j. record { time = go (holds_cpu k.class) (λ w2. free_before_possible plans costs h k.class k.op w2 own.1.allowed) own.1.time (unmoved i x at) (ap (free plans costs h) own.0) j; class = k.class; op = k.op })
           where
             go : (r : Bool) → (r ≡ true → free plans costs h k.op ≤ time plans costs h k.class k.op) → k.time ≡ time plans costs h k.class k.op → free plans costs (a ∷ h) x ≡ free plans costs h x → free plans costs h k.op ≡ free plans costs h x → k.time ≡ (if r then max k.time (free plans costs (a ∷ h) x) else k.time)
             go true first at_time stays_free op = omega (arith, first refl, at_time, stays_free, op)
@@ -401,7 +401,7 @@ module _ (plans : List Plan) (costs : CostModel) where
         exact : when_free old.free (pair_of old slot) a ≡ a
         exact =
             let known_free : both_free old.free (pair_of old slot) ≡ free plans costs h a.op = both_free_is_free_time h old q.of_it.free slot x at_slot ∙ ap (free plans costs h) (sym own.0) in
-            λ j. record { time = go (waits_for_room a.class) _ (λ w. free_before_possible plans costs h a.class a.op w own.1.allowed) known_free own.1.time j; class = a.class; op = a.op }
+            λ j. record { time = go (holds_cpu a.class) _ (λ w. free_before_possible plans costs h a.class a.op w own.1.allowed) known_free own.1.time j; class = a.class; op = a.op }
 
     -- an operation that has its key is unchanged
     same_key : (x : OpId) (known : List Plan) (slot : ℕ) (queue : Stationed) → known ≡ plans → slice_get (operations known) slot ≡ Some x → IsEnabledActionOf plans costs h x (key_at queue.keys slot) → IsRefreshed plans costs h x queue queue

@@ -18,7 +18,7 @@ use Rattle.sim_params.specs.Costs.{CostModel}
 use Rattle.sim_params.specs.Run.{IsRun}
 use Rattle.sim_params.proofs.ForCallers.{run_length}
 use Rattle.sim_resources.proofs.ForCallers.{appended_or_earlier, list_any_from_witness, same_station_true, same_station_from}
-use Rattle.sim_stations.specs.Stations.{waits_for_room}
+use Rattle.sim_stations.specs.Stations.{holds_cpu}
 use Rattle.sim_resources.specs.declared.station.Station.{Station}
 use Rattle.sim_resources.specs.Numbering.{AreOnce}
 use Rattle.sim_events.specs.Cost.{station_by, station_of, station_as, cpu_alone, side_by, side_alone, same_station, with_station, stations_among, holds_as, times_held, most_moves, cost_of_start, cost_of_run}
@@ -273,7 +273,7 @@ module _ (plans : List Plan) (wide : IsOneWide plans) where
   -- an action is charged to one station of each side
   module _ (a : Timed) (p : Op) (is_p : op_at plans a.op ≡ Some p) where
     held_is_cpu_or_side : (r : Station) → holds_as r a (Some p) ≡ true → (cpu_alone (station_of a.op p) ≡ r) ⊎ (side_alone (station_of a.op p) ≡ r)
-    held_is_cpu_or_side r t = elim (or_cases (same_station (cpu_alone (station_of a.op p)) r) (same_station (side_alone (station_of a.op p)) r) (and_parts (waits_for_room a.class) _ t).1) [
+    held_is_cpu_or_side r t = elim (or_cases (same_station (cpu_alone (station_of a.op p)) r) (same_station (side_alone (station_of a.op p)) r) (and_parts (holds_cpu a.class) _ t).1) [
       | inl c ↦ inl (same_station_true (cpu_alone (station_of a.op p)) r c)
       | inr s ↦ inr (same_station_true (side_alone (station_of a.op p)) r s)
     ]

@@ -21,14 +21,14 @@ use Rattle.sim_params.specs.Costs.{CostModel, flight, is_eager}
 use Rattle.sim_params.specs.Times.{since, mate, greatest, met_at, ready, cpu, tx, rx, paired_at, there_at, time_of, time}
 use Rattle.sim_params.specs.Run.{IsRun}
 use Rattle.sim_params.proofs.ForCallers.{run_is_each_possible, start_kept, end_kept, paired_at_kept, mate_stays, since_kept}
-use Rattle.sim_stations.specs.Stations.{waits_for_room}
+use Rattle.sim_stations.specs.Stations.{holds_cpu}
 use Rattle.sim_state.specs.Free.{free, free_of}
 use Rattle.sim_state.specs.Awaited.{is_there}
 use Rattle.sim_state.proofs.ForCallers.{there_at as moment_at}
 
 module _ (plans : List Plan) (costs : CostModel) (h : List Timed) where
   -- what waits is not possible before all is free
-  not_possible_before_free : (class : Class) (x : OpId) (k : Option Kind) → waits_for_room class ≡ true → may plans (is_eager plans costs) (plain h) class x k ≡ true → free_of plans costs h x k ≤ time_of plans costs h class x k
+  not_possible_before_free : (class : Class) (x : OpId) (k : Option Kind) → holds_cpu class ≡ true → may plans (is_eager plans costs) (plain h) class x k ≡ true → free_of plans costs h x k ≤ time_of plans costs h class x k
   not_possible_before_free class x None w m = omega arith
   not_possible_before_free Arrive x (Some k) w m = absurd (cc)
   not_possible_before_free Post x (Some k) w m = absurd (cc)
@@ -42,7 +42,7 @@ module _ (plans : List Plan) (costs : CostModel) (h : List Timed) where
   not_possible_before_free Serve x (Some (Send bytes to tag)) w m = absurd (cc)
   not_possible_before_free Serve x (Some (Recv room from tag)) w m = omega arith
 
-  pub free_before_possible : (class : Class) (x : OpId) → waits_for_room class ≡ true → allowed plans (is_eager plans costs) (plain h) class x ≡ true → free plans costs h x ≤ time plans costs h class x
+  pub free_before_possible : (class : Class) (x : OpId) → holds_cpu class ≡ true → allowed plans (is_eager plans costs) (plain h) class x ≡ true → free plans costs h x ≤ time plans costs h class x
   unfolding time allowed
   free_before_possible class x w a =
       let both = and_parts (not (happened class x (plain h))) (may plans (is_eager plans costs) (plain h) class x (kind_at plans x)) a in
@@ -88,7 +88,7 @@ module _ (plans : List Plan) (costs : CostModel) (a : Timed) (h : List Timed) wh
 
     -- the time of an action that may happen, after one more
     time_of_kind_after_action : (class : Class) (x : OpId) (k : Option Kind) → kind_at plans x ≡ k → may plans (is_eager plans costs) (plain h) class x k ≡ true
-        → time_of plans costs (a ∷ h) class x k ≡ (if waits_for_room class then max (time_of plans costs h class x k) (free_of plans costs (a ∷ h) x k) else time_of plans costs h class x k)
+        → time_of plans costs (a ∷ h) class x k ≡ (if holds_cpu class then max (time_of plans costs h class x k) (free_of plans costs (a ∷ h) x k) else time_of plans costs h class x k)
     time_of_kind_after_action Begin x (Some (Calc nanos)) is m = omega (arith, ready_kept x m, free_of_grows x (Some (Calc nanos)))
     time_of_kind_after_action Begin x (Some (Send bytes to tag)) is m = omega (arith, ready_kept x m, free_of_grows x (Some (Send bytes to tag)))
     time_of_kind_after_action Post x (Some (Recv room from tag)) is m = ready_kept x m
@@ -100,6 +100,6 @@ module _ (plans : List Plan) (costs : CostModel) (a : Timed) (h : List Timed) wh
     time_of_kind_after_action Serve x (Some (Recv room from tag)) is m = omega (arith, message_kept x m, free_of_grows x (Some (Recv room from tag)))
     time_of_kind_after_action _ x _ is m = absurd (both_ways false refl m)
 
-    pub time_after : (class : Class) (x : OpId) → allowed plans (is_eager plans costs) (plain h) class x ≡ true → time plans costs (a ∷ h) class x ≡ (if waits_for_room class then max (time plans costs h class x) (free plans costs (a ∷ h) x) else time plans costs h class x)
+    pub time_after : (class : Class) (x : OpId) → allowed plans (is_eager plans costs) (plain h) class x ≡ true → time plans costs (a ∷ h) class x ≡ (if holds_cpu class then max (time plans costs h class x) (free plans costs (a ∷ h) x) else time plans costs h class x)
     unfolding time allowed
     time_after class x p = time_of_kind_after_action class x (kind_at plans x) refl (and_parts (not (happened class x (plain h))) _ p).1

@@ -5,7 +5,7 @@ use Rattle.std.specs.List.{sum_by}
 use Rattle.goal_graph.specs.declared.action.Timed.{Timed}
 use Rattle.goal_graph.specs.declared.plan.Op.{Op}
 use Rattle.goal_graph.specs.Schedule.{Plan, op_at, operations}
-use Rattle.sim_stations.specs.Stations.{waits_for_room}
+use Rattle.sim_stations.specs.Stations.{holds_cpu}
 use Rattle.sim_resources.specs.declared.station.Station.{Station}
 pub use Rattle.goal_graph.specs.Choices.{same_choice}
 pub use Rattle.sim_resources.specs.Stations.{station_by, station_of, cpu_alone, side_by, side_alone, same_station, station_as, with_station, stations_among}
@@ -16,7 +16,7 @@ pub use Rattle.sim_state.specs.Awaited.{given_by}
 abbrev pub holds_as : Station → Timed → Option Op → Bool
 holds_as resource a None = false
 holds_as resource a (Some o) =
-    waits_for_room a.class && (same_station (cpu_alone (station_of a.op o)) resource || same_station (side_alone (station_of a.op o)) resource)
+    holds_cpu a.class && (same_station (cpu_alone (station_of a.op o)) resource || same_station (side_alone (station_of a.op o)) resource)
 
 module _ (plans : List Plan) where
   -- how many actions of a history held a resource

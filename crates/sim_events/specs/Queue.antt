@@ -11,7 +11,7 @@ use Rattle.goal_graph.specs.Concerned.{waiting_on}
 use Rattle.sim_params.specs.Costs.{CostModel}
 use Rattle.sim_params.specs.Times.{mate, cpu, Possible}
 use Rattle.sim_queue.specs.Map.{key_at}
-use Rattle.sim_stations.specs.Stations.{Stationed, waits_for_room, when_free, held, pair_of, DoExist}
+use Rattle.sim_stations.specs.Stations.{Stationed, holds_cpu, when_free, held, pair_of, DoExist}
 use Rattle.sim_stations.specs.Moves.{HaveReturned, held_once_more}
 use Rattle.sim_state.specs.Enabled.{IsIdle, IsEnabledActionOf}
 use Rattle.sim_state.specs.Awaited.{gives}
@@ -20,19 +20,19 @@ use Rattle.sim_state.specs.Tasks.{IsLast}
 use Rattle.sim_resources.specs.Numbering.{AreStationed}
 
 -- A queue after the action in a slot, which leaves its resources free at c and s. Its key is removed. If the action
--- waited for room, the keys of all that wait for these resources are raised, and each was held once more.
+-- held a cpu, the keys of all that wait for these resources are raised, and each was held once more.
 pub record IsSettledBy (c s slot : ℕ) (a : Timed) (old new : Stationed) : Type 0 where
   pub each : length new.keys ≡ length old.keys
   pub gone : key_at new.keys slot ≡ None
   pub stations : new.stations ≡ old.stations
   pub pairs : new.pairs ≡ old.pairs
   pub turned : new.turned ≡ old.turned
-  pub raised : waits_for_room a.class ≡ true → (other : ℕ) → other ≢ slot → key_at new.keys other ≡ option_map (when_free new.free (pair_of old other)) (key_at old.keys other)
-  pub free : waits_for_room a.class ≡ true → new.free ≡ held old.free (pair_of old slot) c s
-  pub same : waits_for_room a.class ≡ false → new.keys ≡ slice_set old.keys slot None
-  pub same_free : waits_for_room a.class ≡ false → new.free ≡ old.free
+  pub raised : holds_cpu a.class ≡ true → (other : ℕ) → other ≢ slot → key_at new.keys other ≡ option_map (when_free new.free (pair_of old other)) (key_at old.keys other)
+  pub free : holds_cpu a.class ≡ true → new.free ≡ held old.free (pair_of old slot) c s
+  pub same : holds_cpu a.class ≡ false → new.keys ≡ slice_set old.keys slot None
+  pub same_free : holds_cpu a.class ≡ false → new.free ≡ old.free
   pub returned :
-      waits_for_room a.class ≡ true → (holds returns : List ℕ)
+      holds_cpu a.class ≡ true → (holds returns : List ℕ)
       → HaveReturned old.pairs old.turned old.free holds returns
       → HaveReturned new.pairs new.turned new.free (held_once_more holds (pair_of old slot)) returns
 

@@ -7,7 +7,7 @@ ghost use Rattle.goal_graph.specs.Fault.{IsOp};
 ghost use Rattle.sim_params.specs.Times.{mate, cpu};
 ghost use Rattle.sim_params.specs.Run.{IsNext, IsFinished};
 ghost use Rattle.sim_queue.specs.Map.{key_at, IsEmptyMap};
-ghost use Rattle.sim_stations.specs.Stations.{waits_for_room, pair_of, IsLater, cost_of_waiting, cost_of_moves};
+ghost use Rattle.sim_stations.specs.Stations.{holds_cpu, pair_of, IsLater, cost_of_waiting, cost_of_moves};
 ghost use Rattle.sim_resources.specs.Numbering.{AreStationed};
 ghost use Rattle.sim_state.specs.Free.{side};
 ghost use Rattle.sim_events.specs.Blanks.{IsBlankOf};
@@ -84,7 +84,7 @@ pub fn settle<C: Costs, H: History, L: Ledger>(
     requires found { queue.old.found ≡ Some slot }
     requires stationed { AreStationed state.now.plans queue.old.stations queue.old.pairs }
     requires slot { slice_get (operations state.now.plans) slot ≡ Some action.op }
-    requires later { waits_for_room action.class ≡ true → IsLater queue.old.free (pair_of queue.old slot) (cpu state.now.plans (C.model state.now.costs) state.now.history action.op) (side state.now.plans (C.model state.now.costs) state.now.history action.op) }
+    requires later { holds_cpu action.class ≡ true → IsLater queue.old.free (pair_of queue.old slot) (cpu state.now.plans (C.model state.now.costs) state.now.history action.op) (side state.now.plans (C.model state.now.costs) state.now.history action.op) }
     ensures settled { IsSettledBy (cpu state.now.plans (C.model state.now.costs) state.now.history action.op) (side state.now.plans (C.model state.now.costs) state.now.history action.op) slot action queue.old queue.new }
     ensures counted { (k : ℕ) → length queue.old.keys ≤ 2 ^ k
         → steps.new + cost_of_waiting k queue.new.stands ≤ steps.old + cost_of_waiting k queue.old.stands + (8 * k + 10) }

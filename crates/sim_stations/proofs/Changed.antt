@@ -13,14 +13,14 @@ use Rattle.sim_queue.specs.Groups.{Grouped, IsEmptyGroup, IsLeastOf, IsSoleLeast
 use Rattle.sim_resources.specs.declared.pair.Pair.{Pair}
 use Rattle.sim_stations.specs.declared.key_place.KeyPlace.{KeyPlace}
 use Rattle.sim_stations.specs.declared.key_place.KeyPlace.TheVariants.{Nowhere, Ahead, Waiting}
-use Rattle.sim_stations.specs.Stations.{Stationed, waits_for_room, at_time, both_free, when_free, pair_at, held, IsLater, count_ahead, cost_of_waiting}
+use Rattle.sim_stations.specs.Stations.{Stationed, holds_cpu, at_time, both_free, when_free, pair_at, held, IsLater, count_ahead, cost_of_waiting}
 use Rattle.sim_stations.specs.Rows.{Rowed, IsHead}
 use Rattle.sim_stations.specs.Kept.{seen_keys, seen_of, stand_of, has_key, is_waiting, AreShown, IsKept, IsFound, IsDeparted}
-use Rattle.sim_stations.proofs.Heads.{no_key, at_own}
+use Rattle.sim_stations.proofs.Heads.{no_key, at_own_time_is_itself}
 use Rattle.sim_stations.proofs.Times.{forgotten, raised_again}
 use Rattle.sim_stations.proofs.Moves.{touched}
 use Rattle.sim_stations.proofs.Slots.{IsStep, merged, merged_ahead, merged_waiting, pair_here, seen_here, seen_long, station_of, not_ahead, still_mapped, seen_there, seen_slot, seen_changed, long_now, stood_now, step_ahead, here_ahead, step_waiting, here_waiting}
-use Rattle.sim_stations.proofs.Shown.{told_station}
+use Rattle.sim_stations.proofs.Shown.{shown_after_new_head}
 use Rattle.sim_stations.proofs.Joined.{kept_now, stands_ahead}
 
 -- fewer keys ahead cost less
@@ -105,14 +105,14 @@ module _ (ahead : List (Option Timed)) (waiting : Grouped Timed) (rows : Rowed) 
       let not : is_waiting (slice_index_or stands slot Nowhere) ≡ false = ap is_waiting (ahead_stand slot sole.key sole.has) in absurd (cc)
 
   -- a key whose action waits for nothing does not wait
-  pub at_once_stand : (slot : ℕ) → ((k : Timed) → key_at seen slot ≡ Some k → waits_for_room k.class ≡ false) → is_waiting (slice_index_or stands slot Nowhere) ≡ false
+  pub at_once_stand : (slot : ℕ) → ((k : Timed) → key_at seen slot ≡ Some k → holds_cpu k.class ≡ false) → is_waiting (slice_index_or stands slot Nowhere) ≡ false
   at_once_stand slot at_once = go (key_at waiting.keys slot) refl
     where
       go : (w : Option Timed) → key_at waiting.keys slot ≡ w → is_waiting (slice_index_or stands slot Nowhere) ≡ false
       go (Some k) f =
           let has = seen_here ahead waiting rows.pairs kept.mapped rows.free slot ∙ ap (option_map (when_free rows.free (pair_here rows.pairs waiting slot))) (merged_waiting ahead waiting slot (not_ahead ahead waiting rows.pairs kept.mapped slot k f) ∙ f) in
-          let no : waits_for_room k.class ≡ false = at_once (when_free rows.free (pair_here rows.pairs waiting slot) k) has in
-          let yes : waits_for_room k.class ≡ true = (kept.mapped.waits slot k f).1 in
+          let no : holds_cpu k.class ≡ false = at_once (when_free rows.free (pair_here rows.pairs waiting slot) k) has in
+          let yes : holds_cpu k.class ≡ true = (kept.mapped.waits slot k f).1 in
           absurd (cc)
       go None f = none (key_at ahead slot) refl
         where
@@ -212,10 +212,10 @@ module _ (ahead : List (Option Timed)) (waiting : Grouped Timed) (rows : Rowed) 
         go None n s = n refl
         go (Some k) n s =
             let zero = zero_left s.slot k s.has in
-            (subst (IsLeastOf event_before new_waiting station) (sym (at_own k 0 zero)) s, zero)
+            (subst (IsLeastOf event_before new_waiting station) (sym (at_own_time_is_itself k 0 zero)) s, zero)
 
     pub left_shown : AreShown new_waiting (set rows.keys station least) (length rows.pairs)
-    left_shown = told_station waiting slot station member within None new_waiting taken rows.keys (length rows.pairs) (omega (arith, kept.mapped.within slot station member, kept.keyed)) kept.shown least left_head
+    left_shown = shown_after_new_head waiting slot station member within None new_waiting taken rows.keys (length rows.pairs) (omega (arith, kept.mapped.within slot station member, kept.keyed)) kept.shown least left_head
 
     -- the resources of its station are held when it leaves
     module _ (new_rows : Rowed) (cpu side : ℕ) (later : IsLater rows.free (pair_here rows.pairs waiting slot) cpu side) where
@@ -298,9 +298,9 @@ module _ (ahead : List (Option Timed)) (waiting : Grouped Timed) (rows : Rowed) 
         omega (arith, moved)
 
     -- or waits with its station at once
-    module _ (waits : waits_for_room key.class ≡ true) (late : key.time ≤ both_free rows.free (pair_here rows.pairs waiting slot)) (new_waiting : Grouped Timed) (put : new_waiting ≡ record { keys = set waiting.keys slot (Some (at_time 0 key)); groups = waiting.groups }) (new_rows : Rowed) (shown : AreShown new_waiting new_rows.keys (length new_rows.pairs)) (keyed : length new_rows.keys ≡ length new_rows.pairs) (pairs : new_rows.pairs ≡ rows.pairs) (turned : new_rows.turned ≡ rows.turned) (free : new_rows.free ≡ rows.free) where
+    module _ (waits : holds_cpu key.class ≡ true) (late : key.time ≤ both_free rows.free (pair_here rows.pairs waiting slot)) (new_waiting : Grouped Timed) (put : new_waiting ≡ record { keys = set waiting.keys slot (Some (at_time 0 key)); groups = waiting.groups }) (new_rows : Rowed) (shown : AreShown new_waiting new_rows.keys (length new_rows.pairs)) (keyed : length new_rows.keys ≡ length new_rows.pairs) (pairs : new_rows.pairs ≡ rows.pairs) (turned : new_rows.turned ≡ rows.turned) (free : new_rows.free ≡ rows.free) where
       wait_step : IsStep slot ahead ahead waiting new_waiting
-      wait_step = step_waiting ahead waiting rows.pairs kept.mapped slot ahead (Some (at_time 0 key)) new_waiting within refl (λ one n. refl) (idle_ahead slot idle) (λ k e. let same = same_Some (at_time 0 key) k e in (sym (ap (λ (t : Timed). t.time) same), ap (λ (t : Timed). waits_for_room t.class) (sym same) ∙ waits)) put
+      wait_step = step_waiting ahead waiting rows.pairs kept.mapped slot ahead (Some (at_time 0 key)) new_waiting within refl (λ one n. refl) (idle_ahead slot idle) (λ k e. let same = same_Some (at_time 0 key) k e in (sym (ap (λ (t : Timed). t.time) same), ap (λ (t : Timed). holds_cpu t.class) (sym same) ∙ waits)) put
 
       wait_here : key_at new_waiting.keys slot ≡ Some (at_time 0 key)
       wait_here = here_waiting ahead waiting rows.pairs kept.mapped slot (Some (at_time 0 key)) new_waiting within put

@@ -11,11 +11,11 @@ pub no_key : (k : Timed) → None ≡ Some k → ⊥
 no_key k e = absurd (cc)
 
 -- events of one time compare as at any other time
-pub at_one_time : (time : ℕ) (x y : Timed) → event_before (at_time time x) (at_time time y) ≡ event_before (at_time 0 x) (at_time 0 y)
-at_one_time time x y = let same : nat_lt time time ≡ false = le-ltb time time (omega arith) in rw same refl
+pub same_time_orders_alike : (time : ℕ) (x y : Timed) → event_before (at_time time x) (at_time time y) ≡ event_before (at_time 0 x) (at_time 0 y)
+same_time_orders_alike time x y = let same : nat_lt time time ≡ false = le-ltb time time (omega arith) in rw same refl
 
-pub at_own : (k : Timed) (time : ℕ) → k.time ≡ time → at_time time k ≡ k
-at_own k time e i = record { time = sym e i; class = k.class; op = k.op }
+pub at_own_time_is_itself : (k : Timed) (time : ℕ) → k.time ≡ time → at_time time k ≡ k
+at_own_time_is_itself k time e i = record { time = sym e i; class = k.class; op = k.op }
 
 module _ (waiting new : Grouped Timed) (groups : new.groups ≡ waiting.groups) (group : ℕ) (same : (slot : ℕ) → slice_get waiting.groups slot ≡ Some group → key_at new.keys slot ≡ key_at waiting.keys slot) where
   member_before_change : (slot : ℕ) → slice_get new.groups slot ≡ Some group → slice_get waiting.groups slot ≡ Some group

@@ -37,11 +37,11 @@ pub held_long : (free : List ℕ) (p : Pair) (cpu side : ℕ) → length (held f
 held_long free p cpu side = length-set (set free p.cpu cpu) p.side side ∙ length-set free p.cpu cpu
 
 -- what contracts say of the pair of a station holds of the pair that the code reads
-pub known_here : (times : List ℕ) (pairs : List Pair) (s : ℕ) (p : Pair) → slice_get pairs s ≡ Some p → AreKnown times (pair_at pairs s) → AreKnown times p
-known_here times pairs s p at known = subst (AreKnown times) (pair_there pairs s p at) known
+pub known_for_pair_read : (times : List ℕ) (pairs : List Pair) (s : ℕ) (p : Pair) → slice_get pairs s ≡ Some p → AreKnown times (pair_at pairs s) → AreKnown times p
+known_for_pair_read times pairs s p at known = subst (AreKnown times) (pair_there pairs s p at) known
 
-pub times_here : (times free : List ℕ) (pairs : List Pair) (s : ℕ) (p : Pair) → slice_get pairs s ≡ Some p → AreTimesOf times free (pair_at pairs s) → AreTimesOf times free p
-times_here times free pairs s p at has = subst (AreTimesOf times free) (pair_there pairs s p at) has
+pub times_for_pair_read : (times free : List ℕ) (pairs : List Pair) (s : ℕ) (p : Pair) → slice_get pairs s ≡ Some p → AreTimesOf times free (pair_at pairs s) → AreTimesOf times free p
+times_for_pair_read times free pairs s p at has = subst (AreTimesOf times free) (pair_there pairs s p at) has
 
 -- a list that has the times of a pair has a time for both its resources
 pub times_known : (times free : List ℕ) (p : Pair) → AreTimesOf times free p → AreKnown times p
@@ -51,24 +51,24 @@ times_known times free p has = record {
 }
 
 -- so it has one for the resource at which a station of the pair waits
-pub known_side : (times : List ℕ) (p : Pair) (b : Bool) → AreKnown times p → side_of p b < length times
-known_side times p false known = known.has_cpu
-known_side times p true known = known.has_side
+pub resource_waited_at_is_known : (times : List ℕ) (p : Pair) (b : Bool) → AreKnown times p → side_of p b < length times
+resource_waited_at_is_known times p false known = known.has_cpu
+resource_waited_at_is_known times p true known = known.has_side
 
 -- two lists have the same times for a pair
 pub record AreSameTimes (times free : List ℕ) (p : Pair) : Type 0 where
   pub cpu : slice_index times p.cpu ≡ slice_index free p.cpu
   pub side : slice_index times p.side ≡ slice_index free p.side
 
-pub same_times : (times free : List ℕ) (p : Pair) → AreTimesOf times free p → AreSameTimes times free p
-same_times times free p has = record {
+pub times_known_are_same : (times free : List ℕ) (p : Pair) → AreTimesOf times free p → AreSameTimes times free p
+times_known_are_same times free p has = record {
   cpu = get_or_from_slice_get times p.cpu (slice_index free p.cpu) 0 has.cpu_time;
   side = get_or_from_slice_get times p.side (slice_index free p.side) 0 has.side_time;
 }
 
 -- once a pair is held by these times, they are those at which it is free, also where both its resources are one
-pub held_times : (times free : List ℕ) (p : Pair) → p.cpu < length free → p.side < length free → AreSameTimes times (held_by free p times) p
-held_times times free p l m = record { cpu = go (cases_eq p.cpu p.side); side = sym at_side }
+pub times_held_are_same : (times free : List ℕ) (p : Pair) → p.cpu < length free → p.side < length free → AreSameTimes times (held_by free p times) p
+times_held_are_same times free p l m = record { cpu = go (cases_eq p.cpu p.side); side = sym at_side }
   where
     c : ℕ
     c = slice_index times p.cpu
@@ -84,8 +84,8 @@ held_times times free p l m = record { cpu = go (cases_eq p.cpu p.side); side = 
     go (inr n) = sym (get_or-set_other (set free p.cpu c) p.side p.cpu s 0 n ∙ get_or-set_same free p.cpu c 0 l)
 
 -- a head that is updated by one of two such lists is updated by the other
-pub told_same : (rows : Grouped Timed) (times free : List ℕ) (old new : List (Option Timed)) (p : Pair) (b : Bool) → AreSameTimes times free p → IsTold rows times old new (side_of p b) → IsTold rows free old new (side_of p b)
-told_same rows times free old new p b same told = record {
+pub told_by_same_times : (rows : Grouped Timed) (times free : List ℕ) (old new : List (Option Timed)) (p : Pair) (b : Bool) → AreSameTimes times free p → IsTold rows times old new (side_of p b) → IsTold rows free old new (side_of p b)
+told_by_same_times rows times free old new p b same told = record {
   each = told.each;
   here = subst (λ t. IsHead rows (side_of p b) t (key_at new (side_of p b))) (at b) told.here;
   others = told.others;
@@ -96,8 +96,8 @@ told_same rows times free old new p b same told = record {
     at true = same.side
 
 -- so are both heads of the pair
-pub both_told_same : (rows : Grouped Timed) (times free : List ℕ) (old new : List (Option Timed)) (p : Pair) → AreSameTimes times free p → AreBothTold rows times old new p → AreBothTold rows free old new p
-both_told_same rows times free old new p same told = record {
+pub both_told_by_same_times : (rows : Grouped Timed) (times free : List ℕ) (old new : List (Option Timed)) (p : Pair) → AreSameTimes times free p → AreBothTold rows times old new p → AreBothTold rows free old new p
+both_told_by_same_times rows times free old new p same told = record {
   each = told.each;
   cpu = subst (λ t. IsHead rows p.cpu t (key_at new p.cpu)) same.cpu told.cpu;
   side = subst (λ t. IsHead rows p.side t (key_at new p.side)) same.side told.side;

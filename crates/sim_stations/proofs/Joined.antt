@@ -12,7 +12,7 @@ use Rattle.sim_queue.specs.Groups.{Grouped}
 use Rattle.sim_resources.specs.declared.pair.Pair.{Pair}
 use Rattle.sim_stations.specs.declared.key_place.KeyPlace.{KeyPlace}
 use Rattle.sim_stations.specs.declared.key_place.KeyPlace.TheVariants.{Nowhere, Ahead, Waiting}
-use Rattle.sim_stations.specs.Stations.{waits_for_room, at_time, one_ahead, count_ahead, both_free, when_free, pair_at}
+use Rattle.sim_stations.specs.Stations.{holds_cpu, at_time, one_ahead, count_ahead, both_free, when_free, pair_at}
 use Rattle.sim_stations.specs.Rows.{Rowed}
 use Rattle.sim_stations.specs.Kept.{seen_keys, seen_of, stand_of, AreMapped, AreShown, AreStands, IsKept}
 use Rattle.sim_stations.proofs.Times.{forgotten}
@@ -59,12 +59,12 @@ module _ (ahead : List (Option Timed)) (waiting : Grouped Timed) (rows : Rowed) 
       let moved = stands_ahead stands slot Ahead Waiting (omega (arith, within, kept.stood.each)) was_ahead in
       omega (arith, moved)
 
-  module _ (waits : waits_for_room key.class ≡ true) (late : (station : ℕ) → slice_get waiting.groups slot ≡ Some station → key.time ≤ both_free rows.free (pair_at rows.pairs station)) (new_ahead : List (Option Timed)) (new_waiting : Grouped Timed) (new_rows : Rowed) (taken : new_ahead ≡ set ahead slot None) (put : new_waiting ≡ record { keys = set waiting.keys slot (Some (at_time 0 key)); groups = waiting.groups }) (shown : AreShown new_waiting new_rows.keys (length new_rows.pairs)) (keyed : length new_rows.keys ≡ length new_rows.pairs) (pairs : new_rows.pairs ≡ rows.pairs) (turned : new_rows.turned ≡ rows.turned) (free : new_rows.free ≡ rows.free) where
+  module _ (waits : holds_cpu key.class ≡ true) (late : (station : ℕ) → slice_get waiting.groups slot ≡ Some station → key.time ≤ both_free rows.free (pair_at rows.pairs station)) (new_ahead : List (Option Timed)) (new_waiting : Grouped Timed) (new_rows : Rowed) (taken : new_ahead ≡ set ahead slot None) (put : new_waiting ≡ record { keys = set waiting.keys slot (Some (at_time 0 key)); groups = waiting.groups }) (shown : AreShown new_waiting new_rows.keys (length new_rows.pairs)) (keyed : length new_rows.keys ≡ length new_rows.pairs) (pairs : new_rows.pairs ≡ rows.pairs) (turned : new_rows.turned ≡ rows.turned) (free : new_rows.free ≡ rows.free) where
     idle_now : key_at new_ahead slot ≡ None
     idle_now = ap (λ ks. key_at ks slot) taken ∙ get_or-set_same ahead slot None None (key_within ahead slot key has)
 
     step : IsStep slot ahead new_ahead waiting new_waiting
-    step = step_waiting ahead waiting rows.pairs kept.mapped slot new_ahead (Some (at_time 0 key)) new_waiting within (ap length taken ∙ length-set ahead slot None) (λ one n. ap (λ ks. key_at ks one) taken ∙ get_or-set_other ahead slot one None None n) idle_now (λ k e. let same = same_Some (at_time 0 key) k e in (sym (ap (λ (t : Timed). t.time) same), ap (λ (t : Timed). waits_for_room t.class) (sym same) ∙ waits)) put
+    step = step_waiting ahead waiting rows.pairs kept.mapped slot new_ahead (Some (at_time 0 key)) new_waiting within (ap length taken ∙ length-set ahead slot None) (λ one n. ap (λ ks. key_at ks one) taken ∙ get_or-set_other ahead slot one None None n) idle_now (λ k e. let same = same_Some (at_time 0 key) k e in (sym (ap (λ (t : Timed). t.time) same), ap (λ (t : Timed). holds_cpu t.class) (sym same) ∙ waits)) put
 
     has_now : key_at new_waiting.keys slot ≡ Some (at_time 0 key)
     has_now = here_waiting ahead waiting rows.pairs kept.mapped slot (Some (at_time 0 key)) new_waiting within put

@@ -14,10 +14,10 @@ use Rattle.sim_queue.proofs.ForCallers.{through, key_within}
 use Rattle.sim_queue.specs.Groups.{Grouped, IsLeastOf, IsSoleLeastOf}
 use Rattle.sim_resources.specs.declared.pair.Pair.{Pair}
 use Rattle.sim_stations.specs.declared.key_place.KeyPlace.{KeyPlace}
-use Rattle.sim_stations.specs.Stations.{waits_for_room, at_time, both_free, earliest, when_free, pair_at, AreOfSlots}
+use Rattle.sim_stations.specs.Stations.{holds_cpu, at_time, both_free, earliest, when_free, pair_at, AreOfSlots}
 use Rattle.sim_stations.specs.Rows.{Rowed, side_of, turned_at, shown, IsHead}
 use Rattle.sim_stations.specs.Kept.{IsKept, seen_of, IsFound, IsSeenFirst, IsFirstOfAll}
-use Rattle.sim_stations.proofs.Heads.{no_key, at_one_time, at_own}
+use Rattle.sim_stations.proofs.Heads.{no_key, same_time_orders_alike, at_own_time_is_itself}
 use Rattle.sim_stations.proofs.Times.{later_than, not_earlier, when_zero, earliest_waits}
 use Rattle.sim_stations.proofs.Slots.{merged, merged_ahead, merged_waiting, pair_here, seen_here, not_ahead, station_of}
 
@@ -69,7 +69,7 @@ module _ (ahead : List (Option Timed)) (waiting : Grouped Timed) (rows : Rowed) 
       member : slice_get waiting.groups slot ≡ Some station
       member = station_of ahead waiting rows.pairs kept.mapped slot (key_within waiting.keys slot k e)
 
-      own : (k.time ≡ 0) × (waits_for_room k.class ≡ true)
+      own : (k.time ≡ 0) × (holds_cpu k.class ≡ true)
       own = kept.mapped.waits slot k e
 
       time : ℕ
@@ -78,8 +78,8 @@ module _ (ahead : List (Option Timed)) (waiting : Grouped Timed) (rows : Rowed) 
       go : (o : Option Timed) → key_at rows.keys station ≡ o → IsHead waiting station 0 o → IsAfterShown slot k
       go None f empty = absurd (no_key k (sym (empty slot member) ∙ e))
       go (Some w) f is =
-          let zero : at_time 0 k ≡ k = at_own k 0 own.0 in
-          let below : event_before (at_time time k) (at_time time w) ≡ false = at_one_time time k w ∙ ap (λ x. event_before x (at_time 0 w)) zero ∙ is.0.least slot k member e in
+          let zero : at_time 0 k ≡ k = at_own_time_is_itself k 0 own.0 in
+          let below : event_before (at_time time k) (at_time time w) ≡ false = same_time_orders_alike time k w ∙ ap (λ x. event_before x (at_time 0 w)) zero ∙ is.0.least slot k member e in
           let true_is : when_free rows.free (pair_for slot) k ≡ at_time (both_free rows.free (pair_for slot)) k = ap (when_free rows.free (pair_for slot)) (sym zero) ∙ when_zero rows.free (pair_for slot) k own.1 in
           record {
             station = station;
@@ -116,7 +116,7 @@ module _ (ahead : List (Option Timed)) (waiting : Grouped Timed) (rows : Rowed) 
       pub has : key_at waiting.keys slot ≡ Some own
       pub row : key_at rows.keys station ≡ Some own
       pub zero : own.time ≡ 0
-      pub waits : waits_for_room own.class ≡ true
+      pub waits : holds_cpu own.class ≡ true
       pub is : key ≡ at_time (slice_index rows.free (side_of (pair_at rows.pairs station) (turned_at rows.turned station))) own
       pub least : IsLeastOf event_before waiting station own
 
@@ -131,7 +131,7 @@ module _ (ahead : List (Option Timed)) (waiting : Grouped Timed) (rows : Rowed) 
 
             found : (w : Timed) → key_at rows.keys is.0 ≡ Some w → IsHead waiting is.0 0 (Some w) → IsShownOf
             found w f head =
-                let zero : at_time 0 w ≡ w = at_own w 0 head.1 in
+                let zero : at_time 0 w ≡ w = at_own_time_is_itself w 0 head.1 in
                 let has : key_at waiting.keys head.0.slot ≡ Some w = head.0.has ∙ ap Some zero in
                 record {
                   slot = head.0.slot;
@@ -246,14 +246,14 @@ module _ (ahead : List (Option Timed)) (waiting : Grouped Timed) (rows : Rowed) 
                 let was = shown_of e in
                 let p : Pair = pair_at rows.pairs station in
                 let has : key_at seen slot ≡ Some (when_free rows.free (pair_for slot) was.own) = seen_waiting slot was.own (ap (key_at waiting.keys) (sym (shown_slot e)) ∙ was.has) in
-                let waits : waits_for_room key.class ≡ true = ap (λ (x : Timed). waits_for_room x.class) was.is ∙ was.waits in
+                let waits : holds_cpu key.class ≡ true = ap (λ (x : Timed). holds_cpu x.class) was.is ∙ was.waits in
                 let time_is : max key.time (both_free rows.free p) ≡ key.time = sym (earliest_waits rows.free p key waits) ∙ ap (λ (x : Timed). x.time) due in
                 let at_place : key.time ≡ slice_index rows.free (side_of (pair_at rows.pairs was.station) (turned_at rows.turned was.station)) = ap (λ (x : Timed). x.time) was.is in
                 let p_is : pair_at rows.pairs was.station ≡ p = ap (pair_at rows.pairs) (station_is e) in
                 let bound = one_of_both rows.free (pair_at rows.pairs was.station) (turned_at rows.turned was.station) in
                 let both_is : both_free rows.free (pair_at rows.pairs was.station) ≡ both_free rows.free p = ap (both_free rows.free) p_is in
                 let same : both_free rows.free p ≡ key.time = omega (arith, time_is, at_place, bound, both_is) in
-                let zero : at_time 0 was.own ≡ was.own = at_own was.own 0 was.zero in
+                let zero : at_time 0 was.own ≡ was.own = at_own_time_is_itself was.own 0 was.zero in
                 let own_is : when_free rows.free p was.own ≡ at_time (both_free rows.free p) was.own = ap (when_free rows.free p) (sym zero) ∙ when_zero rows.free p was.own was.waits in
                 let back : at_time key.time was.own ≡ key = ap (λ t. at_time t was.own) at_place ∙ sym was.is in
                 has ∙ ap Some (ap (λ q. when_free rows.free q was.own) pair_is ∙ own_is ∙ ap (λ t. at_time t was.own) same ∙ back)
@@ -262,7 +262,7 @@ module _ (ahead : List (Option Timed)) (waiting : Grouped Timed) (rows : Rowed) 
         pub row_key : is_ahead ≡ false → key_at rows.keys station ≡ Some (at_time 0 key)
         row_key e =
             let was = shown_of e in
-            let zero : at_time 0 key ≡ was.own = ap (at_time 0) was.is ∙ at_own was.own 0 was.zero in
+            let zero : at_time 0 key ≡ was.own = ap (at_time 0) was.is ∙ at_own_time_is_itself was.own 0 was.zero in
             ap (key_at rows.keys) (sym (station_is e)) ∙ was.row ∙ ap Some (sym zero)
 
         pub turn_late : is_ahead ≡ false → key.time < both_free rows.free (pair_at rows.pairs station) → slice_index rows.free (side_of (pair_at rows.pairs station) (turned_at rows.turned station)) < slice_index rows.free (side_of (pair_at rows.pairs station) (not (turned_at rows.turned station)))

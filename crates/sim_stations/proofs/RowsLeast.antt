@@ -13,7 +13,7 @@ use Rattle.sim_stations.specs.Stations.{at_time, pair_at}
 use Rattle.sim_stations.specs.Rows.{Rowed, place_in, side_of, seen, turned_at, shown, IsFirst, IsHead, IsInRows, AreHeads}
 use Rattle.sim_stations.proofs.Sides.{IsPlace, place_of}
 use Rattle.sim_stations.proofs.Seen.{seen_at, seen_length}
-use Rattle.sim_stations.proofs.Heads.{no_key, at_one_time, at_own}
+use Rattle.sim_stations.proofs.Heads.{no_key, same_time_orders_alike, at_own_time_is_itself}
 use Rattle.sim_stations.proofs.InRows.{pair_there, long, side_in, member}
 
 same_or_not : (b c : Bool) → (b ≡ c) ⊎ (b ≡ not c)
@@ -124,7 +124,7 @@ module _ (rows : Grouped Timed) (heads : List (Option Timed)) (pairs : List Pair
       k_is = same_Some k (at_time (slice_index free r) w) (sym f ∙ shows s t.pair w t.at e)
 
       w_zero : at_time 0 w ≡ w
-      w_zero = at_own w 0 (inside.at_zero (place_in s (turned_at turned s)) w t.has)
+      w_zero = at_own_time_is_itself w 0 (inside.at_zero (place_in s (turned_at turned s)) w t.has)
 
       go : (o : Option Timed) → key_at heads r ≡ o → IsHead rows r (slice_index free r) o → IsNotBefore k
       go None g empty = absurd (no_key w (sym (empty (place_in s (turned_at turned s)) t.there) ∙ t.has))
@@ -132,13 +132,13 @@ module _ (rows : Grouped Timed) (heads : List (Option Timed)) (pairs : List Pair
         resource = r;
         head = h;
         is_head = g;
-        not_before = ap (λ x. event_before x h) k_is ∙ ap (event_before (at_time (slice_index free r) w)) (sym (at_own h (slice_index free r) is.1)) ∙ at_one_time (slice_index free r) w h ∙ ap (λ x. event_before x (at_time 0 h)) w_zero ∙ is.0.least (place_in s (turned_at turned s)) w t.there t.has;
+        not_before = ap (λ x. event_before x h) k_is ∙ ap (event_before (at_time (slice_index free r) w)) (sym (at_own_time_is_itself h (slice_index free r) is.1)) ∙ same_time_orders_alike (slice_index free r) w h ∙ ap (λ x. event_before x (at_time 0 h)) w_zero ∙ is.0.least (place_in s (turned_at turned s)) w t.there t.has;
       }
 
   pub first_shown : (r : ℕ) (h : Timed) → IsLeast event_before heads r h → IsFirst all h
   first_shown r h least = record {
     station = o.station;
-    has = shows o.station o.pair (at_time 0 h) o.at o.has ∙ ap (λ x. Some (at_time (slice_index free x) h)) (sym o.side) ∙ ap Some (at_own h (slice_index free r) o.time);
+    has = shows o.station o.pair (at_time 0 h) o.at o.has ∙ ap (λ x. Some (at_time (slice_index free x) h)) (sym o.side) ∙ ap Some (at_own_time_is_itself h (slice_index free r) o.time);
     least = λ one k e. others one k e (key_at keys one) refl;
   }
     where

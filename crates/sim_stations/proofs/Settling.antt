@@ -70,8 +70,8 @@ late_set free (q ∷ pairs) (b ∷ turned) (suc s) p e l h =
 
 module _ (ahead : List (Option Timed)) (waiting : Grouped Timed) (rows : Rowed) (stands : List KeyPlace) (steps moves : ℕ) (mid_ahead : List (Option Timed)) (mid_waiting : Grouped Timed) (mid_rows : Rowed) (mid_stands : List KeyPlace) (then moves_then : ℕ) (so_far : IsSettling ahead waiting rows stands steps moves mid_ahead mid_waiting mid_rows mid_stands then moves_then) where
   -- the times are still those at which the resources of the slots are free
-  pub times_now : (times : List ℕ) → ((slot : ℕ) → slot < length waiting.keys → AreTimesOf times rows.free (pair_at rows.pairs (slice_index waiting.groups slot))) → (slot : ℕ) → slot < length mid_waiting.keys → AreTimesOf times mid_rows.free (pair_at mid_rows.pairs (slice_index mid_waiting.groups slot))
-  times_now times known slot within =
+  pub times_known_in_loop : (times : List ℕ) → ((slot : ℕ) → slot < length waiting.keys → AreTimesOf times rows.free (pair_at rows.pairs (slice_index waiting.groups slot))) → (slot : ℕ) → slot < length mid_waiting.keys → AreTimesOf times mid_rows.free (pair_at mid_rows.pairs (slice_index mid_waiting.groups slot))
+  times_known_in_loop times known slot within =
       let then_known = known slot (omega (arith, within, so_far.long)) in
       let at_groups = subst (λ gs. AreTimesOf times rows.free (pair_at rows.pairs (slice_index gs slot))) (sym so_far.groups) then_known in
       let at_pairs = subst (λ ps. AreTimesOf times rows.free (pair_at ps (slice_index mid_waiting.groups slot))) (sym so_far.pairs) at_groups in

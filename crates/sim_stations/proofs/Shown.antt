@@ -34,8 +34,8 @@ module _ (waiting : Grouped Timed) (slot station : ℕ) (member : slice_get wait
       head_stays waiting new groups_are one (λ s e. key_of_other_slot s (λ same. n (same_Some one station (sym e ∙ ap (slice_get waiting.groups) same ∙ member)))) time head
 
   -- the station gets its least key
-  pub told_station : (keys : List (Option Timed)) (stations : ℕ) → station < length keys → AreShown waiting keys stations → (head : Option Timed) → IsHead new station 0 head → AreShown new (set keys station head) stations
-  told_station keys stations exists shown head is one l = go (cases_eq one station)
+  pub shown_after_new_head : (keys : List (Option Timed)) (stations : ℕ) → station < length keys → AreShown waiting keys stations → (head : Option Timed) → IsHead new station 0 head → AreShown new (set keys station head) stations
+  shown_after_new_head keys stations exists shown head is one l = go (cases_eq one station)
     where
       go : (one ≡ station) ⊎ (one ≢ station) → IsHead new one 0 (key_at (set keys station head) one)
       go (inl e) =

@@ -11,7 +11,7 @@ use Rattle.sim_queue.specs.Groups.{Grouped}
 use Rattle.sim_resources.specs.declared.pair.Pair.{Pair}
 use Rattle.sim_stations.specs.declared.key_place.KeyPlace.{KeyPlace}
 use Rattle.sim_stations.specs.declared.key_place.KeyPlace.TheVariants.{Nowhere}
-use Rattle.sim_stations.specs.Stations.{waits_for_room, when_free, pair_at}
+use Rattle.sim_stations.specs.Stations.{holds_cpu, when_free, pair_at}
 use Rattle.sim_stations.specs.Kept.{seen_keys, stand_of, AreMapped, AreStands}
 use Rattle.sim_stations.proofs.Heads.{no_key}
 
@@ -56,7 +56,7 @@ pub record IsStep (slot : ℕ) (ahead new_ahead : List (Option Timed)) (waiting 
   pub ahead_stays : (one : ℕ) → one ≢ slot → key_at new_ahead one ≡ key_at ahead one
   pub waiting_stays : (one : ℕ) → one ≢ slot → key_at new_waiting.keys one ≡ key_at waiting.keys one
   pub apart : (k : Timed) → key_at new_ahead slot ≡ Some k → key_at new_waiting.keys slot ≡ None
-  pub waits : (k : Timed) → key_at new_waiting.keys slot ≡ Some k → (k.time ≡ 0) × (waits_for_room k.class ≡ true)
+  pub waits : (k : Timed) → key_at new_waiting.keys slot ≡ Some k → (k.time ≡ 0) × (holds_cpu k.class ≡ true)
 
 module _ (ahead : List (Option Timed)) (waiting : Grouped Timed) (pairs : List Pair) (mapped : AreMapped ahead waiting pairs) where
   pub seen_here : (free : List ℕ) (i : ℕ) → key_at (seen_keys free pairs ahead waiting.keys waiting.groups) i ≡ option_map (when_free free (pair_here pairs waiting i)) (merged ahead waiting i)
@@ -91,7 +91,7 @@ module _ (ahead : List (Option Timed)) (waiting : Grouped Timed) (pairs : List P
             ap (key_at new_waiting.keys) s ∙ step.apart k (ap (key_at new_ahead) (sym s) ∙ e)
         apart_now one k e (inr n) = step.waiting_stays one n ∙ mapped.apart one k (sym (step.ahead_stays one n) ∙ e)
 
-        waits_now : (one : ℕ) (k : Timed) → key_at new_waiting.keys one ≡ Some k → (one ≡ slot) ⊎ (one ≢ slot) → (k.time ≡ 0) × (waits_for_room k.class ≡ true)
+        waits_now : (one : ℕ) (k : Timed) → key_at new_waiting.keys one ≡ Some k → (one ≡ slot) ⊎ (one ≢ slot) → (k.time ≡ 0) × (holds_cpu k.class ≡ true)
         waits_now one k e (inl s) = step.waits k (ap (key_at new_waiting.keys) (sym s) ∙ e)
         waits_now one k e (inr n) = mapped.waits one k (sym (step.waiting_stays one n) ∙ e)
 
@@ -160,7 +160,7 @@ module _ (ahead : List (Option Timed)) (waiting : Grouped Timed) (pairs : List P
   here_ahead slot value l = get_or-set_same ahead slot value None (omega (arith, l, mapped.each))
 
   -- a waiting slot gets another key, or none, and has nothing ahead
-  pub step_waiting : (slot : ℕ) (now : List (Option Timed)) (value : Option Timed) (new : Grouped Timed) → slot < length waiting.keys → length now ≡ length ahead → ((one : ℕ) → one ≢ slot → key_at now one ≡ key_at ahead one) → key_at now slot ≡ None → ((k : Timed) → value ≡ Some k → (k.time ≡ 0) × (waits_for_room k.class ≡ true)) → new ≡ record { keys = set waiting.keys slot value; groups = waiting.groups } → IsStep slot ahead now waiting new
+  pub step_waiting : (slot : ℕ) (now : List (Option Timed)) (value : Option Timed) (new : Grouped Timed) → slot < length waiting.keys → length now ≡ length ahead → ((one : ℕ) → one ≢ slot → key_at now one ≡ key_at ahead one) → key_at now slot ≡ None → ((k : Timed) → value ≡ Some k → (k.time ≡ 0) × (holds_cpu k.class ≡ true)) → new ≡ record { keys = set waiting.keys slot value; groups = waiting.groups } → IsStep slot ahead now waiting new
   step_waiting slot now value new l each stays idle waits is = record {
     each_ahead = each;
     each_waiting = ap (λ (q : Grouped Timed). length q.keys) is ∙ length-set waiting.keys slot value;

@@ -8,8 +8,8 @@ use Rattle.sim_order.specs.Events.{event_before}
 use Rattle.sim_order.specs.EventLaws.{event_laws}
 use Rattle.sim_queue.proofs.ForCallers.{through}
 use Rattle.sim_resources.specs.declared.pair.Pair.{Pair}
-use Rattle.sim_stations.specs.Stations.{waits_for_room, at_time, both_free, earliest, when_free, pair_at}
-use Rattle.sim_stations.proofs.Heads.{at_own}
+use Rattle.sim_stations.specs.Stations.{holds_cpu, at_time, both_free, earliest, when_free, pair_at}
+use Rattle.sim_stations.proofs.Heads.{at_own_time_is_itself}
 
 -- an event is not before itself at an earlier time
 pub later_not_before : (t : ℕ) (k : Timed) → k.time ≤ t → event_before (at_time t k) k ≡ false
@@ -29,42 +29,42 @@ pub later_than : (t : ℕ) (k x : Timed) → k.time ≤ t → event_before k x �
 later_than t k x l e = through event_before event_laws (at_time t k) k x (later_not_before t k l) e
 
 module _ (free : List ℕ) (p : Pair) where
-  pub earliest_waits : (k : Timed) → waits_for_room k.class ≡ true → earliest free p k ≡ max k.time (both_free free p)
+  pub earliest_waits : (k : Timed) → holds_cpu k.class ≡ true → earliest free p k ≡ max k.time (both_free free p)
   earliest_waits k e = ap (λ b. if b then max k.time (both_free free p) else k.time) e
 
-  pub earliest_at_once : (k : Timed) → waits_for_room k.class ≡ false → earliest free p k ≡ k.time
+  pub earliest_at_once : (k : Timed) → holds_cpu k.class ≡ false → earliest free p k ≡ k.time
   earliest_at_once k e = ap (λ b. if b then max k.time (both_free free p) else k.time) e
 
   pub not_earlier : (k : Timed) → k.time ≤ earliest free p k
-  not_earlier k = go (waits_for_room k.class) refl
+  not_earlier k = go (holds_cpu k.class) refl
     where
-      go : (b : Bool) → waits_for_room k.class ≡ b → k.time ≤ earliest free p k
+      go : (b : Bool) → holds_cpu k.class ≡ b → k.time ≤ earliest free p k
       go true e = rw (earliest_waits k e) (omega arith)
       go false e = rw (earliest_at_once k e) (omega arith)
 
   -- a waiting event's own time does not matter if its resources are free later
-  pub forgotten : (k : Timed) → waits_for_room k.class ≡ true → k.time ≤ both_free free p → when_free free p (at_time 0 k) ≡ when_free free p k
+  pub forgotten : (k : Timed) → holds_cpu k.class ≡ true → k.time ≤ both_free free p → when_free free p (at_time 0 k) ≡ when_free free p k
   forgotten k w l =
       let left : earliest free p (at_time 0 k) ≡ max 0 (both_free free p) = earliest_waits (at_time 0 k) w in
       let same : max 0 (both_free free p) ≡ max k.time (both_free free p) = omega (arith, l) in
       ap (λ t. at_time t k) (left ∙ same ∙ sym (earliest_waits k w))
 
-  pub when_zero : (k : Timed) → waits_for_room k.class ≡ true → when_free free p (at_time 0 k) ≡ at_time (both_free free p) k
+  pub when_zero : (k : Timed) → holds_cpu k.class ≡ true → when_free free p (at_time 0 k) ≡ at_time (both_free free p) k
   when_zero k w =
       let same : max 0 (both_free free p) ≡ both_free free p = omega arith in
       ap (λ t. at_time t k) (earliest_waits (at_time 0 k) w ∙ same)
 
   -- an event is due where its resources are free by its own moment
-  pub due_itself : (k : Timed) → waits_for_room k.class ≡ true → both_free free p ≤ k.time → when_free free p k ≡ k
+  pub due_itself : (k : Timed) → holds_cpu k.class ≡ true → both_free free p ≤ k.time → when_free free p k ≡ k
   due_itself k w l =
       let same : max k.time (both_free free p) ≡ k.time = omega (arith, l) in
-      at_own k (earliest free p k) (sym (earliest_waits k w ∙ same))
+      at_own_time_is_itself k (earliest free p k) (sym (earliest_waits k w ∙ same))
 
 -- it is raised where its resources are free later
 pub raised_again : (free now : List ℕ) (p : Pair) → both_free free p ≤ both_free now p → (k : Timed) → when_free now p k ≡ when_free now p (when_free free p k)
-raised_again free now p l k = go (waits_for_room k.class) refl
+raised_again free now p l k = go (holds_cpu k.class) refl
   where
-    go : (b : Bool) → waits_for_room k.class ≡ b → when_free now p k ≡ when_free now p (when_free free p k)
+    go : (b : Bool) → holds_cpu k.class ≡ b → when_free now p k ≡ when_free now p (when_free free p k)
     go true e =
         let right : earliest now p (when_free free p k) ≡ max (earliest free p k) (both_free now p) = earliest_waits now p (when_free free p k) e in
         let was : earliest free p k ≡ max k.time (both_free free p) = earliest_waits free p k e in

@@ -9,7 +9,7 @@ use Rattle.sim_queue.specs.Groups.{Grouped, IsLeastOf, IsSoleLeastOf}
 use Rattle.sim_resources.specs.declared.pair.Pair.{Pair}
 use Rattle.sim_stations.specs.declared.key_place.KeyPlace.{KeyPlace}
 use Rattle.sim_stations.specs.declared.key_place.KeyPlace.TheVariants.{Nowhere, Ahead, Waiting}
-use Rattle.sim_stations.specs.Stations.{waits_for_room, when_free, pair_at, held}
+use Rattle.sim_stations.specs.Stations.{holds_cpu, when_free, pair_at, held}
 use Rattle.sim_stations.specs.Moves.{one_if}
 use Rattle.sim_stations.specs.Rows.{Rowed, IsHead, side_of, shown}
 
@@ -25,7 +25,7 @@ pub record AreMapped (ahead : List (Option Timed)) (waiting : Grouped Timed) (pa
   pub grouped : length waiting.groups ≡ length waiting.keys
   pub within : (slot station : ℕ) → slice_get waiting.groups slot ≡ Some station → station < length pairs
   pub apart : (slot : ℕ) (k : Timed) → key_at ahead slot ≡ Some k → key_at waiting.keys slot ≡ None
-  pub waits : (slot : ℕ) (k : Timed) → key_at waiting.keys slot ≡ Some k → (k.time ≡ 0) × (waits_for_room k.class ≡ true)
+  pub waits : (slot : ℕ) (k : Timed) → key_at waiting.keys slot ≡ Some k → (k.time ≡ 0) × (holds_cpu k.class ≡ true)
 
 -- each station has the least key of its waiting slots
 abbrev pub AreShown : Grouped Timed → List (Option Timed) → ℕ → Type 0

@@ -2,10 +2,9 @@
 -- are not before the times at which these are free.
 use Rattle.std.specs.Prelude.{◌≡◌, ◌<◌, ◌≤◌, ◌+◌, ◌*◌, ℕ, Bool, List, Option, Some, length, max, slice_get, slice_index, slice_index_or, slice_set, if◌then◌else◌}
 use Rattle.std.specs.List.{sum_by}
-use Rattle.goal_graph.specs.Action.{holds_cpu}
+pub use Rattle.goal_graph.specs.Action.{holds_cpu}
 use Rattle.goal_graph.specs.declared.action.OpId.{OpId}
 use Rattle.goal_graph.specs.declared.action.Timed.{Timed}
-use Rattle.goal_graph.specs.declared.action.Class.{Class}
 pub use Rattle.sim_queue.specs.Item.{at_time}
 use Rattle.sim_queue.specs.Map.{key_at}
 use Rattle.sim_resources.specs.declared.pair.Pair.{Pair}
@@ -25,17 +24,13 @@ pub record Stationed : Type 0 where
   pub free : List ℕ
   pub found : Option ℕ
 
--- actions of this class wait for a cpu or a NIC
-abbrev pub waits_for_room : Class → Bool
-waits_for_room class = holds_cpu class
-
 -- when both resources are free
 abbrev pub both_free : List ℕ → Pair → ℕ
 both_free free p = max (slice_index free p.cpu) (slice_index free p.side)
 
 -- the earliest time of an event that needs these resources, if it waits for them
 abbrev pub earliest : List ℕ → Pair → Timed → ℕ
-earliest free p k = if waits_for_room k.class then max k.time (both_free free p) else k.time
+earliest free p k = if holds_cpu k.class then max k.time (both_free free p) else k.time
 
 abbrev pub when_free : List ℕ → Pair → Timed → Timed
 when_free free p k = at_time (earliest free p k) k

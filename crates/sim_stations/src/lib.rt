@@ -16,4 +16,4 @@ mod station_queue;
 pub use key_place::KeyPlace;
 pub use laws::laws_of_changes;
 pub use sim_resources::Pair;
-pub use station_queue::{StationQueue, waits_for_room};
+pub use station_queue::StationQueue;

@@ -7,7 +7,7 @@ ghost use Rattle.sim_order.specs.Events.{event_before};
 ghost use Rattle.sim_queue.specs.Map.{key_at, IsEmptyMap, IsLeast, IsSoleLeast};
 ghost use Rattle.goal_graph.specs.declared.action.Timed.{Timed};
 ghost use Rattle.sim_stations.specs.declared.key_place.KeyPlace.TheVariants.{Nowhere};
-ghost use Rattle.sim_stations.specs.Stations.{waits_for_room, at_time, both_free, earliest, when_free, pair_at, pair_of, held_by, DoExist, IsLaterBy, AreKnown, AreTimesOf, AreOfSlots, count_ahead, cost_of_waiting, cost_of_moves};
+ghost use Rattle.sim_stations.specs.Stations.{holds_cpu, at_time, both_free, earliest, when_free, pair_at, pair_of, held_by, DoExist, IsLaterBy, AreKnown, AreTimesOf, AreOfSlots, count_ahead, cost_of_waiting, cost_of_moves};
 ghost use Rattle.sim_stations.specs.Moves.{HaveReturned, HaveMoved, held_once_more};
 ghost use Rattle.sim_stations.specs.Rows.{IsFirst};
 ghost use Rattle.sim_stations.specs.Kept.{has_key, is_waiting, seen_of, AreShown, IsKept, IsFound, IsFirstOfAll, IsDeparted, IsBeforeAll, HasOneBefore};
@@ -24,9 +24,9 @@ use std::alloc::Global;
 use std::marker::Model;
 use std::sync::ledger::Ledger;
 
-/// Returns whether actions of a class wait for a cpu or a NIC.
-pub fn waits_for_room(class: Class) -> bool
-    ensures { result ≡ waits_for_room class }
+// Returns whether actions of a class hold a cpu, and so wait until it is free.
+fn holds_cpu(class: Class) -> bool
+    ensures { result ≡ holds_cpu class }
 {
     match class {
         Class::Begin | Class::Data | Class::Serve => true,
@@ -126,12 +126,12 @@ fn is_held_up<L: Ledger>(
     requires slot_in { slot < length waiting.now.groups }
     requires within { slice_index waiting.now.groups slot < length rows.now.pairs }
     requires times { AreTimesOf times.now rows.now.free (pair_at rows.now.pairs (slice_index waiting.now.groups slot)) }
-    ensures held_up { result ≡ true → (waits_for_room key.class ≡ true) × (key.time < both_free rows.now.free (pair_at rows.now.pairs (slice_index waiting.now.groups slot))) }
+    ensures held_up { result ≡ true → (holds_cpu key.class ≡ true) × (key.time < both_free rows.now.free (pair_at rows.now.pairs (slice_index waiting.now.groups slot))) }
     ensures due { result ≡ false → when_free rows.now.free (pair_at rows.now.pairs (slice_index waiting.now.groups slot)) key ≡ key }
     ensures counted { steps.new ≤ steps.old + 2 }
     ensures onward { steps.old ≤ steps.new }
 {
-    if !waits_for_room(key.class()) {
+    if !holds_cpu(key.class()) {
         return false;
     }
     let free = rows.free(times, waiting.group(slot), steps);
@@ -152,12 +152,12 @@ fn may_wait<L: Ledger>(
     requires slot_in { slot < length waiting.now.groups }
     requires within { slice_index waiting.now.groups slot < length rows.now.pairs }
     requires times { AreTimesOf times.now rows.now.free (pair_at rows.now.pairs (slice_index waiting.now.groups slot)) }
-    ensures waits { result ≡ true → waits_for_room key.class ≡ true }
+    ensures waits { result ≡ true → holds_cpu key.class ≡ true }
     ensures late { result ≡ true → key.time ≤ both_free rows.now.free (pair_at rows.now.pairs (slice_index waiting.now.groups slot)) }
     ensures counted { steps.new ≤ steps.old + 3 }
     ensures onward { steps.old ≤ steps.new }
 {
-    if !waits_for_room(key.class()) {
+    if !holds_cpu(key.class()) {
         return false;
     }
     let station = waiting.group(slot);
@@ -241,7 +241,7 @@ fn begin_to_wait<L: Ledger>(
     requires kept { IsKept ahead.old waiting.old rows.old stands.old }
     requires sole { IsSoleLeast event_before ahead.old slot }
     requires key { key_at ahead.old slot ≡ Some key }
-    requires waits { waits_for_room key.class ≡ true }
+    requires waits { holds_cpu key.class ≡ true }
     requires late { (station : ℕ) → slice_get waiting.old.groups slot ≡ Some station → key.time ≤ both_free rows.old.free (pair_at rows.old.pairs station) }
     requires times { AreTimesOf times.now rows.old.free (pair_at rows.old.pairs (slice_index waiting.old.groups slot)) }
     ensures kept { IsKept ahead.new waiting.new rows.new stands.new }
@@ -490,7 +490,7 @@ impl StationQueue {
     /// Removes the key that was found to be the least, whose action waits for nothing.
     pub fn take<L: Ledger>(&mut self, slot: u32, steps: &mut Steps<L>)
         requires found { self.old.found ≡ Some slot }
-        requires at_once { IfSome (key_at self.old.keys slot) (λ k. waits_for_room k.class ≡ false) }
+        requires at_once { IfSome (key_at self.old.keys slot) (λ k. holds_cpu k.class ≡ false) }
         ensures keys { self.new.keys ≡ slice_set self.old.keys slot None }
         ensures stations { self.new.stations ≡ self.old.stations }
         ensures pairs { self.new.pairs ≡ self.old.pairs }

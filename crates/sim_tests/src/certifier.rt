@@ -3,7 +3,7 @@ ghost use Rattle.std.specs.Prelude.{◌<◌};
 
 use crate::plans::{CALC, noted_plan, one_rank};
 use crate::same::same;
-use goal_blocks::{CertFault, Collective, Segment};
+use goal_blocks::{CertFault, Collective};
 use goal_certify::{AtOnceFault, SegmentFault, certify, certify_at_once, certify_segments};
 use goal_graph::{Kind, Note, Op, OpId, PlanFault, RankPlan, Sched};
 use std::alloc::Global;
@@ -269,19 +269,5 @@ fn tells_what_one_segment_adds_to_another(rt: HostRuntime) -> Result<(), Fail> {
             slot: 1,
         }),
     );
-    Ok(())
-}
-
-// The notes are exchanged for block 2, and then the schedule is certified as a whole.
-#[test]
-fn certifies_exchanged_notes(rt: HostRuntime) -> Result<(), Fail> {
-    let what = Collective::Bcast { root: 0 };
-    let segment = Segment { width: 1, block: 2 };
-    let notes = segment.exchanged_notes(rt.alloc(), &[moves(2, 2)]).ok();
-    let notes = notes.ok_or("memory")?;
-    let first = noted_plan(rt.alloc(), &[send(8, 1, 7)], &notes)?;
-    let second = noted_plan(rt.alloc(), &[receive(Some(0), Some(7))], &notes)?;
-    let sched = two(rt.alloc(), first, second)?;
-    same(&rt, &certify(rt.alloc(), &sched, what), &Ok(()));
     Ok(())
 }

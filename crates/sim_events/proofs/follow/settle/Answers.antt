@@ -5,13 +5,13 @@ use Rattle.std.proofs.lemmas.List.{get_or-set_same}
 use Rattle.goal_graph.specs.declared.action.Timed.{Timed}
 use Rattle.sim_queue.specs.Map.{key_at}
 use Rattle.sim_queue.proofs.ForCallers.{key_within}
-use Rattle.sim_stations.specs.Stations.{waits_for_room, pair_of}
+use Rattle.sim_stations.specs.Stations.{holds_cpu, pair_of}
 use Rattle.sim_events.proofs.Held.{both_times_known, later_by_times, held_by_times}
 use Rattle.sim_events.proofs.follow.settle.Goals as goal
 
 pub returns-in-Arrive-clause-settled : goal.returns-in-Arrive-clause-settled
 returns-in-Arrive-clause-settled g c =
-    let at_once : waits_for_room c.args.action.class ≡ false = elim c.in-Arrive.is [ inl arrive ↦ ap waits_for_room arrive | inr post ↦ ap waits_for_room post ] in
+    let at_once : holds_cpu c.args.action.class ≡ false = elim c.in-Arrive.is [ inl arrive ↦ ap holds_cpu arrive | inr post ↦ ap holds_cpu post ] in
     let keys = c.args.queue.now.keys in
     record {
       each = ap length c.take.ensures.keys ∙ length-set keys c.args.slot None;
@@ -28,7 +28,7 @@ returns-in-Arrive-clause-settled g c =
 
 pub act-requires : goal.act-requires
 act-requires g c =
-    let waits : waits_for_room c.args.action.class ≡ true = elim c.in-Begin.is [ inl is ↦ ap waits_for_room is | inr other ↦ elim other [ inl is ↦ ap waits_for_room is | inr is ↦ ap waits_for_room is ] ] in
+    let waits : holds_cpu c.args.action.class ≡ true = elim c.in-Begin.is [ inl is ↦ ap holds_cpu is | inr other ↦ elim other [ inl is ↦ ap holds_cpu is | inr is ↦ ap holds_cpu is ] ] in
     let queue = c.args.queue.now in
     let times = c.free_times.ensures queue.stations queue.pairs c.requires.stationed c.args.slot c.args.action.op c.requires.slot in
     record {
@@ -39,7 +39,7 @@ act-requires g c =
 
 pub returns-in-Begin-clause-settled : goal.returns-in-Begin-clause-settled
 returns-in-Begin-clause-settled g c =
-    let waits : waits_for_room c.args.action.class ≡ true = elim c.in-Begin.is [ inl is ↦ ap waits_for_room is | inr other ↦ elim other [ inl is ↦ ap waits_for_room is | inr is ↦ ap waits_for_room is ] ] in
+    let waits : holds_cpu c.args.action.class ≡ true = elim c.in-Begin.is [ inl is ↦ ap holds_cpu is | inr other ↦ elim other [ inl is ↦ ap holds_cpu is | inr is ↦ ap holds_cpu is ] ] in
     let queue = c.args.queue.now in
     let times = c.free_times.ensures queue.stations queue.pairs c.requires.stationed c.args.slot c.args.action.op c.requires.slot in
     record {

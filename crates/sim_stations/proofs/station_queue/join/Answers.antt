@@ -3,7 +3,7 @@ use Rattle.goal_graph.specs.declared.action.Timed.{Timed}
 use Rattle.sim_stations.specs.Stations.{at_time, AreTimesOf}
 use Rattle.sim_stations.specs.Rows.{Rowed}
 use Rattle.sim_stations.specs.Kept.{AreShown, IsBeforeAll, HasOneBefore}
-use Rattle.sim_stations.proofs.Shown.{told_station, shown_with_kept_least, first_is_new_least, later_keeps_least}
+use Rattle.sim_stations.proofs.Shown.{shown_after_new_head, shown_with_kept_least, first_is_new_least, later_keeps_least}
 use Rattle.sim_stations.proofs.Times.{pair_of_station}
 use Rattle.sim_stations.proofs.Settling.{twice}
 use Rattle.sim_stations.proofs.station_queue.join.Goals as goal
@@ -20,7 +20,7 @@ returns-then-is_first-clause-shown g c =
     let before = subst (IsBeforeAll c.args.waiting.now station) c.at-key.ensures (c.is_first.ensures.first c.if-is_first.true) in
     let put = c.put.ensures.put ∙ ap (λ (k : Timed). record { keys = set c.args.waiting.now.keys c.args.slot (Some (at_time 0 k)); groups = c.args.waiting.now.groups }) c.at-key.ensures in
     let head = first_is_new_least c.args.waiting.now c.args.slot station c.group-station.ensures c.requires.slot_in (Some key) c.put.new.self put key refl refl c.requires.free before in
-    let shown = told_station c.args.waiting.now c.args.slot station c.group-station.ensures c.requires.slot_in (Some key) c.put.new.self put c.args.rows.now.keys (length c.args.rows.now.pairs) (omega (arith, exists, c.requires.keyed)) c.requires.shown (Some key) head in
+    let shown = shown_after_new_head c.args.waiting.now c.args.slot station c.group-station.ensures c.requires.slot_in (Some key) c.put.new.self put c.args.rows.now.keys (length c.args.rows.now.pairs) (omega (arith, exists, c.requires.keyed)) c.requires.shown (Some key) head in
     let told = c.tell.ensures.told ∙ ap (λ (k : Timed). record { keys = set c.args.rows.now.keys station (Some k); pairs = c.args.rows.now.pairs; turned = c.args.rows.now.turned; free = c.args.rows.now.free }) c.at-key.ensures in
     subst (λ (r : Rowed). AreShown c.put.new.self r.keys (length r.pairs)) (sym told) shown
 

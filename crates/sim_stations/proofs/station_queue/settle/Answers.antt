@@ -8,7 +8,7 @@ use Rattle.sim_stations.specs.Stations.{both_free, pair_at, AreOfSlots, AreTimes
 use Rattle.sim_stations.proofs.Listed.{listed_exists}
 use Rattle.sim_stations.proofs.Least.{listed, least_found, found_slot, sole_ahead, ahead_slot, row_key, turn_late, slot_within, not_empty, empty_both}
 use Rattle.sim_stations.proofs.Times.{pair_of_station}
-use Rattle.sim_stations.proofs.Settling.{settling, times_now, waited, waited_less, went_over, over_less}
+use Rattle.sim_stations.proofs.Settling.{settling, times_known_in_loop, waited, waited_less, went_over, over_less}
 use Rattle.sim_stations.proofs.station_queue.settle.Goals as goal
 
 pub looks-init : goal.looks-init
@@ -45,7 +45,7 @@ is_held_up-requires-clause-times g c =
     let of_slots = subst (AreOfSlots (operations plans)) (sym c.looks.invariant.seen) c.requires.of_slots in
     let is_slot : slice_get (operations plans) c.index-slot.result ≡ Some c.in-Some.look.key.op = c.index-slot.ensures.index ∙ ap Some c.id.ensures in
     let within = slot_within c.looks.ahead c.looks.waiting c.looks.rows c.looks.stands c.looks.invariant.kept c.in-Some.look.key c.in-Some.look.is_ahead c.in-Some.ensures.first plans of_slots c.index-slot.result is_slot in
-    times_now c.args.ahead.now c.args.waiting.now c.args.rows.now c.args.stands.now c.args.steps.now c.args.moves.now c.looks.ahead c.looks.waiting c.looks.rows c.looks.stands c.looks.steps c.looks.moves c.looks.invariant c.args.times.now c.requires.times c.index-slot.result within
+    times_known_in_loop c.args.ahead.now c.args.waiting.now c.args.rows.now c.args.stands.now c.args.steps.now c.args.moves.now c.looks.ahead c.looks.waiting c.looks.rows c.looks.stands c.looks.steps c.looks.moves c.looks.invariant c.args.times.now c.requires.times c.index-slot.result within
 
 pub returns-then-not-is_held_up-clause-none : goal.returns-then-not-is_held_up-clause-none
 returns-then-not-is_held_up-clause-none g c =
@@ -90,7 +90,7 @@ begin_to_wait-requires-clause-times g c =
     let of_slots = subst (AreOfSlots (operations plans)) (sym c.looks.invariant.seen) c.requires.of_slots in
     let is_slot : slice_get (operations plans) c.index-slot.result ≡ Some c.in-Some.look.key.op = c.index-slot.ensures.index ∙ ap Some c.id.ensures in
     let within = slot_within c.looks.ahead c.looks.waiting c.looks.rows c.looks.stands c.looks.invariant.kept c.in-Some.look.key c.in-Some.look.is_ahead c.in-Some.ensures.first plans of_slots c.index-slot.result is_slot in
-    times_now c.args.ahead.now c.args.waiting.now c.args.rows.now c.args.stands.now c.args.steps.now c.args.moves.now c.looks.ahead c.looks.waiting c.looks.rows c.looks.stands c.looks.steps c.looks.moves c.looks.invariant c.args.times.now c.requires.times c.index-slot.result within
+    times_known_in_loop c.args.ahead.now c.args.waiting.now c.args.rows.now c.args.stands.now c.args.steps.now c.args.moves.now c.looks.ahead c.looks.waiting c.looks.rows c.looks.stands c.looks.steps c.looks.moves c.looks.invariant c.args.times.now c.requires.times c.index-slot.result within
 
 pub looks-smaller-then-is_ahead : goal.looks-smaller-then-is_ahead
 looks-smaller-then-is_ahead g c =
@@ -122,7 +122,7 @@ turn-requires-clause-times g c =
     let is_slot : slice_get (operations plans) c.index-slot.result ≡ Some c.in-Some.look.key.op = c.index-slot.ensures.index ∙ ap Some c.id.ensures in
     let within = slot_within c.looks.ahead c.looks.waiting c.looks.rows c.looks.stands c.looks.invariant.kept c.in-Some.look.key c.in-Some.look.is_ahead c.in-Some.ensures.first plans of_slots c.index-slot.result is_slot in
     let same = pair_of_station c.looks.rows.pairs c.looks.waiting.groups c.index-slot.result c.group-station.result c.group-station.ensures in
-    subst (AreTimesOf c.args.times.now c.looks.rows.free) same (times_now c.args.ahead.now c.args.waiting.now c.args.rows.now c.args.stands.now c.args.steps.now c.args.moves.now c.looks.ahead c.looks.waiting c.looks.rows c.looks.stands c.looks.steps c.looks.moves c.looks.invariant c.args.times.now c.requires.times c.index-slot.result within)
+    subst (AreTimesOf c.args.times.now c.looks.rows.free) same (times_known_in_loop c.args.ahead.now c.args.waiting.now c.args.rows.now c.args.stands.now c.args.steps.now c.args.moves.now c.looks.ahead c.looks.waiting c.looks.rows c.looks.stands c.looks.steps c.looks.moves c.looks.invariant c.args.times.now c.requires.times c.index-slot.result within)
 
 pub looks-smaller : goal.looks-smaller
 looks-smaller g c =

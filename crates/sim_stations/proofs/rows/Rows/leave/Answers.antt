@@ -1,7 +1,7 @@
 use Rattle.std.proofs.Common.{◌≡◌, ◌<◌, Some, length, set, slice_get, slice_index, sym, ap, ◌∙◌, subst, arith}
 use Rattle.sim_stations.specs.Stations.{held_by, pair_at, AreKnown}
 use Rattle.sim_stations.specs.Rows.{Rowed, place_in, turned_at, AreBothTold, IsInRows, AreHeads}
-use Rattle.sim_stations.proofs.InRows.{known_here, held_times, both_told_same, held_long, with_key, if_some, pair_read, pair_there, turned_read, written_inside, left_heads, written_seen}
+use Rattle.sim_stations.proofs.InRows.{known_for_pair_read, times_held_are_same, both_told_by_same_times, held_long, with_key, if_some, pair_read, pair_there, turned_read, written_inside, left_heads, written_seen}
 use Rattle.sim_stations.proofs.rows.Rows.leave.Given.{Over}
 use Rattle.sim_stations.proofs.rows.Rows.leave.Goals.{After-tell_both}
 use Rattle.sim_stations.proofs.rows.Rows.leave.Goals as goal
@@ -26,7 +26,7 @@ module _ (g : Over) (c : After-tell_both g) where
       let q = c.self.inside in
       let p = c.index-pair.result.now in
       let exist = c.self.invariant.0.exist c.args.station p at in
-      both_told_same c.write.new.rows c.args.times.now (held_by q.free.times p c.args.times.now) q.heads c.tell_both.new.heads p (held_times c.args.times.now q.free.times p exist.0 exist.1) c.tell_both.ensures.told
+      both_told_by_same_times c.write.new.rows c.args.times.now (held_by q.free.times p c.args.times.now) q.heads c.tell_both.new.heads p (times_held_are_same c.args.times.now q.free.times p exist.0 exist.1) c.tell_both.ensures.told
 
 pub tell_both-requires-clause-cpu : goal.tell_both-requires-clause-cpu
 tell_both-requires-clause-cpu g c =
@@ -50,7 +50,7 @@ tell_both-requires-clause-known_cpu g c =
     let p = c.index-pair.result.now in
     let within : c.args.station < length q.pairs.items = omega (arith, c.requires.exists, ap (λ (r : Rowed). length r.pairs) c.self.view_is) in
     let at = pair_read q.pairs.items c.args.station p within c.index-pair.ensures in
-    (known_here c.args.times.now q.pairs.items c.args.station p at (subst (λ (r : Rowed). AreKnown c.args.times.now (pair_at r.pairs c.args.station)) (sym c.self.view_is) c.requires.known)).has_cpu
+    (known_for_pair_read c.args.times.now q.pairs.items c.args.station p at (subst (λ (r : Rowed). AreKnown c.args.times.now (pair_at r.pairs c.args.station)) (sym c.self.view_is) c.requires.known)).has_cpu
 
 pub tell_both-requires-clause-known_side : goal.tell_both-requires-clause-known_side
 tell_both-requires-clause-known_side g c =
@@ -58,7 +58,7 @@ tell_both-requires-clause-known_side g c =
     let p = c.index-pair.result.now in
     let within : c.args.station < length q.pairs.items = omega (arith, c.requires.exists, ap (λ (r : Rowed). length r.pairs) c.self.view_is) in
     let at = pair_read q.pairs.items c.args.station p within c.index-pair.ensures in
-    (known_here c.args.times.now q.pairs.items c.args.station p at (subst (λ (r : Rowed). AreKnown c.args.times.now (pair_at r.pairs c.args.station)) (sym c.self.view_is) c.requires.known)).has_side
+    (known_for_pair_read c.args.times.now q.pairs.items c.args.station p at (subst (λ (r : Rowed). AreKnown c.args.times.now (pair_at r.pairs c.args.station)) (sym c.self.view_is) c.requires.known)).has_side
 
 pub invariant_of-self : goal.invariant_of-self
 invariant_of-self g c =

@@ -1,7 +1,7 @@
 use Rattle.std.proofs.Common.{◌≡◌, ◌<◌, Some, length, set, slice_get, sym, ap, ◌∙◌, subst, arith}
 use Rattle.sim_stations.specs.Stations.{pair_at, AreTimesOf}
 use Rattle.sim_stations.specs.Rows.{Rowed, place_in, side_of, turned_at, IsTold}
-use Rattle.sim_stations.proofs.InRows.{side_in, times_here, times_known, known_side, same_times, told_same, with_key, if_some, pair_read, turned_read, written_inside, written_heads, written_seen}
+use Rattle.sim_stations.proofs.InRows.{side_in, times_for_pair_read, times_known, resource_waited_at_is_known, times_known_are_same, told_by_same_times, with_key, if_some, pair_read, turned_read, written_inside, written_heads, written_seen}
 use Rattle.sim_stations.proofs.rows.Rows.tell.Given.{Over}
 use Rattle.sim_stations.proofs.rows.Rows.tell.Goals.{After-tell}
 use Rattle.sim_stations.proofs.rows.Rows.tell.Goals as goal
@@ -24,13 +24,13 @@ module _ (g : Over) (c : After-tell g) where
   times : AreTimesOf c.args.times.now c.self.inside.free.times c.index-pair.result.now
   times =
       let q = c.self.inside in
-      times_here c.args.times.now q.free.times q.pairs.items c.args.station c.index-pair.result.now at (subst (λ (r : Rowed). AreTimesOf c.args.times.now r.free (pair_at r.pairs c.args.station)) (sym c.self.view_is) c.requires.times)
+      times_for_pair_read c.args.times.now q.free.times q.pairs.items c.args.station c.index-pair.result.now at (subst (λ (r : Rowed). AreTimesOf c.args.times.now r.free (pair_at r.pairs c.args.station)) (sym c.self.view_is) c.requires.times)
 
   told : IsTold c.write.new.rows c.self.inside.free.times c.self.inside.heads c.tell.new.heads (side_of c.index-pair.result.now (turned_at c.self.inside.turned.items c.args.station))
   told =
       let q = c.self.inside in
       let p = c.index-pair.result.now in
-      told_same c.write.new.rows c.args.times.now q.free.times q.heads c.tell.new.heads p (turned_at q.turned.items c.args.station) (same_times c.args.times.now q.free.times p times) (subst (IsTold c.write.new.rows c.args.times.now q.heads c.tell.new.heads) (c.side_of-resource.ensures ∙ ap (side_of p) turned) c.tell.ensures.told)
+      told_by_same_times c.write.new.rows c.args.times.now q.free.times q.heads c.tell.new.heads p (turned_at q.turned.items c.args.station) (times_known_are_same c.args.times.now q.free.times p times) (subst (IsTold c.write.new.rows c.args.times.now q.heads c.tell.new.heads) (c.side_of-resource.ensures ∙ ap (side_of p) turned) c.tell.ensures.told)
 
 pub tell-requires-clause-exists : goal.tell-requires-clause-exists
 tell-requires-clause-exists g c =
@@ -46,8 +46,8 @@ tell-requires-clause-known g c =
     let p = c.index-pair.result.now in
     let there : c.args.station < length q.pairs.items = omega (arith, c.requires.exists, ap (λ (r : Rowed). length r.pairs) c.self.view_is) in
     let at = pair_read q.pairs.items c.args.station p there c.index-pair.ensures in
-    let times : AreTimesOf c.args.times.now q.free.times p = times_here c.args.times.now q.free.times q.pairs.items c.args.station p at (subst (λ (r : Rowed). AreTimesOf c.args.times.now r.free (pair_at r.pairs c.args.station)) (sym c.self.view_is) c.requires.times) in
-    omega (arith, known_side c.args.times.now p c.index-turned.result.now (times_known c.args.times.now q.free.times p times), c.side_of-resource.ensures)
+    let times : AreTimesOf c.args.times.now q.free.times p = times_for_pair_read c.args.times.now q.free.times q.pairs.items c.args.station p at (subst (λ (r : Rowed). AreTimesOf c.args.times.now r.free (pair_at r.pairs c.args.station)) (sym c.self.view_is) c.requires.times) in
+    omega (arith, resource_waited_at_is_known c.args.times.now p c.index-turned.result.now (times_known c.args.times.now q.free.times p times), c.side_of-resource.ensures)
 
 pub invariant_of-self : goal.invariant_of-self
 invariant_of-self g c =

@@ -5,8 +5,8 @@ use Rattle.sim_queue.specs.Map.{key_at}
 use Rattle.sim_queue.specs.Groups.{Grouped}
 use Rattle.sim_stations.specs.Stations.{at_time, pair_at, AreTimesOf}
 use Rattle.sim_stations.specs.Rows.{Rowed, place_in, turned_at, seen, AreBothTold, IsInRows}
-use Rattle.sim_stations.proofs.Heads.{at_own}
-use Rattle.sim_stations.proofs.InRows.{times_here, times_known, same_times, both_told_same, with_key, key_zero, pair_read, turned_read, turned_zero, turned_inside, turned_heads, turned_seen}
+use Rattle.sim_stations.proofs.Heads.{at_own_time_is_itself}
+use Rattle.sim_stations.proofs.InRows.{times_for_pair_read, times_known, times_known_are_same, both_told_by_same_times, with_key, key_zero, pair_read, turned_read, turned_zero, turned_inside, turned_heads, turned_seen}
 use Rattle.sim_stations.proofs.rows.Rows.turn.Given.{Over}
 use Rattle.sim_stations.proofs.rows.Rows.turn.Goals.{After-tell_both-arg-3-1, After-tell_both}
 use Rattle.sim_stations.proofs.rows.Rows.turn.Goals as goal
@@ -22,7 +22,7 @@ module _ (g : Over) (c : After-tell_both-arg-3-1 g) where
   times_before : AreTimesOf c.args.times.now c.self.inside.free.times c.index-pair.result.now
   times_before =
       let q = c.self.inside in
-      times_here c.args.times.now q.free.times q.pairs.items c.args.station c.index-pair.result.now at_before (subst (λ (r : Rowed). AreTimesOf c.args.times.now r.free (pair_at r.pairs c.args.station)) (sym c.self.view_is) c.requires.times)
+      times_for_pair_read c.args.times.now q.free.times q.pairs.items c.args.station c.index-pair.result.now at_before (subst (λ (r : Rowed). AreTimesOf c.args.times.now r.free (pair_at r.pairs c.args.station)) (sym c.self.view_is) c.requires.times)
 
   turned_before : c.index-turned.result.now ≡ turned_at c.self.inside.turned.items c.args.station
   turned_before =
@@ -42,7 +42,7 @@ module _ (g : Over) (c : After-tell_both-arg-3-1 g) where
 
   new_before : c.put.new.self ≡ with_key c.drop_slot.new.self (place_in c.args.station (not (turned_at c.self.inside.turned.items c.args.station))) (Some c.args.key)
   new_before =
-      c.put.ensures.put ∙ ap (λ i. with_key c.drop_slot.new.self i (Some (at_time 0 c.args.key))) (c.place_in-2.ensures ∙ ap (λ b. place_in c.args.station (not b)) turned_before) ∙ ap (λ k. with_key c.drop_slot.new.self (place_in c.args.station (not (turned_at c.self.inside.turned.items c.args.station))) (Some k)) (at_own c.args.key 0 zero_before)
+      c.put.ensures.put ∙ ap (λ i. with_key c.drop_slot.new.self i (Some (at_time 0 c.args.key))) (c.place_in-2.ensures ∙ ap (λ b. place_in c.args.station (not b)) turned_before) ∙ ap (λ k. with_key c.drop_slot.new.self (place_in c.args.station (not (turned_at c.self.inside.turned.items c.args.station))) (Some k)) (at_own_time_is_itself c.args.key 0 zero_before)
 
 -- and after it
 module _ (g : Over) (c : After-tell_both g) where
@@ -55,7 +55,7 @@ module _ (g : Over) (c : After-tell_both g) where
   times : AreTimesOf c.args.times.now c.self.inside.free.times c.index-pair.result.now
   times =
       let q = c.self.inside in
-      times_here c.args.times.now q.free.times q.pairs.items c.args.station c.index-pair.result.now at (subst (λ (r : Rowed). AreTimesOf c.args.times.now r.free (pair_at r.pairs c.args.station)) (sym c.self.view_is) c.requires.times)
+      times_for_pair_read c.args.times.now q.free.times q.pairs.items c.args.station c.index-pair.result.now at (subst (λ (r : Rowed). AreTimesOf c.args.times.now r.free (pair_at r.pairs c.args.station)) (sym c.self.view_is) c.requires.times)
 
   turned : c.index-turned.result.now ≡ turned_at c.self.inside.turned.items c.args.station
   turned =
@@ -75,13 +75,13 @@ module _ (g : Over) (c : After-tell_both g) where
 
   new : c.put.new.self ≡ with_key c.drop_slot.new.self (place_in c.args.station (not (turned_at c.self.inside.turned.items c.args.station))) (Some c.args.key)
   new =
-      c.put.ensures.put ∙ ap (λ i. with_key c.drop_slot.new.self i (Some (at_time 0 c.args.key))) (c.place_in-2.ensures ∙ ap (λ b. place_in c.args.station (not b)) turned) ∙ ap (λ k. with_key c.drop_slot.new.self (place_in c.args.station (not (turned_at c.self.inside.turned.items c.args.station))) (Some k)) (at_own c.args.key 0 zero)
+      c.put.ensures.put ∙ ap (λ i. with_key c.drop_slot.new.self i (Some (at_time 0 c.args.key))) (c.place_in-2.ensures ∙ ap (λ b. place_in c.args.station (not b)) turned) ∙ ap (λ k. with_key c.drop_slot.new.self (place_in c.args.station (not (turned_at c.self.inside.turned.items c.args.station))) (Some k)) (at_own_time_is_itself c.args.key 0 zero)
 
   told : AreBothTold c.put.new.self c.self.inside.free.times c.self.inside.heads c.tell_both.new.heads c.index-pair.result.now
   told =
       let q = c.self.inside in
       let p = c.index-pair.result.now in
-      both_told_same c.put.new.self c.args.times.now q.free.times q.heads c.tell_both.new.heads p (same_times c.args.times.now q.free.times p times) c.tell_both.ensures.told
+      both_told_by_same_times c.put.new.self c.args.times.now q.free.times q.heads c.tell_both.new.heads p (times_known_are_same c.args.times.now q.free.times p times) c.tell_both.ensures.told
 
   over : set c.self.inside.turned.items c.args.station (not c.index-turned.result.now) ≡ set c.self.inside.turned.items c.args.station (not (turned_at c.self.inside.turned.items c.args.station))
   over = ap (λ b. set c.self.inside.turned.items c.args.station (not b)) turned

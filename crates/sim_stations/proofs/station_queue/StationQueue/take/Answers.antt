@@ -2,20 +2,20 @@ use Rattle.std.proofs.Common.{◌≡◌, Option, Some, None, length, set, false,
 use Rattle.goal_graph.specs.declared.action.Timed.{Timed}
 use Rattle.sim_queue.specs.Map.{key_at}
 use Rattle.sim_stations.specs.declared.key_place.KeyPlace.TheVariants.{Nowhere}
-use Rattle.sim_stations.specs.Stations.{Stationed, waits_for_room, cost_of_waiting}
+use Rattle.sim_stations.specs.Stations.{Stationed, holds_cpu, cost_of_waiting}
 use Rattle.sim_stations.specs.Kept.{IsFound, seen_of}
 use Rattle.std.specs.Prelude.{IfSome}
 use Rattle.sim_stations.proofs.Changed.{seen_size, found_within, found_ahead, at_once_stand, fewer_left, cost_falls, taken_kept, taken_seen}
 use Rattle.sim_stations.proofs.station_queue.StationQueue.take.Goals as goal
 
-if_class : (o : Option Timed) → IfSome o (λ k. waits_for_room k.class ≡ false) → (k : Timed) → o ≡ Some k → waits_for_room k.class ≡ false
-if_class o h k e = subst (λ x. IfSome x (λ k. waits_for_room k.class ≡ false)) e h
+if_class : (o : Option Timed) → IfSome o (λ k. holds_cpu k.class ≡ false) → (k : Timed) → o ≡ Some k → holds_cpu k.class ≡ false
+if_class o h k e = subst (λ x. IfSome x (λ k. holds_cpu k.class ≡ false)) e h
 
 pub take-requires : goal.take-requires
 take-requires g c =
     let q = c.self.inside in
     let found = subst (IsFound q.ahead q.waiting) (ap (λ (s : Stationed). s.found) c.self.view_is ∙ c.requires.found) c.self.invariant.1 in
-    let at_once : (k : Timed) → key_at (seen_of q.ahead q.waiting q.rows) c.args.slot ≡ Some k → waits_for_room k.class ≡ false = λ k e. if_class (key_at c.args.self.now.keys c.args.slot) c.requires.at_once k (sym (ap (λ (s : Stationed). key_at s.keys c.args.slot) c.self.view_is) ∙ e) in
+    let at_once : (k : Timed) → key_at (seen_of q.ahead q.waiting q.rows) c.args.slot ≡ Some k → holds_cpu k.class ≡ false = λ k e. if_class (key_at c.args.self.now.keys c.args.slot) c.requires.at_once k (sym (ap (λ (s : Stationed). key_at s.keys c.args.slot) c.self.view_is) ∙ e) in
     let sole = found_ahead q.ahead q.waiting q.rows q.stands.items c.self.invariant.0 c.args.slot found (at_once_stand q.ahead q.waiting q.rows q.stands.items c.self.invariant.0 c.args.slot at_once) in
     sole
 
@@ -23,7 +23,7 @@ pub invariant_of-self : goal.invariant_of-self
 invariant_of-self g c =
     let q = c.self.inside in
     let found = subst (IsFound q.ahead q.waiting) (ap (λ (s : Stationed). s.found) c.self.view_is ∙ c.requires.found) c.self.invariant.1 in
-    let at_once : (k : Timed) → key_at (seen_of q.ahead q.waiting q.rows) c.args.slot ≡ Some k → waits_for_room k.class ≡ false = λ k e. if_class (key_at c.args.self.now.keys c.args.slot) c.requires.at_once k (sym (ap (λ (s : Stationed). key_at s.keys c.args.slot) c.self.view_is) ∙ e) in
+    let at_once : (k : Timed) → key_at (seen_of q.ahead q.waiting q.rows) c.args.slot ≡ Some k → holds_cpu k.class ≡ false = λ k e. if_class (key_at c.args.self.now.keys c.args.slot) c.requires.at_once k (sym (ap (λ (s : Stationed). key_at s.keys c.args.slot) c.self.view_is) ∙ e) in
     let sole = found_ahead q.ahead q.waiting q.rows q.stands.items c.self.invariant.0 c.args.slot found (at_once_stand q.ahead q.waiting q.rows q.stands.items c.self.invariant.0 c.args.slot at_once) in
     (taken_kept q.ahead q.waiting q.rows q.stands.items c.self.invariant.0 c.args.slot sole c.take.new.self c.take.ensures.taken, tt)
 
@@ -31,7 +31,7 @@ pub returns-clause-keys : goal.returns-clause-keys
 returns-clause-keys g c =
     let q = c.self.inside in
     let found = subst (IsFound q.ahead q.waiting) (ap (λ (s : Stationed). s.found) c.self.view_is ∙ c.requires.found) c.self.invariant.1 in
-    let at_once : (k : Timed) → key_at (seen_of q.ahead q.waiting q.rows) c.args.slot ≡ Some k → waits_for_room k.class ≡ false = λ k e. if_class (key_at c.args.self.now.keys c.args.slot) c.requires.at_once k (sym (ap (λ (s : Stationed). key_at s.keys c.args.slot) c.self.view_is) ∙ e) in
+    let at_once : (k : Timed) → key_at (seen_of q.ahead q.waiting q.rows) c.args.slot ≡ Some k → holds_cpu k.class ≡ false = λ k e. if_class (key_at c.args.self.now.keys c.args.slot) c.requires.at_once k (sym (ap (λ (s : Stationed). key_at s.keys c.args.slot) c.self.view_is) ∙ e) in
     let sole = found_ahead q.ahead q.waiting q.rows q.stands.items c.self.invariant.0 c.args.slot found (at_once_stand q.ahead q.waiting q.rows q.stands.items c.self.invariant.0 c.args.slot at_once) in
     taken_seen q.ahead q.waiting q.rows q.stands.items c.self.invariant.0 c.args.slot sole c.take.new.self c.take.ensures.taken ∙ ap (λ (s : Stationed). set s.keys c.args.slot None) c.self.view_is
 
