@@ -1,1 +1,1 @@
-"""What several tools share: their command lines and errors, and calls of the program. Nothing of it is proved."""
+"""The modules that several tools share, such as command lines, errors, and calls of `goal`. Nothing of it is proved."""

@@ -5,32 +5,32 @@ import re
 from dataclasses import dataclass, field
 from typing import Container, Dict, Iterable, List, Optional, Set, Tuple
 
-# an operation by its rank and its number there
+# An operation: its rank, and its number within the rank, from 0.
 Key = Tuple[int, int]
 BLOCK = re.compile(r"^rank (\d+) \{$", re.MULTILINE)
-# the text that each line of an operation has once, and no other line
+# Each line of an operation contains this text once; no other line contains it.
 AFTER_LABEL = ": "
-# the second word of a note
+# The second word of a note, which says what the note is.
 NOTES = ("moves", "adds")
 
 
 @dataclass
 class Op:
-    """An operation. `size` is in ns for a calc, else in bytes; `peer` and `tag` are text, which may be `any`."""
+    """An operation. `size` is in ns for a calc, else in bytes. `peer` and `tag` are numbers as text, or `any`."""
 
     kind: str
     size: int
     cpu: int
     peer: str = ""
     tag: str = ""
-    # the number of an operation of its rank, and whether its end is waited for (else its start)
+    # Each operation of the same rank that it requires: the number, and whether it waits for the end (else the start).
     needs: List[Tuple[int, bool]] = field(default_factory=list)
-    # the two slots of each note: a range that is moved, or the slot that is added and the one that gets the sum
+    # The two slots of each note: `moves` has the first and the last slot of a range, `adds` its source and its target.
     notes: List[Tuple[int, int]] = field(default_factory=list)
     nic: int = 0
 
     def moved(self) -> List[int]:
-        """The slots that a send reads or a receive sets, in order."""
+        """The slots that a send reads or that a receive sets, in order."""
         return [slot for first, last in self.notes for slot in range(first, last + 1)]
 
     def touched(self) -> Set[int]:
@@ -40,7 +40,7 @@ class Op:
 
 @dataclass
 class Schedule:
-    """The number of ranks, operations by (rank, number), and the bytes of every send."""
+    """A schedule: the number of ranks, the operations by (rank, number), and the size of each send in bytes."""
 
     ranks: int
     ops: Dict[Key, Op]
@@ -60,8 +60,8 @@ def rank_count(text: str) -> int:
 
 
 def read_canonical(lines: Iterable[str], wanted: Optional[Container[int]] = None, with_notes: bool = True) -> Schedule:
-    """The schedule of a canonical text; with `wanted`, it has the operations of these ranks alone. Without notes it is read in half
-    the time."""
+    """The schedule of a canonical text. With `wanted`, it has only the operations of these ranks, but the sizes of all
+    sends. Reading without notes takes half the time."""
     lines = iter(lines)
     schedule = Schedule(int(next(lines).split()[1]), {}, {})
     rank = 0
@@ -79,7 +79,7 @@ def read_canonical(lines: Iterable[str], wanted: Optional[Container[int]] = None
 
 
 def take_item(ops: Dict[Key, Op], key: Key, words: List[str]) -> None:
-    """Takes an operation, a dependency or a note."""
+    """Adds the operation, dependency or note that a line of the text has as its words."""
     if words[1] == "calc":
         ops[key] = Op("calc", int(words[2]), int(words[4]))
     elif words[1] in ("send", "recv"):

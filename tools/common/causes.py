@@ -1,8 +1,8 @@
 """The causes of each action of a run, and their times, by docs/EVENT_RULES.md. Nothing of it is proved.
 
-A printed run has the start and the end of each operation. With the costs of the messages, the times of all actions follow,
-and what each of them keeps busy. `Causes` lets the actions of a run happen again in their order, and sees that each happens
-at the greatest of the times that the rules name: a run of other costs is refused.
+A printed run has the start and the end of each operation. From these and the costs of the messages follow the times
+of all actions, and how long each action holds its cpu and its side of a NIC. `Causes` replays the actions of a run in
+order. It checks that each happens at the greatest of the times that the rules name, and refuses a run with other costs.
 """
 from __future__ import annotations
 
@@ -14,19 +14,23 @@ from common.canonical import Key, Schedule
 from common.parameters import Costs, Parameters, up
 from common.phases import Misfit, Story
 
-# The classes of actions, in the order of the rules, and the end of an operation, which is a time and no action.
+# The classes of actions, in the order of the rules. END is the end of an operation, which is a time and not an action.
 ARRIVE, SERVE, DATA, POST, BEGIN, END = range(6)
 Action = Tuple[int, Key]
-# What an action waits for: the end or the start of what it needs, its message, the request of a large send and the clearance
-# for it, the post of the receive, the bytes of a large send, and what holds its cpu or its side of a NIC.
+# What an action waits for:
+# - the end or the start of an operation that it requires;
+# - its message, or the data of a rendezvous send;
+# - the request to send (RTS) of a rendezvous send, or the post of the receive;
+# - the action that held its cpu or its side of a NIC before;
+# - the last action of its operation (LAST), if it is an end.
 NEED_END, NEED_START, MESSAGE, REQUEST, RECEIVE, BYTES, CPU, NIC, LAST = (
     "end", "start", "message", "request", "post", "bytes", "cpu", "nic", "last")  # fmt: skip
 
 
 @dataclass(frozen=True)
 class Part:
-    """A part of a span of time: `count` times a parameter, `count` bytes at G or O, or one calc; and the class of
-    messages."""
+    """A part of a span of time: `count` times a parameter, `count` bytes at the rate G or O, or one calc. `costs` has
+    the parameters of the message."""
 
     name: str
     count: int
@@ -38,7 +42,7 @@ Parts = Tuple[Part, ...]
 
 
 def per_byte(name: str, costs: Parameters, size: int) -> Part:
-    """What the bytes of a message cost at the rate G or O."""
+    """The cost of the bytes of a message at the rate G or O."""
     nanos, picos = (costs.G, costs.Gp) if name == "G" else (costs.O, costs.Op)
     return Part(name, max(size - 1, 0), up(nanos, picos, size), costs)
 
@@ -54,7 +58,7 @@ def gap(costs: Parameters, size: int) -> Parts:
 
 
 def flight(costs: Parameters, size: int) -> Parts:
-    """How long a message is on its way. If G and O take the same time, the part is that of G."""
+    """How long a message travels. If its bytes cost the same at G and at O, the part is that of G."""
     greater = max((per_byte("G", costs, size), per_byte("O", costs, size)), key=lambda part: part.nanos)
     return Part("o", 1, costs.o, costs), greater, latency(costs)
 
@@ -69,7 +73,7 @@ def nanos_of(parts: Parts) -> int:
 
 @dataclass(frozen=True)
 class Cause:
-    """A cause of an action: the action before it, the time of the cause, and the parts of the time since that
+    """A cause of an action: an earlier action, the time of the cause, and the parts of the time since that earlier
     action."""
 
     kind: str
@@ -79,11 +83,11 @@ class Cause:
 
 
 class Causes:
-    """The actions of a whole run with their causes. `stories` has all its operations."""
+    """The actions of a whole run with their causes. `stories` has all operations of the run."""
 
     def __init__(self, schedule: Schedule, stories: Dict[Key, Story], costs: Costs) -> None:
         self.schedule, self.stories, self.costs = schedule, stories, costs
-        # the actions that held its cpu and its side of a NIC last before each action
+        # for each action, those that held its cpu and its side of a NIC last
         self._before: Dict[Action, Tuple[Optional[Action], Optional[Action]]] = {}
         self._holders: Dict[Tuple[str, int, int], Action] = {}
         self._happened: Set[Action] = set()
@@ -135,7 +139,7 @@ class Causes:
             self._holders[side] = action
 
     def _then(self, action: Action) -> Iterator[Action]:
-        """The actions that become possible by this one."""
+        """The actions that this one makes possible."""
         kind, key = action
         if kind in (BEGIN, POST):
             yield from self._freed(key, False)
@@ -151,14 +155,14 @@ class Causes:
             yield (SERVE, taken) if self.is_eager(sent) else (DATA, sent)
 
     def _freed(self, key: Key, by_end: bool) -> Iterator[Action]:
-        """The first actions of the operations that needed the end or the start of this one last."""
+        """The first actions of the operations whose last missing requirement was the end or the start of this one."""
         for waiting in self._needed_by.get((key, by_end), ()):
             self._missing[waiting] -= 1
             if not self._missing[waiting]:
                 yield self.first(waiting)
 
     def message(self, key: Key) -> Parameters:
-        """What the message of a send costs, or that of a receive which takes one."""
+        """The parameters of the message that a send sends or a receive takes."""
         op, partner = self.schedule.ops[key], self.stories[key].timed.partner
         if op.kind == "send":
             return self.costs.between(key[0], int(op.peer))
@@ -190,7 +194,8 @@ class Causes:
         return at
 
     def held(self, action: Action) -> int:
-        """The bytes for which an action holds its cpu and its side of a NIC: a large send begins with a request of one."""
+        """The bytes for which an action holds its cpu and its side of a NIC: one byte for the RTS of a rendezvous
+        send."""
         return 1 if action[0] == BEGIN and not self.is_eager(action[1]) else self.stories[action[1]].bytes
 
     def on_cpu(self, action: Action) -> Parts:
@@ -203,11 +208,11 @@ class Causes:
         return gap(self.message(action[1]), self.held(action))
 
     def _way_in(self, send: Key) -> Parts:
-        """From the start of a send to the arrival of its message or its request."""
+        """The parts of the time from the start of a send to the arrival of its message or its RTS."""
         return flight(self.message(send), self.held((BEGIN, send)))
 
     def of(self, action: Action) -> List[Cause]:
-        """All causes of an action. It happens at the greatest of their times, or at 0 without a cause."""
+        """All causes of an action. The action happens at the greatest of their times, or at 0 if it has no cause."""
         kind, key = action
         if kind == END:
             return [self._after(LAST, self.last(key), self.on_cpu(self.last(key)))]

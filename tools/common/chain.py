@@ -1,4 +1,5 @@
-"""The chain of causes that ends at an operation: from each action back to what it waited for last. Nothing of it is proved."""
+"""The chain of causes of an operation: from each action back to the one that it waited for last. Nothing of it is
+proved."""
 from __future__ import annotations
 
 from dataclasses import dataclass, field
@@ -16,8 +17,8 @@ NAMES = ("L", "o", "g", "G", "O", "calc")
 
 @dataclass
 class Step:
-    """An action with its time and its last cause, if it has one. `also` has other causes of the same time; `slack` is
-    how many ns earlier the next cause was there."""
+    """An action with its time and its last cause, if it has one. `also` has the other causes of the same time. `slack`
+    is the number of ns by which the next earlier cause precedes them."""
 
     action: Action
     time: int
@@ -27,7 +28,7 @@ class Step:
 
     @property
     def took(self) -> int:
-        """The ns since the action that is its cause."""
+        """The ns from the action that is the cause to this one."""
         return sum(part.nanos for part in self.cause.parts) if self.cause else 0
 
     def is_unique(self) -> bool:
@@ -36,7 +37,7 @@ class Step:
 
 
 def is_tied(cause: Cause, part: Part) -> bool:
-    """Whether the bytes of a message on its way cost the same at the rate G and at O."""
+    """Whether the bytes of a message that travels cost the same at the rate G and at O."""
     if cause.kind not in (MESSAGE, REQUEST, BYTES) or part.name not in ("G", "O") or part.costs is None or not part.count:
         return False
     return per_byte("G", part.costs, part.count + 1).nanos == per_byte("O", part.costs, part.count + 1).nanos
@@ -53,7 +54,8 @@ def step_of(causes: Causes, action: Action) -> Step:
 
 
 def chain_to(causes: Causes, action: Action) -> List[Step]:
-    """The steps from the start of the run to an action, or to the end of an operation. What they took is its time."""
+    """The steps from the start of the run to an action, or to the end of an operation. Their durations add up to its
+    time."""
     steps = [step_of(causes, action)]
     while steps[-1].cause is not None:
         steps.append(step_of(causes, steps[-1].cause.action))
@@ -67,7 +69,7 @@ def chain_to(causes: Causes, action: Action) -> List[Step]:
 
 
 def last_end(causes: Causes) -> Optional[Key]:
-    """The operation that ends last, the least of several; None if none ends."""
+    """The operation that ends last, the least one if several do; None if no operation ends."""
     ends = [(-story.timed.end, key) for key, story in causes.stories.items() if story.timed.end is not None]
     return min(ends)[1] if ends else None
 
@@ -78,7 +80,8 @@ def end_of(key: Key) -> Action:
 
 @dataclass(frozen=True)
 class Share:
-    """The share of a parameter in a chain: its ns, its count of times or bytes, and the class of messages."""
+    """The share of a parameter in a chain: its ns, how often or for how many bytes it counts, and the class of
+    messages."""
 
     name: str
     costs: Optional[Parameters]
@@ -87,7 +90,7 @@ class Share:
 
 
 def shares_of(steps: List[Step]) -> List[Share]:
-    """The share of each parameter in a chain. The shares add up to its time."""
+    """The share of each parameter in a chain. The shares add up to the time of the last step."""
     sums: Dict[Tuple[str, Optional[Parameters]], Tuple[int, int]] = {}
     for step in steps:
         for part in step.cause.parts if step.cause else ():
@@ -101,7 +104,8 @@ def shares_of(steps: List[Step]) -> List[Share]:
 
 @dataclass
 class Fold:
-    """Steps that repeat: those of the first time, and how many more times they follow."""
+    """Steps that repeat: those of the first period, and how many more periods follow (`more`), which take `took` ns
+    until the step `until`."""
 
     steps: List[Step]
     more: int = 0
@@ -110,7 +114,7 @@ class Fold:
 
 
 def folded(causes: Causes, steps: List[Step]) -> Iterator[Fold]:
-    """The steps in order, with repeated steps of the same kind folded."""
+    """The steps in order, with repetitions of the same kinds of steps folded."""
     kinds = [(step.action[0], causes.schedule.ops[step.action[1]].kind, step.cause.kind if step.cause else "") for step in steps]
     at = 0
     while at < len(steps):
@@ -122,7 +126,8 @@ def folded(causes: Causes, steps: List[Step]) -> Iterator[Fold]:
 
 
 def longest_run(kinds: List[Tuple[int, str, str]], at: int) -> Tuple[int, int]:
-    """The period of the steps that repeat from here on, and how often: the choice that covers most steps."""
+    """The period with which the steps repeat from `at` on, and the number of repetitions: the choice that covers the
+    most steps."""
     best = 1, 1
     for period in range(1, LONGEST_PERIOD + 1):
         end = at + period

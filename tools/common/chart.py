@@ -14,9 +14,10 @@ GRID, FRAME, STUCK, REFUSED = "#e4e7ec", "#9aa3af", "#cc2233", "#6b7280"
 
 @dataclass
 class Curve:
-    """Its points in order, each a value of the axis and of what is measured, or none where the run is stuck. At the values in
-    `large` some messages wait for their receive: these points are filled, and a bar across the curve marks the step to them. The
-    run at a value in `refused` was refused."""
+    """A curve: its points in order, each with a value of the axis and the measured value, or None if the run is stuck.
+
+    `large` has the values at which some messages are rendezvous messages. Their points are filled, and a bar across the
+    curve marks the step to them. `refused` has the values at which the run was refused."""
 
     name: str
     points: List[Tuple[float, Optional[float]]] = field(default_factory=list)
@@ -32,9 +33,10 @@ class Curve:
 
 @dataclass
 class Axis:
-    """A name, whether the scale is geometric, the unit of its values, and ticks that are given.
+    """An axis: its name, whether its scale is geometric, the unit of its values, and its ticks if they are given.
 
-    A time in ns (`time`) and a number of bytes (`size`) are written in the unit that fits, all else as it is.
+    Times in ns (unit `time`) and numbers of bytes (unit `size`) are written in a unit that fits, other values
+    unchanged.
     """
 
     name: str
@@ -43,8 +45,8 @@ class Axis:
     given: List[float] = field(default_factory=list)
 
     def ticks(self, scale: Scale, count: int) -> List[float]:
-        """The ticks that are given, every second, third .. of them where there are many; else rounded ones, of sizes powers
-        of two or multiples of one."""
+        """The given ticks, or every second, third .. of them if there are too many. Without given ticks, rounded
+        values: for sizes, powers of two or multiples of one."""
         if self.given:
             return self.given[:: -(-len(self.given) // count)]
         return scale.binary_ticks(count) if self.unit == "size" else scale.ticks(count)
@@ -68,7 +70,7 @@ class Axis:
 
 
 def rounded_up(value: float) -> float:
-    """The end of a scale from 0 that has this value: the tick at it or the next one."""
+    """The end of a scale from 0 that contains this value: the first tick that is not below it."""
     step = Scale(0, max(value, 1), 0, 1).ticks(6)[1]
     return step * -(-max(value, 1) // step)
 
@@ -93,7 +95,7 @@ def chart(title: str, curves: List[Curve], x_axis: Axis, y_axis: Axis) -> str:
 
 
 def style_of(number: int) -> Dict[str, str]:
-    """A colour for each curve, and after these the colours with dashes."""
+    """The style of a curve: its own colour, or, when all colours are used, a colour with dashes."""
     style = {"stroke": COLOURS[number % len(COLOURS)]}
     return style if number < len(COLOURS) else {**style, "stroke_dasharray": "5 3"}
 
@@ -120,7 +122,7 @@ def draw_y_axis(drawing: Drawing, axis: Axis, scale: Scale, right: float) -> Non
 
 
 def draw_curve(drawing: Drawing, curve: Curve, x_scale: Scale, y_scale: Scale, style: Dict[str, str]) -> None:
-    """A line through the points, with a gap and a red cross below where a run is stuck."""
+    """Draws a line through the points. Where a run is stuck, the line has a gap, with a red cross at the bottom."""
     stretch: List[Tuple[float, float]] = []
     ended: List[Tuple[Optional[float], Optional[float]]] = [*curve.points, (None, None)]
     for x, y in ended:
@@ -146,7 +148,7 @@ def draw_curve(drawing: Drawing, curve: Curve, x_scale: Scale, y_scale: Scale, s
 
 
 def draw_legend(drawing: Drawing, curves: List[Curve], x: float) -> None:
-    """The names, the curve that is highest at the end first."""
+    """Draws the names of the curves, ordered by their last values, the highest first."""
 
     def last(numbered: Tuple[int, Curve]) -> float:
         values = [y for _, y in numbered[1].points if y is not None]
@@ -173,7 +175,7 @@ def draw_legend(drawing: Drawing, curves: List[Curve], x: float) -> None:
 
 
 def names_of(curves: List[Curve]) -> List[str]:
-    """The names in the legend: a curve that equals another one also has the name of that."""
+    """The names in the legend. A curve that equals an earlier one also has the name of that one."""
     names = []
     for number, curve in enumerate(curves):
         same = [other.name for other in curves[:number] if other.points == curve.points]

@@ -1,4 +1,4 @@
-"""The command line of a tool, and how it fails: one line on standard error and status 2. Nothing of it is proved."""
+"""The command line of a tool, and its errors: one line on standard error and status 2. Nothing of it is proved."""
 from __future__ import annotations
 
 import argparse
@@ -29,7 +29,7 @@ class Terminated(BaseException):
 
 
 def end_when_asked() -> None:
-    """Makes a terminating signal raise `Terminated`, so that temporary files are removed."""
+    """Makes SIGTERM and SIGHUP raise `Terminated`, so that temporary files are removed."""
 
     def end(number: int, _: object) -> None:
         signal.signal(number, signal.SIG_IGN)
@@ -47,12 +47,13 @@ class Parser(argparse.ArgumentParser):
         raise Fault(f"{message} (--help tells more)")
 
     def format_help(self) -> str:
-        """The help, with the names under which tools and program are called: installed ones are goal-NAME and goal."""
-        told = super().format_help()
-        return told.replace("tools/", INSTALLED).replace("./goal ", "goal ") if self.prog.startswith(INSTALLED) else told
+        """The help text. Installed tools are called goal-NAME and the installed program goal, and the text of an
+        installed tool uses these names."""
+        text = super().format_help()
+        return text.replace("tools/", INSTALLED).replace("./goal ", "goal ") if self.prog.startswith(INSTALLED) else text
 
     def _print_message(self, message: str, file: Optional[IO[str]] = None) -> None:
-        """Writes the help. A failure is an error, as for all other output."""
+        """Writes the help. Unlike argparse, it raises an error if writing fails, as for all other output."""
         (file or sys.stdout).write(message)
 
 
@@ -68,7 +69,8 @@ def number_of(unit: str) -> str:
 
 
 def number(low: int, high: int, unit: str = "") -> Callable[[str], int]:
-    """The type of an argument that is a decimal number from `low` up to `high`, of this unit if there is one."""
+    """The type of an argument that is a decimal number from `low` to `high`. Messages name the unit, if there is
+    one."""
 
     def read(word: str) -> int:
         if not re.fullmatch("[0-9]{1,20}", word) or not low <= int(word) <= high:
@@ -79,7 +81,7 @@ def number(low: int, high: int, unit: str = "") -> Callable[[str], int]:
 
 
 def size(low: int, high: int) -> Callable[[str], int]:
-    """The type of an argument that is a number of bytes, as 4096, 4K or 16M."""
+    """The type of an argument that is a number of bytes from `low` to `high`, written as 4096, 4K or 16M."""
 
     def read(word: str) -> int:
         found = re.fullmatch("([0-9]{1,20})([KM]?)", word)
@@ -91,12 +93,12 @@ def size(low: int, high: int) -> Callable[[str], int]:
 
 
 def source(name: str) -> str:
-    """A file for the program to read: `-` is standard input."""
+    """The name under which the program reads a file: `-` becomes /dev/stdin."""
     return STANDARD_INPUT if name == "-" else name
 
 
 def read_file(name: str) -> bytes:
-    """The bytes of the file NAME, of standard input where it is `-`."""
+    """The bytes of a file, or of standard input if the name is `-`."""
     try:
         if source(name) != STANDARD_INPUT:
             with open(name, "rb") as file:
@@ -115,8 +117,8 @@ def standard_input() -> bytes:
 
 
 def run(main: Callable[[], int]) -> NoReturn:
-    """Runs `main`, reports its Fault, and ends the program with its status. If the reader of the output has gone, there
-    is no message, and the status is that of a failed write."""
+    """Runs `main`, reports its Fault, and ends the process with its status. If the reader of the output has closed the
+    pipe, there is no message, and the status is that of a failed write."""
     hold_streams()
     try:
         status = ended(main)
@@ -131,7 +133,7 @@ def run(main: Callable[[], int]) -> NoReturn:
 
 
 def ended(main: Callable[[], int]) -> int:
-    """The status of `main`. Its faults are reported."""
+    """Runs `main`, reports its Fault, and returns the exit status."""
     try:
         return main()
     except Fault as fault:
@@ -157,8 +159,8 @@ def tell(line: str) -> None:
 
 
 def hold_streams() -> None:
-    """Reserves the numbers of closed standard streams, so that no file gets them, and lets messages have any file
-    name."""
+    """Reserves the descriptors of closed standard streams, so that no file gets them. It also makes the streams accept
+    file names of any bytes."""
     for stream in range(3):
         try:
             os.fstat(stream)
@@ -174,7 +176,7 @@ def hold_streams() -> None:
 
 
 def leave(status: int) -> NoReturn:
-    """Ends the program. What could not be written is not tried again."""
+    """Ends the process. Output that could not be written is not written again."""
     for stream, output in ((1, sys.stdout), (2, sys.stderr)):
         try:
             output.flush()

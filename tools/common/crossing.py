@@ -28,19 +28,19 @@ def check_axis(axes: Axes, x_name: str) -> None:
 
 
 class Crossing:
-    """The runs of two algorithms over an axis, where all other axes have these values."""
+    """The runs of two algorithms over the axis `x_name`. All other axes have the values of `others`."""
 
     def __init__(self, runs: Runs, names: Tuple[str, str], x_name: str, others: Point) -> None:
         self.runs, self.names, self.x_name, self.others = runs, names, x_name, others
         self.found: Dict[int, Pair] = {}
 
     def points(self, x: int) -> Tuple[Point, Point]:
-        """The points of both algorithms at a value."""
+        """The points of the two algorithms at a value of the axis."""
         one, other = ({**self.others, self.x_name: str(x), "algorithm": name} for name in self.names)
         return with_options_taken(one), with_options_taken(other)
 
     def run(self, values: Sequence[int]) -> None:
-        """Runs both at these values, side by side."""
+        """Runs both algorithms at these values, in parallel. Raises a Fault if a run is refused or stuck."""
         values = [x for x in values if x not in self.found]
         points = [point for x in values for point in self.points(x)]
         results = []
@@ -57,8 +57,8 @@ class Crossing:
         return bool(self.found[x][0].finish < self.found[x][1].finish)  # type: ignore[operator]
 
     def crossings(self, values: Sequence[int]) -> Iterator[Tuple[int, int]]:
-        """For each two neighbouring values between which the faster one changes, the two successive numbers where it
-        does."""
+        """Where the faster algorithm changes between two neighbouring values: for each such pair, the two successive
+        integers between which it changes."""
         self.run(values)
         for low, high in zip(values, values[1:]):
             before = self.is_first_ahead(low)
@@ -70,7 +70,7 @@ class Crossing:
             yield low, high
 
     def faster(self, x: int) -> str:
-        """A phrase with the faster algorithm at a value, to begin a sentence."""
+        """Which algorithm is faster at a value, as the beginning of a sentence."""
         one, other = self.found[x]
         if one.finish == other.finish:
             return f"{self.names[0]} and {self.names[1]} take the same time"
@@ -78,7 +78,8 @@ class Crossing:
 
 
 def others_of(axes: Axes, x_name: str) -> List[Point]:
-    """The combinations of all axes but x and the algorithm, with room for both in their place."""
+    """All combinations of the values of the axes other than x and the algorithm. Both of these are present but empty,
+    so that the order of the axes is kept."""
     names = [axis for axis in axes if axis not in (x_name, "algorithm")]
     points = []
     for values in itertools.product(*(axes[axis] for axis in names)):

@@ -1,4 +1,5 @@
-"""Curves from the rows of tables: over one column, a curve for each combination of others. Nothing of it is proved."""
+"""Curves from the rows of tables: one column over another, a curve for each combination of other columns. Nothing of
+it is proved."""
 from __future__ import annotations
 
 import math
@@ -13,14 +14,15 @@ from common.runs import SHARES
 from common.table import Row
 
 TIMES = ("finish", "wait", *SHARES)
-# from which ratio of the ends a scale of sizes is geometric
+# A scale of sizes is geometric if its ends have at least this ratio.
 WIDE_RATIO = 64
 
 
 @dataclass
 class Wanted:
-    """What a picture shows: column `y` over column `x`, a curve for each combination of the columns `by`, with these
-    names if there are any, divided by the curve `ratio` if there is one."""
+    """What a picture shows: the column `y` over the column `x`, with a curve for each combination of the columns `by`.
+
+    `labels` has the names of the curves, if they are given. If `ratio` names a curve, all curves are divided by it."""
 
     x: str
     y: str
@@ -35,12 +37,12 @@ def label_of(axis: str, value: str) -> str:
 
 
 def name_of(row: Row, wanted: Wanted) -> str:
-    """The curve on which a row lies."""
+    """The name of the curve that a row belongs to."""
     return ", ".join(label_of(axis, row[axis]) for axis in wanted.by if row.get(axis)) or wanted.y
 
 
 def check_count(rows: Sequence[Row], wanted: Wanted) -> None:
-    """Keeps the limit on curves."""
+    """Refuses rows with more curves than a picture may have."""
     count = len({name_of(row, wanted) for row in rows})
     if count > MOST_CURVES:
         raise Fault(f"{count} curves: a picture has at most {MOST_CURVES}, so give fewer values or another --x")
@@ -54,7 +56,7 @@ def number_of(row: Row, column: str) -> float:
 
 
 def curves_of(rows: Sequence[Row], wanted: Wanted) -> List[Curve]:
-    """The curves of the rows, each in the order of x."""
+    """The curves of the rows, the points of each in the order of x."""
     curves: Dict[str, Curve] = {}
     for row in rows:
         curve = curves.setdefault(name_of(row, wanted), Curve(name_of(row, wanted)))
@@ -74,7 +76,7 @@ def curves_of(rows: Sequence[Row], wanted: Wanted) -> List[Curve]:
 
 
 def named(curves: List[Curve], labels: List[str]) -> None:
-    """Gives the curves these names, in their order."""
+    """Renames the curves, in their order, if labels are given."""
     if labels and len(labels) != len(curves):
         names = "; ".join(curve.name for curve in curves)
         raise Fault(f"{len(labels)} labels for {len(curves)} curves: give one for each of {names}")
@@ -83,7 +85,7 @@ def named(curves: List[Curve], labels: List[str]) -> None:
 
 
 def divide(curves: List[Curve], name: str) -> None:
-    """Divides all curves by the one of this name, where that has a value."""
+    """Divides all curves by the one with this name. Points at which that curve has no value are dropped."""
     found = [curve for curve in curves if curve.name == name]
     if not found:
         raise Fault(f"--ratio {name} is not the name of a curve: they are {'; '.join(curve.name for curve in curves)}")
@@ -93,7 +95,7 @@ def divide(curves: List[Curve], name: str) -> None:
 
 
 def is_geometric(values: Sequence[float]) -> bool:
-    """Whether numbers that rise do so by a factor and not by steps."""
+    """Whether rising numbers have a constant ratio."""
     if len(values) < 3 or values[0] <= 0:
         return False
     factors = [high / low for low, high in zip(values, values[1:])]

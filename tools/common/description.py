@@ -1,5 +1,5 @@
-"""Reads a machine: the text that `goal nodes` takes as MACHINE, or a description of it by classes, nodes, groups and cards.
-Nothing of it is proved."""
+"""Reads a machine: the text that `goal nodes` takes as MACHINE, or a description by classes, nodes, groups and network
+cards. Nothing of it is proved."""
 import re
 from dataclasses import astuple, dataclass, field
 from typing import Callable, Dict, Iterator, List, Optional, Sequence, Tuple
@@ -18,13 +18,14 @@ PLACEMENTS = ("block", "cyclic")
 
 @dataclass(frozen=True)
 class Cards:
-    """The cards of a node: `count` of them, shared by its ranks in blocks or in turn, or one for each rank where `count` is 0."""
+    """The network cards of a node: `count` cards that its ranks share in blocks or in turn; if `count` is 0, a card for
+    each rank."""
 
     count: int = 0
     in_turn: bool = False
 
     def of(self, place: int, ranks: int) -> int:
-        """The card of the rank at this place of a node with this many ranks."""
+        """The card of the rank at the position `place` of a node that has `ranks` ranks."""
         return place % self.count if self.in_turn else place * self.count // ranks
 
     def __str__(self) -> str:
@@ -32,7 +33,7 @@ class Cards:
 
 
 def cards_of(text: str) -> Cards:
-    """The cards that these words name: `own`, `2` or `2 in turn`."""
+    """The cards that a text such as `own`, `2` or `2 in turn` names."""
     words = text.split()
     if words == ["own"]:
         return Cards()
@@ -46,22 +47,22 @@ def cards_of(text: str) -> Cards:
 
 @dataclass
 class Cluster:
-    """A machine, and the cards of its nodes if the description has them."""
+    """A machine, and the cards of its nodes if the description gives them."""
 
     machine: Machine
     cards: Optional[Cards] = None
 
     def text(self) -> str:
-        """The text of MACHINE, which says nothing of cards."""
+        """The text of MACHINE, which does not mention cards."""
         return "".join(line + "\n" for line in lines_of(self.machine))
 
     def has_neighbours(self) -> bool:
-        """Whether a node has several ranks."""
+        """Whether some node has several ranks."""
         return len(set(self.machine.nodes)) < len(self.machine.nodes)
 
     def placed(self, placement: str) -> "Cluster":
-        """The same with all ranks dealt anew to nodes of the same sizes: each node filled after the other (`block`), or
-        round and round to those that have room (`cyclic`)."""
+        """The same machine with its ranks placed anew on nodes of the same sizes: either each node is filled before the
+        next (`block`), or the ranks go in turn to the nodes that still have room (`cyclic`)."""
         sizes: Dict[int, int] = {}
         for node in self.machine.nodes:
             sizes[node] = sizes.get(node, 0) + 1
@@ -71,7 +72,7 @@ class Cluster:
         return Cluster(Machine(machine.classes, machine.inside, machine.default, nodes, machine.pairs), self.cards)
 
     def scaled(self, scale: int) -> "Cluster":
-        """The same with all times `scale` times as long."""
+        """The same machine with all times `scale` times as long."""
         machine = self.machine
         classes = [scaled_class(one, scale) for one in machine.classes]
         return Cluster(Machine(classes, machine.inside, machine.default, machine.nodes, machine.pairs), self.cards)
@@ -80,9 +81,9 @@ class Cluster:
 def scaled_class(parameters: Parameters, scale: int) -> Parameters:
     """The parameters of a class with times `scale` times as long."""
     rates = {name: f"{getattr(parameters, name)}.{getattr(parameters, more):03}" for name, more in RATES.items()}
-    told = {**{name: str(getattr(parameters, name)) for name in ("L", "o", "g", "S")}, **rates}
+    values = {**{name: str(getattr(parameters, name)) for name in ("L", "o", "g", "S")}, **rates}
     options: Dict[str, int] = {}
-    for name, value in told.items():
+    for name, value in values.items():
         options.update(value_of(name, value, scale))
     return parameters_of(options)
 
@@ -112,7 +113,7 @@ def lines_of(machine: Machine) -> Iterator[str]:
 
 @dataclass
 class Division:
-    """An assignment of things to places: of ranks to nodes, or of nodes to groups."""
+    """An assignment of things to places: of ranks to nodes, or of nodes to groups. There are at most `most` things."""
 
     thing: str
     place: str
@@ -129,7 +130,8 @@ class Division:
         self.places.append(list(things))
 
     def add_next(self, count: int, size: int, cyclic: bool = False) -> None:
-        """Adds `count` places, each with the next `size` things, or with every count-th of the next ones."""
+        """Adds `count` places with `size` things each: successive things per place or, if cyclic, every count-th
+        thing."""
         first = max(self.of, default=-1) + 1
         end = first + count * size
         if end > self.most:
@@ -138,7 +140,7 @@ class Division:
             self.add(range(first + place, end, count) if cyclic else range(first + place * size, first + (place + 1) * size))
 
     def check(self, count: int) -> None:
-        """Refuses the assignment unless each of `count` things has a place."""
+        """Refuses the assignment unless each of the `count` things has a place, and no other thing has one."""
         for one in range(count):
             if one not in self.of:
                 raise Fault(f"{self.thing} {one} is in no {self.place}")
@@ -147,7 +149,7 @@ class Division:
 
 
 class Description:
-    """The lines of a description so far."""
+    """The contents of the lines of a description that were read so far."""
 
     def __init__(self, scale: int = 1) -> None:
         self.scale = scale
@@ -173,17 +175,17 @@ class Description:
             raise Fault("write `class NAME L=.. o=.. ..`")
         if words[1] in self.classes:
             raise Fault(f"the class {words[1]} is given twice")
-        told: Dict[str, int] = {}
+        given: Dict[str, int] = {}
         defaults = scaled_defaults(self.scale)
         for word in words[2:]:
             name, equals, value = word.partition("=")
             if name not in DEFAULTS or not equals:
                 raise Fault(f"{word!r} is not a parameter: they are {' '.join(DEFAULTS)}, as L=300")
             options = value_of(name, value, self.scale)
-            for option in options.keys() & told.keys():
+            for option in options.keys() & given.keys():
                 raise Fault(f"{option} is given twice")
-            told.update(options)
-        self.classes[words[1]] = {**defaults, **told}
+            given.update(options)
+        self.classes[words[1]] = {**defaults, **given}
 
     def take_nodes(self, words: List[str]) -> None:
         cyclic = words[4:] == ["cyclic"]
@@ -242,7 +244,7 @@ class Description:
                 raise Fault(f"the pair {one} {other} does not name two of {len(self.nodes.places)} nodes, from 0")
 
     def default_and_pairs(self) -> Tuple[str, Dict[Tuple[int, int], str]]:
-        """The class between most nodes, and the pairs of nodes that have another."""
+        """The default class between nodes, and the class of each pair of nodes that has another one."""
         default = self.named["between"]
         pairs: Dict[Tuple[int, int], str] = {}
         if self.groups.places:
@@ -262,7 +264,7 @@ class Description:
         return default, {pair: name for pair, name in sorted(pairs.items()) if name != default}
 
     def cluster(self) -> Cluster:
-        """The machine of a description that is checked."""
+        """The machine of the description, which `check` must have accepted."""
         default, pairs = self.default_and_pairs()
         if len(pairs) > MOST_PAIRS:
             raise Fault(f"{len(pairs)} pairs of nodes have a class of their own: a machine has {MOST_PAIRS} at most")
@@ -275,14 +277,14 @@ class Description:
 
 
 def number(word: str, most: int, what: str) -> int:
-    """A number of these things, or the number of one of them."""
+    """The number that a word is: a count, or an index, of the things `what`."""
     if not re.fullmatch("[0-9]{1,20}", word) or int(word) > most:
         raise Fault(f"{word!r} is not a number of {what} from 0 to {most}")
     return int(word)
 
 
 def count_and_size(words: List[str]) -> Tuple[int, int]:
-    """The two numbers of a line such as `nodes 8 of 16`."""
+    """The two numbers in a line such as `nodes 8 of 16`."""
     if len(words) != 4 or words[2] != "of":
         raise Fault(f"write `{words[0]} COUNT of SIZE`")
     count, size = number(words[1], MOST_RANKS, words[0]), number(words[3], MOST_RANKS, "ranks" if words[0] == "nodes" else "nodes")
@@ -292,7 +294,7 @@ def count_and_size(words: List[str]) -> Tuple[int, int]:
 
 
 def numbers(words: List[str], most: int) -> List[int]:
-    """The numbers of a line such as `node 0 4 8-11`."""
+    """The numbers in a line such as `node 0 4 8-11`, with its ranges expanded."""
     found: List[int] = []
     for word in words[1:]:
         first, dash, last = word.partition("-")
@@ -308,7 +310,8 @@ def numbers(words: List[str], most: int) -> List[int]:
 
 
 def scale_of(text: str) -> int:
-    """By what the times of a description are multiplied, so that each rate is a whole number of picoseconds."""
+    """The least power of ten that makes all rates of a description whole numbers of picoseconds, if times are
+    multiplied by it."""
     classes = (line.split("#", 1)[0].split() for line in text.split("\n"))
     rates = (word[2:] for words in classes if words[:1] == ["class"] for word in words[2:] if re.fullmatch(r"[GO]=\d{1,20}\.\d{1,6}", word))
     return scale_for(rates)
@@ -332,12 +335,13 @@ def read(name: str, text: str, scale: int = 1) -> Cluster:
 
 
 def is_description(text: str) -> bool:
-    """Whether a text is a description: it does not begin as a MACHINE."""
+    """Whether a text is a description, which does not begin as a MACHINE does."""
     return text.split(None, 1)[:1] != ["classes"]
 
 
 def cluster_of(name: str, text: str, scale: int = 1) -> Cluster:
-    """The machine of a text, which is MACHINE, as `goal nodes` takes it, or a description of it, with times `scale` times as long."""
+    """The machine of a text, with times `scale` times as long. The text is a MACHINE of `goal nodes` or a
+    description."""
     if is_description(text):
         return read(name, text, scale)
     try:

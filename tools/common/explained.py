@@ -1,5 +1,5 @@
-"""What a verdict of `goal certify` means: the operations that it names, as they are written, and what became of a slot. Nothing of it
-is proved."""
+"""Explains a verdict of `goal certify`: shows the operations that it names as they are written, and how a slot got its
+contents. Nothing of it is proved."""
 from __future__ import annotations
 
 import re
@@ -42,30 +42,32 @@ class Explainer:
         else:
             yield from (text for start, text in JUDGED_NOT.items() if fault.startswith(start))
 
-    def _told(self, key: Key) -> str:
+    def _written(self, key: Key) -> str:
+        """Where an operation is in the text, and how it is written."""
         return self.places.told(*key) or "{} {}".format(*key)
 
     def _of_one(self, what: str, key: Key) -> Iterator[str]:
-        yield self._told(key)
+        yield self._written(key)
         if what == "wildcard":
             yield "a certificate is for each order of arrival: name the rank and the tag"
         elif what == "unpaired":
             near = [finding.others for finding in left_over(Matching(self.schedule)) if finding.keys[0] == key]
-            yield from (f"{text}: {self._told(other)}" for others in near for text, other in others)
+            yield from (f"{text}: {self._written(other)}" for others in near for text, other in others)
         else:
             yield from self._stalled(key)
 
     def _stalled(self, key: Key) -> Iterator[str]:
-        """Follows what an operation waits for if each message waits for its receive."""
+        """Runs the schedule with `--S 0`, so that messages wait for their receives, and follows what the operation
+        waits for."""
         run = read_run(program.call(self.goal, ["sim", "/dev/stdin", "--S", "0"], self.shown).out.splitlines())
         yield "it never ends where all messages wait for their receives (`sim --S 0`):"
-        yield from (f"  {line}" for line in waits_of(run, key, self._told))
+        yield from (f"  {line}" for line in waits_of(run, key, self._written))
 
     def _of_pair(self, what: str, one: Key, other: Key, slot: Optional[str]) -> Iterator[str]:
         for key in (one, other):
             op = self.schedule.ops[key]
             does = f", which {use_of(op, int(slot))}" if slot else f", of {len(op.moved())} slots" if what == "lengths" else ""
-            yield self._told(key) + does
+            yield self._written(key) + does
         if what == "double channel":
             yield "give one of them another tag"
         if what == "race":
@@ -84,7 +86,7 @@ class Explainer:
         return "it comes round" if answer.status == program.REFUSED else answer.out.strip()
 
     def _of_slot(self, what: str, place: Tuple[int, int], segments: int) -> Iterator[str]:
-        """What a slot holds, and what is missing, too much or of another segment."""
+        """What a slot holds at the end, and which items are missing, superfluous or from another segment."""
         block = place[1] // width_of(self.kind, self.schedule.ranks)
         flow = Flow(self.schedule, self.kind, self.root, list(range(segments)) if what == "mixed" else [block])
         number = flow.last.get(place)
@@ -104,7 +106,8 @@ class Explainer:
             yield f"{named(missing[:1])} ends in {ends}{', ..' if len(kept) > MOST_NAMED else ''}" if kept else f"{named(missing[:1])} gets nowhere"
 
     def _ways(self, flow: Flow, place: Tuple[int, int], item: Optional[Contribution]) -> Iterator[str]:
-        """The notes that wrote the slot, the last one first, back along the messages."""
+        """The notes through which an item came into a slot, from the last one back along the messages. Without an item,
+        the notes that wrote the slot last."""
         if place not in flow.last:
             yield "no note sets it"
             return
@@ -121,18 +124,18 @@ class Explainer:
                 yield f"  {self._note(value.key, value.place[1])}" + (", where both slots hold it" if both else "")
 
     def _action(self, key: Key) -> str:
-        """An operation without its label."""
+        """An operation as it is written, without its label and default options."""
         item = self.places.item(*key)
         return item.short.partition(": ")[2] or item.short if item else "{} {}".format(*key)
 
     def _note(self, key: Key, slot: int) -> str:
-        """The note by which an operation sets a slot."""
+        """The note by which an operation sets a slot, with its place in the text."""
         for item in self.places.notes(*key):
             low, high = int(item.words[2]), int(item.words[4])
             if high == slot or (item.words[1] == b"moves" and low <= slot <= high):
                 at = f"{self.places.at(item.byte)}: " if self.places.has_lines else ""
                 return f"{at}{item} ({self._action(key)} of rank {key[0]})"
-        return self._told(key)
+        return self._written(key)
 
 
 def use_of(op: Op, slot: int) -> str:
@@ -144,22 +147,22 @@ def use_of(op: Op, slot: int) -> str:
 
 
 def named(items: List[Contribution]) -> str:
-    """Contributions in words; of many only the first."""
+    """Contributions in words: at most MOST_NAMED of them, and the number of the others."""
     said = ", ".join(f"item {number} of rank {rank}" for rank, number in items[:MOST_NAMED])
     return said + (f" and {len(items) - MOST_NAMED} more" if len(items) > MOST_NAMED else "")
 
 
-def waits_of(run: Run, key: Key, told: Callable[[Key], str]) -> Iterator[str]:
-    """What a stuck operation waits for, followed to an operation that is alone or to a cycle."""
+def waits_of(run: Run, key: Key, written: Callable[[Key], str]) -> Iterator[str]:
+    """Lines that follow what a stuck operation waits for, to an operation without a message or around a cycle."""
     seen: Dict[Key, None] = {}
     while key in run.reasons and key not in seen:
         seen[key] = None
         words = run.reasons[key].split()
         if words[0] != "for":
-            yield f"{told(key)} is alone: no message is left for it"
+            yield f"{written(key)} is alone: no message is left for it"
             return
         then = int(words[2]), int(words[3])
-        yield f"{told(key)} {'waits for its partner' if words[1] == 'partner' else 'needs'} {then[0]} {then[1]}"
+        yield f"{written(key)} {'waits for its partner' if words[1] == 'partner' else 'needs'} {then[0]} {then[1]}"
         key = then
     if key in seen:
         yield "and so round from {} {}".format(*key)

@@ -1,4 +1,4 @@
-"""What is wrong with a schedule, from its text alone, before it runs. Nothing of it is proved."""
+"""Finds faults of a schedule from its text alone, without a run. Nothing of it is proved."""
 from __future__ import annotations
 
 from collections import defaultdict, deque
@@ -8,14 +8,15 @@ from typing import DefaultDict, Dict, Iterable, Iterator, List, Optional, Sequen
 from common.canonical import Key, Op, Schedule
 
 ANY = "any"
-# of those that may be nearest to an operation, this many are looked at
+# The search for the most similar operation compares at most this many candidates per kind of match.
 MOST_NEAR = 1000
+# The source and the tag that a receive names, or those of a message (a channel).
 Pattern = Tuple[str, str]
 
 
 @dataclass
 class Finding:
-    """A finding: a text, the operations that it is about, and related operations with a text each."""
+    """A finding: its text, the operations that it concerns, and related operations, each with a text."""
 
     what: str
     keys: List[Key]
@@ -23,13 +24,13 @@ class Finding:
 
 
 def fits(pattern: Pattern, channel: Pattern) -> bool:
-    """Whether a receive from this rank with this tag takes a message from that rank with that tag."""
+    """Whether a receive with this pattern can take a message of this channel."""
     return pattern[0] in (ANY, channel[0]) and pattern[1] in (ANY, channel[1])
 
 
 class Matching:
-    """A greatest matching of sends and receives by ranks and tags. Sends and receives with the same ranks and tag are
-    interchangeable here, whatever their order."""
+    """A maximum matching of sends and receives by ranks and tags. It ignores the order of operations: sends with the
+    same ranks and tag are interchangeable, and so are receives."""
 
     def __init__(self, schedule: Schedule) -> None:
         self.ops = schedule.ops
@@ -40,7 +41,7 @@ class Matching:
                 self.sends[int(op.peer)][str(key[0]), op.tag].append(key)
             elif op.kind == "recv":
                 self.receives[key[0]][op.peer, op.tag].append(key)
-        # the pairs that are sure, and what is left over
+        # the pairs that are certain, up to the order within a channel; the sends and the receives without a partner
         self.pairs: List[Tuple[Key, Key]] = []
         self.lost: List[Key] = []
         self.starved: List[Key] = []
@@ -48,7 +49,7 @@ class Matching:
             self._match(self.sends[rank], self.receives[rank])
 
     def _match(self, sends: Dict[Pattern, List[Key]], receives: Dict[Pattern, List[Key]]) -> None:
-        """Matches what goes to one rank."""
+        """Matches the sends to one rank with the receives of this rank."""
         wild = [pattern for pattern in receives if ANY in pattern]
         flow = Flow({channel: len(keys) for channel, keys in sends.items()}, {pattern: len(keys) for pattern, keys in receives.items()})
         for channel, keys in sends.items():
@@ -58,13 +59,13 @@ class Matching:
         for pattern, keys in receives.items():
             self.starved += keys[len(keys) - flow.wanted[pattern]:]
             if ANY in pattern and len(keys) == 1:
-                # (a receive for which there is one message, which no other takes)
+                # (only one message fits the receive, and no other pattern fits this message)
                 taken = [key for channel in sends if fits(pattern, channel) for key in sends[channel]]
                 if len(taken) == 1 and sum(fits(other, (str(taken[0][0]), self.ops[taken[0]].tag)) for other in receives) == 1:
                     self.pairs.append((taken[0], keys[0]))
 
     def competing(self) -> Iterator[Finding]:
-        """Receives of different patterns that can take one message: which of them does depends on the run."""
+        """Receives with different patterns that can take the same message: the run decides which of them takes it."""
         for rank, receives in sorted(self.receives.items()):
             wild = [pattern for pattern in receives if ANY in pattern]
             for channel, keys in self.sends[rank].items():
@@ -75,12 +76,13 @@ class Matching:
 
 
 class Flow:
-    """How many of the messages of each channel the receives of each pattern take, the most in all."""
+    """A maximum flow: how many messages of each channel the receives of each pattern take. `free` has the messages of
+    each channel that are left, and `wanted` the receives of each pattern without a message."""
 
     def __init__(self, free: Dict[Pattern, int], wanted: Dict[Pattern, int]) -> None:
         self.free, self.wanted = free, wanted
         self.taken: DefaultDict[Pattern, DefaultDict[Pattern, int]] = defaultdict(lambda: defaultdict(int))
-        # those that choose least come first; then what has chosen badly is moved
+        # First the patterns with fewest wildcards take what they can. Then augmenting paths reassign messages.
         for pattern in sorted(wanted, key=lambda it: (it.count(ANY), it)):
             for channel in self.channels_of(pattern):
                 self.take(pattern, channel, min(wanted[pattern], free[channel]))
@@ -99,8 +101,8 @@ class Flow:
         self.taken[channel][pattern] += count
 
     def move(self, pattern: Pattern) -> bool:
-        """Finds another message for a pattern; other patterns may have to switch to other messages. Whether there is
-        one."""
+        """Finds another message for a pattern by an augmenting path, on which other patterns switch to other messages.
+        Returns whether there is one."""
         came_by: Dict[Pattern, Tuple[Pattern, Optional[Pattern]]] = {}
         ahead: deque[Tuple[Pattern, Optional[Pattern]]] = deque([(pattern, None)])
         while ahead:
@@ -125,7 +127,7 @@ class Flow:
 
 
 class Nearest:
-    """For an unmatched operation, the most similar unmatched operation of the other side."""
+    """Finds, for an unmatched operation, the most similar unmatched operation of the other kind."""
 
     def __init__(self, ops: Dict[Key, Op], keys: Iterable[Key]) -> None:
         self.ops = ops
@@ -136,17 +138,18 @@ class Nearest:
                 self.by[place].append(key)
 
     def of(self, key: Key) -> Optional[Tuple[str, Key]]:
-        """The nearest, and how it differs."""
+        """How the most similar operation differs, in words, and its key; None if there is no candidate."""
         source, target = ends_of(self.ops[key], key)
         places = [(source, target), (source, ANY), (ANY, target)]
         near = [other for place in places for other in self.by.get(place, ())[:MOST_NEAR]]
         if not near:
             return None
         best = min(near, key=lambda other: (sum(cost for cost, _ in self.differences(key, other)), other))
-        told = [text for _, text in self.differences(key, best)]
-        return f"nearest, with {' and '.join(told)}", best
+        texts = [text for _, text in self.differences(key, best)]
+        return f"nearest, with {' and '.join(texts)}", best
 
     def differences(self, key: Key, other: Key) -> Iterator[Tuple[int, str]]:
+        """The differences of two operations, each with its weight and in words."""
         one, its = self.ops[key], self.ops[other]
         for here, there, what in zip(ends_of(one, key), ends_of(its, other), ("from", "to")):
             if ANY not in (here, there) and here != there:
@@ -158,7 +161,7 @@ class Nearest:
 
 
 def ends_of(op: Op, key: Key) -> Tuple[str, str]:
-    """From which rank its message comes, and to which it goes."""
+    """The source and the target of the message of an operation."""
     return (str(key[0]), op.peer) if op.kind == "send" else (op.peer, str(key[0]))
 
 
@@ -179,11 +182,11 @@ def too_small(matching: Matching) -> Iterator[Finding]:
 
 
 def rings(ops: Dict[Key, Op], pairs: Iterable[Tuple[Key, Key]], most_eager: int) -> Iterator[List[Key]]:
-    """Cycles of operations that wait for one another: of each knot a shortest one. A message over the greatest eager
-    size waits for its receive."""
+    """Cycles of operations that wait for one another: for each knot (a strongly connected component), a shortest cycle.
+    A message of more than `most_eager` bytes waits for its receive."""
     place = {key: 2 * number for number, key in enumerate(ops)}
     keys = list(ops)
-    # (an operation has two places, its start and its end; an edge leads to what must come before)
+    # (each operation has two nodes, its start and its end; an edge leads to a node that must come before)
     before: List[List[int]] = [[] for _ in range(2 * len(ops))]
     for key, op in ops.items():
         before[place[key] + 1].append(place[key])
@@ -201,7 +204,7 @@ def rings(ops: Dict[Key, Op], pairs: Iterable[Tuple[Key, Key]], most_eager: int)
 
 
 def knots(before: List[List[int]]) -> Iterator[Set[int]]:
-    """The sets of more than one place, each of which leads to all others of its set."""
+    """The strongly connected components with more than one node, by Tarjan's algorithm."""
     count = 0
     number, low = [0] * len(before), [0] * len(before)
     is_open = [False] * len(before)
@@ -235,7 +238,7 @@ def knots(before: List[List[int]]) -> Iterator[Set[int]]:
 
 
 def tail(path: List[int], at: int) -> List[int]:
-    """The end of the path from this place on."""
+    """The end of the path, from this node on."""
     begin = len(path) - 1
     while path[begin] != at:
         begin -= 1
@@ -243,7 +246,7 @@ def tail(path: List[int], at: int) -> List[int]:
 
 
 def shortest(before: List[List[int]], knot: Set[int]) -> List[int]:
-    """A shortest ring through the least place of a knot."""
+    """A shortest cycle through the least node of a knot."""
     start = min(knot)
     came: Dict[int, int] = {}
     ahead = deque([start])

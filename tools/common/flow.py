@@ -1,6 +1,6 @@
-"""What the slots of a schedule hold at the end, and how it got there, along the notes. Nothing of it is proved.
+"""What the slots of a schedule hold at the end, and through which notes it came there. Nothing of it is proved.
 
-It follows one order in which all can happen: where nothing races, each gives the same.
+It follows one possible order of the operations. If there are no races, every order gives the same result.
 """
 from __future__ import annotations
 
@@ -11,14 +11,15 @@ from common.canonical import Key, Schedule
 from common.order import order_of, senders_of
 from segmented import begins_at, wanted_at, width_of
 
-# A contribution: an item that a rank had at the start, by the rank and the number of the item.
+# A contribution: an item that a rank had at the start, as the rank and the number of the item.
 Contribution = Tuple[int, int]
 Place = Tuple[int, int]
 
 
 @dataclass(frozen=True)
 class Value:
-    """What a slot got: from the start (`item`), or by an operation from the values that `sources` number."""
+    """A value that a slot got: at the start (`item`), or by the operation `key` from the values with the numbers
+    `sources`."""
 
     place: Place
     sources: Tuple[int, ...] = ()
@@ -27,7 +28,8 @@ class Value:
 
 
 class Flow:
-    """All values that slots get, from the start of a collective. With `blocks`, the segments from 0 on have their starts at once."""
+    """All values that slots get in a run of a collective. The segments that `blocks` lists have their data at the
+    start."""
 
     def __init__(self, schedule: Schedule, kind: str, root: int, blocks: List[int]) -> None:
         self.schedule, self.kind, self.root = schedule, kind, root
@@ -62,7 +64,7 @@ class Flow:
         self._put(Value(place, tuple(source for source in sources if source is not None), key=key))
 
     def holds(self, number: Optional[int]) -> Dict[Contribution, int]:
-        """The contributions of a value, each with how often it is there."""
+        """The contributions of a value, each with its multiplicity; none without a value."""
         times = {} if number is None else {number: 1}
         found: Dict[Contribution, int] = {}
         for at in range(number if number is not None else -1, -1, -1):
@@ -74,7 +76,8 @@ class Flow:
         return found
 
     def way(self, number: int, item: Optional[Contribution]) -> Iterator[int]:
-        """The values through which an item came, the last one first; without an item, through what was put there last."""
+        """The values through which an item came into this value, the last one first. Without an item, it follows the
+        first source of each value."""
         while True:
             yield number
             sources = self.values[number].sources
@@ -92,7 +95,8 @@ class Flow:
 
 
 def wanted_of(kind: str, ranks: int, root: int, place: Place, block: int) -> List[Contribution]:
-    """What a collective wants in a slot at the end, in the slots of a segment; nothing where it names no such slot."""
+    """The contributions that a collective prescribes for a slot at the end, in the slot numbers of a segment; none if
+    it prescribes nothing for the slot."""
     rank, first = place[0], block * width_of(kind, ranks)
     slot = place[1] - first
     if slot not in wanted_at(kind, ranks, root, rank):

@@ -1,7 +1,8 @@
 """Folds a schedule, so that the ranks of a node share its network cards. Nothing of it is proved.
 
-A node becomes a rank. Each cpu that a rank of the node uses becomes a cpu of it, and each card an interface. A message inside
-the node becomes a message to itself, over a path that each rank has. Tags are new, so that a receive takes what it took before.
+A node becomes a rank. Each cpu that a rank of the node uses becomes a cpu of the new rank, and each card becomes a NIC.
+A message inside the node becomes a message of the new rank to itself. It goes over a path, a NIC that is not a card;
+each old rank has its own paths. Messages get new tags, so that each receive can take the same messages as before.
 """
 import tempfile
 from bisect import bisect_left
@@ -17,16 +18,17 @@ from common.parameters import Machine
 ANY = "any"
 STANDARD_INPUT = "/dev/stdin"
 MOST_NUMBERS = 256
-# how many words the lines `op` with a partner and `stuck` with another operation have
+# The number of words of a line `op` with a partner, and of a line `stuck` that names another operation.
 LENGTH_OF_MATCHED, LENGTH_OF_STUCK = 11, 7
-# the source, the target and the tag of a message
+# The source, the target and the tag of a message.
 Channel = Tuple[int, int, int]
-# the rank of a receive, and the source and the tag that it names
+# The rank of a receive, and the source and the tag that it names.
 Pattern = Tuple[int, str, str]
 
 
 class Matching:
-    """The messages to one rank: which of them each receive may take, and the new tags by which it still does."""
+    """The channels to one rank. It finds from which channels each receive may take, and gives them new tags that
+    preserve this: channels with the same leader get the same tag."""
 
     def __init__(self, node_of: Sequence[int]) -> None:
         self.node_of = node_of
@@ -36,14 +38,14 @@ class Matching:
         self.tags: Dict[Channel, int] = {}
 
     def add(self, channel: Channel) -> None:
-        """Something is sent on this channel."""
+        """Adds a channel on which something is sent."""
         if channel not in self.leader:
             self.by_source.setdefault(channel[0], set()).add(channel)
             self.leader[channel] = channel
             self.members[channel] = [channel]
 
     def taken_by(self, receive: Op, rank: int) -> List[Channel]:
-        """The channels whose messages this receive of the rank may take."""
+        """The channels whose messages a receive of this rank may take."""
         if receive.peer != ANY and receive.tag != ANY:
             channel = (int(receive.peer), rank, int(receive.tag))
             return [channel] if channel in self.leader else []
@@ -52,7 +54,7 @@ class Matching:
                 if receive.tag == ANY or int(receive.tag) == channel[2]]
 
     def join(self, channels: List[Channel]) -> None:
-        """One receive may take any of these: they get the same tag."""
+        """Gives these channels the same tag, since one receive may take from any of them."""
         for channel in channels[1:]:
             one, other = self.leader[channels[0]], self.leader[channel]
             if one != other:
@@ -61,7 +63,7 @@ class Matching:
                     self.members[one].append(moved)
 
     def number(self, first: int) -> int:
-        """Gives the tags from this one on, and returns the next that is free."""
+        """Numbers the tags from `first` on, and returns the next free number."""
         for tag, leader in enumerate(self.members, first):
             self.tags[leader] = tag
         return first + len(self.members)
@@ -70,7 +72,8 @@ class Matching:
         return self.tags[self.leader[channel]]
 
     def is_kept(self, receive: Op, channels: List[Channel]) -> bool:
-        """Whether the receive with its new tag, from the node of its source or from any, takes these and no others."""
+        """Whether the folded receive takes from exactly these channels. It has the new tag, and names the node of its
+        source or any."""
         same = self.members[self.leader[channels[0]]]
         if receive.peer != ANY:
             node = self.node_of[int(receive.peer)]
@@ -79,7 +82,7 @@ class Matching:
 
 
 class Numbers:
-    """Numbers for what the ranks of a node use, from `first` on, in the order of the ranks."""
+    """Numbers, from `first` on, for the devices that the ranks of a node use, in the order of the ranks."""
 
     def __init__(self, what: str, first: int = 0) -> None:
         self.what, self.first = what, first
@@ -87,7 +90,7 @@ class Numbers:
         self.of: Dict[Key, int] = {}
 
     def close(self, node: int) -> None:
-        """All that is used is known now."""
+        """Assigns the numbers, when all devices in use are known."""
         count = self.first + len(self.used)
         if count > MOST_NUMBERS:
             raise Fault(f"node {node} needs {count} {self.what}, and has at most {MOST_NUMBERS}: put fewer ranks on a node")
@@ -96,7 +99,7 @@ class Numbers:
 
 @dataclass
 class Node:
-    """A node as a rank: the ranks on it in order, the operations in their new order, and its cpus and interfaces."""
+    """A node as a rank: its ranks in order, their operations in the new order, and its cpus and NICs."""
 
     ranks: List[int]
     ops: List[Key]
@@ -105,12 +108,12 @@ class Node:
 
 
 def options(**numbers: int) -> str:
-    """The options of an operation that are not 0."""
+    """The options of an operation as text, without those that are 0."""
     return "".join(f" {name} {number}" for name, number in numbers.items() if number)
 
 
 class Fold:
-    """A schedule whose nodes are ranks. Its operations are those of the ranks of a node, rank after rank."""
+    """A folded schedule, whose ranks are nodes. The operations of a node are those of its ranks, rank after rank."""
 
     def __init__(self, schedule: Schedule, machine: Machine, cards: Cards) -> None:
         if schedule.ranks != len(machine.nodes):
@@ -161,7 +164,8 @@ class Fold:
         return self.matchings[rank]
 
     def _number_tags(self) -> None:
-        """No two channels to a node that are not joined have the same tag, and what nothing is sent to has one for itself."""
+        """Numbers the tags. Channels to a node have different tags unless they are joined. A pattern to which nothing
+        is sent has a tag of its own."""
         free = [0] * len(self.nodes)
         for rank, matching in self.matchings.items():
             free[self.node_of[rank]] = matching.number(free[self.node_of[rank]])
@@ -174,7 +178,8 @@ class Fold:
                 free[node] += 1
 
     def _number_devices(self) -> None:
-        """Gives numbers to the cpus and the paths inside a node, and looks for what is no card."""
+        """Numbers the cpus and the NICs inside each node. Refuses an operation on a NIC that is not one of the
+        cards."""
         for key, op in self.schedule.ops.items():
             node = self.nodes[self.node_of[key[0]]]
             node.cpus.used.add((key[0], op.cpu))
@@ -189,7 +194,8 @@ class Fold:
             node.nics.close(name)
 
     def _is_inside(self, key: Key, op: Op) -> bool:
-        """Whether the messages of a send or a receive stay in its node."""
+        """Whether the messages of a send or a receive stay inside its node. Raises a Fault if a receive may take both
+        kinds."""
         here = self.node_of[key[0]]
         if op.peer != ANY:
             return self.node_of[int(op.peer)] == here
@@ -208,7 +214,7 @@ class Fold:
         return (own + op.nic) % self.cards.count
 
     def _action(self, key: Key, op: Op) -> str:
-        """The operation as it is written in the folded schedule."""
+        """An operation as it is written in the folded schedule."""
         cpu = self.nodes[self.node_of[key[0]]].cpus.of[key[0], op.cpu]
         if op.kind == "calc":
             return f"calc {op.size}" + options(cpu=cpu)
@@ -221,7 +227,7 @@ class Fold:
         return f"recv {op.size}b from {source}" + options(tag=tag, cpu=cpu, nic=self._nic(key, op))
 
     def text(self) -> Iterator[str]:
-        """The folded schedule, in pieces. Operation I of rank R has the label rR_I."""
+        """The text of the folded schedule, in pieces. Operation I of rank R has the label rR_I."""
         yield f"num_ranks {len(self.nodes)}\n"
         for number, node in enumerate(self.nodes):
             if node.ops:
@@ -235,7 +241,7 @@ class Fold:
                 yield f"r{rank}_{number} {'requires' if by_end else 'irequires'} r{rank}_{earlier}"
 
     def machine_text(self) -> str:
-        """MACHINE for the folded schedule."""
+        """The text of MACHINE for the folded schedule."""
         return "".join(line + "\n" for line in lines_of(self.folded_machine()))
 
     def folded_machine(self) -> Machine:
@@ -244,7 +250,7 @@ class Fold:
         return Machine(machine.classes, machine.inside, machine.default, self.names, machine.pairs)
 
     def unfolded(self, lines: Iterable[str]) -> List[str]:
-        """The printed run of the folded schedule, with the ranks and the numbers of the schedule itself."""
+        """The printed run of the folded schedule, translated to the ranks and numbers of the original schedule."""
         first, *others = lines
         words = first.split()
         found: Dict[str, List[Tuple[Key, str]]] = {"op": [], "stuck": []}
@@ -263,13 +269,13 @@ class Fold:
 
 
 def fold(goal: str, name: str, text: Optional[str], cluster: Cluster, cards: Cards) -> Fold:
-    """The fold of a schedule: of the file NAME, or of a text where NAME is standard input."""
+    """Folds the schedule of the file `name`. If that is standard input, `text` is its contents."""
     shown = program.expect(program.call(goal, ["show", name], text), program.DONE).out
     return Fold(read_canonical(shown.splitlines(), with_notes=False), cluster.machine, cards)
 
 
 def run_lines(goal: str, name: str, text: Optional[str], cluster: Cluster, cards: Optional[Cards] = None) -> List[str]:
-    """The printed run of a schedule on a machine: with these cards, or else with those of its description."""
+    """The printed run of a schedule on a machine, with these cards or else with those of the description."""
     chosen = cards or cluster.cards or Cards()
     if not chosen.count:
         return _run(goal, name, text, cluster.text())
@@ -277,7 +283,8 @@ def run_lines(goal: str, name: str, text: Optional[str], cluster: Cluster, cards
 
 
 def first_lines(goal: str, name: str, cluster: Cluster, cards: Optional[Cards] = None) -> List[str]:
-    """The same with the lines that a folded schedule prints: the first one has the right finish and number of stuck operations."""
+    """As `run_lines`, but the lines of a folded schedule are not translated. The finish and the number of stuck
+    operations in the first line are right."""
     chosen = cards or cluster.cards or Cards()
     if not chosen.count:
         return _run(goal, name, None, cluster.text())
@@ -286,7 +293,7 @@ def first_lines(goal: str, name: str, cluster: Cluster, cards: Optional[Cards] =
 
 
 def run_folded(goal: str, folded: Fold) -> List[str]:
-    """The printed run of a folded schedule, with the ranks and the numbers of the schedule itself."""
+    """Runs a folded schedule. Returns the printed run in the ranks and numbers of the original schedule."""
     return folded.unfolded(_run(goal, STANDARD_INPUT, "".join(folded.text()), folded.machine_text()))
 
 

@@ -1,4 +1,4 @@
-"""The grid of a sweep: its axes, from the command line, and its points. Nothing of it is proved."""
+"""The grid of a sweep: reads its axes from the command line, and makes its points. Nothing of it is proved."""
 from __future__ import annotations
 
 import itertools
@@ -29,9 +29,9 @@ AXES = ("schedule",) + MADE_BY + ("machine",) + ON_MACHINES + PARAMETERS
 UNITS = {"size": "size", "S": "size", "L": "ns", "o": "ns", "g": "ns", "G": "ns per byte", "O": "ns per byte",
          "sum-ps": "ps per byte"}  # fmt: skip
 MOST_POINTS = 100000
-# KINDs whose messages in `gen` have one size for any number of slots, and the algorithms to use instead.
+# KINDs of `gen` whose messages have the same size for any number of slots, and the algorithms to use instead.
 ONE_SIZE = {"gather": "gather-tree", "scatter": "scatter-tree"}
-# The defaults of axes that are not given.
+# The values of axes that are not given.
 TAKEN = {"root": "0", "segments": "1", "node": "1", "sum-ps": "0", **{name: str(DEFAULTS[name]) for name in PARAMETERS}}
 # The least and the greatest value of the axes that make schedules.
 LIMITED: Dict[str, Tuple[int, Optional[int], str]] = {
@@ -42,7 +42,7 @@ Axes = Dict[str, List[str]]
 
 
 def number_of(axis: str, text: str) -> Decimal:
-    """A number of an axis as a Decimal."""
+    """The number that a value of an axis is."""
     found = re.fullmatch(r"(\d{1,20}(?:\.\d{1,6})?)([KM]?)", text)
     if not found or ("." in text and axis not in RATES) or (found[2] and axis not in ("size", "S")):
         unit = {"size": "bytes, as 4096, 4K or 16M", "S": "bytes, as 65535 or 64K"}.get(axis, UNITS.get(axis, axis))
@@ -52,7 +52,7 @@ def number_of(axis: str, text: str) -> Decimal:
 
 
 def range_of(axis: str, text: str) -> List[Decimal]:
-    """The numbers of one of the values: a number, A..B+STEP or A..BxFACTOR."""
+    """The numbers that one word of an axis gives: a number, or a range A..B+STEP or A..BxFACTOR."""
     found = re.fullmatch(r"([^.]+(?:\.\d+)?)\.\.(.+?)([+x])(.+)", text)
     if not found:
         return [number_of(axis, text)]
@@ -70,7 +70,7 @@ def range_of(axis: str, text: str) -> List[Decimal]:
 
 
 def rate_of(number: Decimal, part: str) -> str:
-    """A rate in ns per byte, with three decimals or as many as its value or range has."""
+    """A rate in ns per byte as text, with three decimals, or more if the given value or range has more."""
     given = part.split("x")[0] if ".." in part else part
     decimals = max(DECIMALS, *(len(found) for found in re.findall(r"(?<!\.)\.(\d+)", given)), 0)
     rounded = f"{number:.{decimals}f}"
@@ -80,7 +80,7 @@ def rate_of(number: Decimal, part: str) -> str:
 
 
 def values_of(axis: str, text: str) -> List[str]:
-    """All values of an axis, as they are written for goal."""
+    """All values of an axis, as goal takes them."""
     parts = text.split(",")
     if axis in NAMES + ON_MACHINES:
         values = parts
@@ -94,7 +94,7 @@ def values_of(axis: str, text: str) -> List[str]:
 
 
 def check_limits(axis: str, numbers: Iterable[Decimal]) -> None:
-    """Each value of an axis that makes schedules is one that they can have."""
+    """Refuses values of an axis that are outside the limits of schedules."""
     low, high, unit = LIMITED.get(axis, (0, None, ""))
     for number in numbers:
         if high is not None and not low <= number <= high:
@@ -102,7 +102,7 @@ def check_limits(axis: str, numbers: Iterable[Decimal]) -> None:
 
 
 def axes_of(words: Iterable[str]) -> Axes:
-    """The axes of the arguments AXIS=VALUES, in their order."""
+    """The axes that the arguments AXIS=VALUES give, in their order."""
     axes: Axes = {}
     for word in words:
         axis, equals, text = word.partition("=")
@@ -151,7 +151,8 @@ def check_machines(axes: Axes) -> None:
 
 
 def note_on_cards(axes: Axes, scale: int) -> None:
-    """Prints a note if several ranks are on one node and no cards are given. Times are `scale` times as long."""
+    """Prints a note if several ranks are on one node and no cards are given. Machines are read with times `scale` times
+    as long."""
     for name in axes.get("machine", ()) if "cards" not in axes else ():
         cluster = read_cluster(name, scale)
         if cluster.cards is None and cluster.has_neighbours():
@@ -161,7 +162,7 @@ def note_on_cards(axes: Axes, scale: int) -> None:
 
 
 def with_options_taken(point: Point) -> Point:
-    """The point, where the options that its algorithm does not take are empty."""
+    """The point, with the options emptied that its algorithm does not take."""
     for option in MADE_BY[3:]:
         if option in point and option.replace("-", "_") not in OPTIONS[point["algorithm"]]:
             point[option] = ""
@@ -169,7 +170,7 @@ def with_options_taken(point: Point) -> Point:
 
 
 def points_of(axes: Axes) -> List[Point]:
-    """The points of the grid, each once: an option is empty for an algorithm that does not take it."""
+    """The points of the grid, each once. An option that an algorithm does not take is empty in its points."""
     points: Dict[Tuple[Tuple[str, str], ...], Point] = {}
     for values in itertools.product(*axes.values()):
         point = with_options_taken(dict(zip(axes, values)))
@@ -180,7 +181,7 @@ def points_of(axes: Axes) -> List[Point]:
 
 
 def with_defaults(axes: Axes) -> Axes:
-    """The axes and, as axes of one value, all parameters that are not given: the table has them."""
+    """The axes, and an axis of one value for each parameter that is not given, so that the table shows it."""
     taken = dict(axes)
     options = {option for name in axes.get("algorithm", ()) for option in OPTIONS[name]}
     for name in MADE_BY[3:]:
@@ -194,18 +195,18 @@ def with_defaults(axes: Axes) -> Axes:
 
 def note_on_defaults(axes: Axes, taken: Axes) -> None:
     """Prints the parameters that were not given, with their defaults."""
-    told = []
+    texts = []
     for name in taken:
         if name not in axes:
             unit = {"S": " bytes", "root": "", "segments": "", "node": ""}.get(name, f" {UNITS.get(name, '')}")
             more = {"G": f" ({8 / float(TAKEN['G']):.1f} Gbit/s)", "sum-ps": " (sums cost no time)"}.get(name, "")
-            told.append(f"{name}={TAKEN[name]}{unit}{more}")
-    if told:
-        print(f"sweep: not given: {', '.join(told)}", file=sys.stderr)
+            texts.append(f"{name}={TAKEN[name]}{unit}{more}")
+    if texts:
+        print(f"sweep: not given: {', '.join(texts)}", file=sys.stderr)
 
 
 def scale_of(axes: Axes) -> int:
-    """By what all times are multiplied, so that each rate is a whole number of picoseconds."""
+    """The factor for all times that makes each rate a whole number of picoseconds. Prints a note if it is not 1."""
     machines = axes.get("machine", ())
     scales = [scale_of_text(text) for text in map(text_of, machines) if is_description(text)]
     scale = max([scale_for(value for name in RATES for value in axes.get(name, ())), *scales])

@@ -22,7 +22,7 @@ MOST_TIME = 2**63 - 1
 
 @dataclass
 class Loaded:
-    """The run to draw, the stories of its operations by key, and the window in which they lie."""
+    """The run to draw, the stories of its operations by key, and the window that they are in."""
 
     name: str
     run: Run
@@ -37,7 +37,7 @@ class Loaded:
         return ranks
 
     def messages(self) -> List[Tuple[Story, Story]]:
-        """The sends whose receives are loaded too, each with its receive."""
+        """The pairs of a send and its receive of which both are loaded."""
         sends = (story for story in self.stories.values() if story.op.kind == "send" and story.stuck_from is None)
         pairs = ((story, self.stories.get(story.timed.partner) if story.timed.partner else None) for story in sends)
         return [(story, taken) for story, taken in pairs if taken and taken.busy]
@@ -47,14 +47,14 @@ class Loaded:
         return any(story.never or story.stuck_from is not None for story in self.stories.values())
 
     def last_moment(self) -> int:
-        """The last end; if operations are stuck, a time after the last action, so that they are visible."""
+        """The last end. If operations are stuck, a time after the last action, so that they are visible."""
         if not self.is_stuck():
             return self.run.finish
         return max((span[1] for it in self.stories.values() for span in it.busy), default=0) * 5 // 4
 
 
 def add_run_words(parser: argparse.ArgumentParser, limit: int) -> None:
-    """Adds the arguments that choose a run, and a part of it."""
+    """Adds the arguments that choose a run and a part of it. `limit` is the default of --limit."""
     time = command.number(0, MOST_TIME, "ns")
     parser.add_argument("name", metavar="NAME",
                         help="the schedule: a text or a compiled file (- is standard input, also for --run and "
@@ -77,7 +77,8 @@ def add_run_words(parser: argparse.ArgumentParser, limit: int) -> None:
 
 
 def ranks_of(text: Optional[str], count: int) -> Dict[int, None]:
-    """The ranks that a list such as 0-7 or 0,4-5,9 names, in order, as the keys of a dictionary; all without a list."""
+    """The ranks that a list such as 0-7 or 0,4-5,9 names, in order, as the keys of a dictionary. Without a list, all
+    ranks."""
     if text is None:
         return dict.fromkeys(range(count))
     ranks: Set[int] = set()
@@ -106,7 +107,7 @@ def load(arguments: argparse.Namespace) -> Loaded:
             counts = operation_counts(shown)
             check_limit(arguments, sum(counts.get(rank, 0) for rank in window.ranks))
         run = read_run(run_lines(arguments, options, name, text), window.ranks)
-        # (operations that end in the window are in it, so most runs over the limit are refused before stories are made)
+        # (operations that end in the window count, so most runs over the limit are refused before stories are made)
         check_limit(arguments, sum(it.end is not None and window.meets(it.end, it.end) for it in run.timed.values()), " or more")
         stories = stories_of(read_canonical(shown.splitlines(), window.ranks, with_notes=False), run, costs, window)
     except ValueError as why:
@@ -116,7 +117,7 @@ def load(arguments: argparse.Namespace) -> Loaded:
 
 
 def check_words(arguments: argparse.Namespace, options: Dict[str, int]) -> None:
-    """Refuses wrong arguments, before any file is read."""
+    """Refuses wrong arguments before any file is read."""
     if arguments.until is not None and arguments.until <= arguments.since:
         raise Fault(f"--to {arguments.until} is not after --from {arguments.since}")
     check_sources(arguments, options)
@@ -137,19 +138,20 @@ def is_whole(arguments: argparse.Namespace) -> bool:
 
 
 def check_limit(arguments: argparse.Namespace, seen: int, more: str = "") -> None:
-    """Refuses `seen` operations if they are more than the limit. `more` is added to the number in the message."""
+    """Refuses a part of the run whose number of operations, `seen`, is over the limit. The message has `more` after
+    this number."""
     if seen > arguments.limit:
         raise Fault(f"{seen} operations{more}, and the limit is {arguments.limit}: choose some by --ranks, --from and --to, or raise --limit")
 
 
 def check_machine(costs: Costs, ranks: int) -> None:
-    """Refuses a machine with another number of ranks than the schedule."""
+    """Refuses a machine whose number of ranks is not that of the schedule."""
     if isinstance(costs, Machine) and len(costs.nodes) != ranks:
         raise Fault(f"the machine has {len(costs.nodes)} ranks, and the schedule has {ranks}")
 
 
 def labels_of(name: str) -> Dict[Key, str]:
-    """The labels in the text of a schedule, except those that `goal show` would give; none of a compiled file."""
+    """The labels in the text of a schedule, except those that `goal show` would give. A compiled file has none."""
     text = command.read_file(name)
     if text.startswith(COMPILED):
         return {}
@@ -186,7 +188,7 @@ def canonical_of(arguments: argparse.Namespace, text: Optional[str], name: str) 
 
 
 def run_lines(arguments: argparse.Namespace, options: Dict[str, int], name: str, text: Optional[str]) -> List[str]:
-    """The lines of the printed run: the given one, or a new one."""
+    """The lines of the printed run: of the given one, or of a new one."""
     if arguments.run is not None:
         return text_of(arguments.run).splitlines()
     if arguments.machine is not None:
@@ -195,7 +197,7 @@ def run_lines(arguments: argparse.Namespace, options: Dict[str, int], name: str,
 
 
 def machine_lines(arguments: argparse.Namespace, name: str, text: Optional[str]) -> List[str]:
-    """The lines of the printed run on a machine. In a description, ranks may share cards."""
+    """The lines of the printed run on a machine. If the machine is a description, its ranks may share cards."""
     machine = text_of(arguments.machine)
     if is_description(machine):
         return folding.run_lines(program.chosen(arguments.goal), name, text, cluster_of(arguments.machine, machine))

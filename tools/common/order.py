@@ -1,4 +1,4 @@
-"""An order in which the operations of a schedule can happen, where every send is eager. Nothing of it is proved."""
+"""An order in which the operations of a schedule can happen if every send is eager. Nothing of it is proved."""
 from __future__ import annotations
 
 from typing import Dict, Iterator, List
@@ -7,15 +7,15 @@ from common.canonical import Key, Op, Schedule
 
 
 def senders_of(schedule: Schedule) -> Dict[Key, Key]:
-    """The send of each receive, where no two messages share a channel and no receive takes any."""
+    """The send of each receive. No two messages may share a channel, and no receive may use `any`."""
     sends = {(key[0], op.peer, op.tag): key for key, op in schedule.ops.items() if op.kind == "send"}
     return {key: sends[int(op.peer), str(key[0]), op.tag] for key, op in schedule.ops.items() if op.kind == "recv"}
 
 
 def order_of(ops: Dict[Key, Op], senders: Dict[Key, Key]) -> Iterator[Key]:
-    """The operations, each after all that it needs: a calc and a send as they start, a receive as it ends, which is after
-    the start of its send, if it has one. What never can happen does not come."""
-    # (each operation has two places, its start and its end)
+    """The operations, each after all that it requires. Calcs and sends are ordered by their starts, receives by their
+    ends; a receive ends after the start of its send, if it has one. Operations that can never happen are left out."""
+    # (each operation has two nodes, its start and its end)
     place = {key: 2 * number for number, key in enumerate(ops)}
     after: List[List[int]] = [[] for _ in range(2 * len(ops))]
     missing = [0] * (2 * len(ops))

@@ -1,7 +1,7 @@
 """The parameters of a run, as the options of goal, and what a message costs with them. Nothing of it is proved.
 
-A rate, G or O, may be one number of ns per byte with up to three decimals, as 0.080 for 80 ps. goal itself takes it in
-two options: G in whole ns, and Gp in ps.
+A rate, G or O, is one number of ns per byte with up to three decimals: 0.080 is 80 ps. goal itself takes a rate as two
+options: G in whole ns and Gp in ps, or O and Op.
 """
 import argparse
 import re
@@ -12,7 +12,7 @@ from typing import Dict, Iterable, List, Protocol, Tuple
 from common.command import FACTORS
 
 DEFAULTS = {"L": 2500, "o": 1500, "g": 1000, "G": 6, "Gp": 0, "O": 0, "Op": 0, "S": 65535}
-# The greatest value of each that goal takes.
+# The greatest value of each parameter that goal accepts.
 LIMITS = {"L": 2**40 - 1, "o": 2**40 - 1, "g": 2**40 - 1, "G": 2**20 - 1, "Gp": 999, "O": 2**20 - 1, "Op": 999, "S": 2**40 - 1}
 MEANINGS = {
     "L": "latency, ns",
@@ -25,22 +25,22 @@ MEANINGS = {
     "S": "greatest eager size, bytes; a message over it waits for its receive",
 }
 UNITS = {"L": "ns", "o": "ns", "g": "ns", "G": "ns per byte", "Gp": "ps per byte", "O": "ns per byte", "Op": "ps per byte", "S": "bytes"}
-# The parameters that goal splits into nanoseconds and picoseconds, and the name of the second part.
+# The rates, which goal takes in nanoseconds and picoseconds, each with the name of its option in picoseconds.
 RATES = {"G": "Gp", "O": "Op"}
-# The most decimals of a rate in ns that goal takes, and the most with scaled times.
+# The most decimals of a rate in ns per byte: with the times of goal, and with scaled times.
 DECIMALS, MOST_DECIMALS = 3, 6
 
 
 def scale_for(rates: Iterable[str]) -> int:
-    """The least power of ten that makes each of these rates a whole number of ps, if all times are multiplied by it."""
+    """The least power of ten that makes all these rates whole numbers of ps, if all times are multiplied by it."""
     decimals = [len(rate.partition(".")[2].rstrip("0")) for rate in rates]
     scale: int = 10 ** max(0, max(decimals, default=0) - DECIMALS)
     return scale
 
 
 def scaled_options(name: str, text: str, scale: int) -> Dict[str, int]:
-    """The options of goal that give a parameter this value where all times are `scale` times as long. A rate may have more
-    decimals then."""
+    """The options of goal that give a parameter this value, if all times are `scale` times as long. With a scale above
+    1, a rate may have more decimals."""
     if scale == 1 or name == "S":
         return options_of(name, text)
     if name in RATES.values():
@@ -62,7 +62,7 @@ def scaled_defaults(scale: int) -> Dict[str, int]:
 
 
 def options_of(name: str, text: str) -> Dict[str, int]:
-    """The options of goal that give a parameter this value, by name."""
+    """The options of goal, by name, that give a parameter this value."""
     if name in RATES and re.fullmatch(r"\d+\.\d{1,3}", text):
         whole, part = text.split(".")
         if int(whole) > LIMITS[name]:
@@ -81,12 +81,12 @@ def options_of(name: str, text: str) -> Dict[str, int]:
 
 
 def words_of(options: Dict[str, int]) -> List[str]:
-    """Options by name as the words of a command line."""
+    """The words of a command line for these options."""
     return [word for name, value in options.items() for word in (f"--{name}", str(value))]
 
 
 def add_options(parser: argparse.ArgumentParser) -> None:
-    """Adds the eight options of goal for a run."""
+    """Adds the eight options that goal has for a run."""
     group = parser.add_argument_group("parameters, as those of `goal sim`")
     for name, meaning in MEANINGS.items():
         group.add_argument(f"--{name}", metavar="N", dest=f"parameter_{name}", help=f"{meaning} ({DEFAULTS[name]})")
@@ -98,21 +98,23 @@ def given_options(arguments: argparse.Namespace) -> Dict[str, int]:
     for name in DEFAULTS:
         text = getattr(arguments, f"parameter_{name}")
         if text is not None:
-            told = options_of(name, text)
-            if options.keys() & told.keys():
+            values = options_of(name, text)
+            if options.keys() & values.keys():
                 raise ValueError(f"{name} is given twice: --{name} and the decimals of its nanoseconds")
-            options.update(told)
+            options.update(values)
     return options
 
 
 def up(nanos: int, picos: int, size: int) -> int:
-    """What the bytes of a message cost: for each but the first, the sum rounded up."""
+    """The cost in ns of the bytes of a message: the rate for each byte but the first, and the sum rounded up."""
     rest = max(size - 1, 0)
     return nanos * rest + -(-picos * rest // 1000)
 
 
 @dataclass(frozen=True)
 class Parameters:
+    """The parameters of a class of messages."""
+
     L: int
     o: int
     g: int
@@ -131,7 +133,7 @@ class Parameters:
         return self.g + up(self.G, self.Gp, size)
 
     def flight(self, size: int) -> int:
-        """How long a message is on its way, from the start of the send to the arrival."""
+        """How long a message travels, from the start of the send to the arrival."""
         return self.o + max(up(self.O, self.Op, size), up(self.G, self.Gp, size)) + self.L
 
     def is_eager(self, size: int) -> bool:
@@ -143,15 +145,16 @@ def parameters_of(options: Dict[str, int]) -> Parameters:
 
 
 class Costs(Protocol):
-    """What gives the parameters of a message by its ranks."""
+    """Something that gives the parameters of a message from its source and target."""
 
     def between(self, source: int, target: int) -> Parameters:
-        """The parameters of a message from the one rank to the other."""
+        """The parameters of a message from the rank `source` to the rank `target`."""
 
 
 @dataclass
 class Machine:
-    """The parameters of each message by the nodes of its ranks, from the text that `goal nodes` reads as MACHINE."""
+    """A machine, as `goal nodes` reads it from MACHINE: the nodes of two ranks decide the parameters of their
+    messages."""
 
     classes: List[Parameters]
     inside: int
@@ -165,7 +168,7 @@ class Machine:
 
 
 def machine_of(text: str) -> Machine:
-    """The machine of a text that `goal nodes` has taken."""
+    """The machine of a text that `goal nodes` has accepted."""
     words = iter(text.split())
 
     def after(name: str) -> int:

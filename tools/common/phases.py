@@ -1,7 +1,7 @@
 """The times at which each operation of a run waits, keeps a cpu busy, or is stuck. Nothing of it is proved.
 
-A printed run has the start and the end of an operation. Its ready time follows from what it needs, and how long a message
-keeps a cpu from the parameters: so the rest of its time is waiting.
+A printed run has the start and the end of each operation. The ready time of an operation follows from what it requires,
+and the time for which it holds its cpu follows from the parameters. The rest of its time is waiting.
 """
 from dataclasses import dataclass, field
 from heapq import heappop, heappush
@@ -20,11 +20,12 @@ class Misfit(ValueError):
 
 @dataclass
 class Story:
-    """An operation with its times: spans are pairs of a begin and an end, in nanoseconds; a span without an end lasts.
+    """An operation with its times. A span is a pair of a begin and an end, in nanoseconds.
 
-    `busy` is when it keeps its cpu, of a large send first for the request and then for the bytes. `stuck_from` is since when
-    it is stuck, where it has begun; `never` says that it never begins. `bytes` are those of the message. `sides` is when it keeps
-    a side of its NIC busy: the sending side of a send, the receiving side of a receive.
+    `busy` has the spans for which it holds its cpu. A rendezvous send has two: first for its RTS, then for its data.
+    `sides` has the spans for which it holds a side of its NIC: a send the sending side, a receive the receiving side.
+    `stuck_from` is the time from which a stuck operation that has begun can not go on. `never` says that it never
+    begins. `bytes` is the size of the message.
     """
 
     key: Key
@@ -47,22 +48,23 @@ class Story:
 
     @property
     def wait(self) -> int:
-        """How long it waits, as in `goal waits`: from its ready time to its last action; 0 if it has no end."""
+        """How long it waits, as `goal waits` counts it: from its ready time to its last action; 0 if it does not
+        end."""
         return 0 if self.timed.end is None or self.ready is None else self.busy[-1][0] - self.ready
 
     @property
     def leaves(self) -> int:
-        """When its message leaves: at the end of the last work of its cpu for it."""
+        """The time at which its message leaves: the end of the last span for which it holds its cpu."""
         return self.busy[-1][1]
 
     @property
     def is_unread(self) -> bool:
-        """Whether its message is sent and no receive takes it."""
+        """Whether it is an unmatched send: its message is sent, and no receive takes it."""
         return self.op.kind == "send" and self.timed.end is not None and self.timed.partner is None
 
 
 def ready_time(key: Key, ops: Dict[Key, Op], timed: Dict[Key, Timed]) -> Optional[int]:
-    """When all that it requires has happened, or None."""
+    """The time at which all that it requires has happened; None if that never happens."""
     moments = [
         timed[key[0], number].end if by_end else timed[key[0], number].start for number, by_end in ops[key].needs
     ]
@@ -71,7 +73,7 @@ def ready_time(key: Key, ops: Dict[Key, Op], timed: Dict[Key, Timed]) -> Optiona
 
 
 def story_of(key: Key, schedule: Schedule, run: Run, costs: Costs) -> Story:
-    """The story of an operation; `costs.between` gives the parameters of a message."""
+    """The story of an operation of a run with these costs."""
     op, timed = schedule.ops[key], run.timed[key]
     ready = ready_time(key, schedule.ops, run.timed)
     story = Story(key, op, timed, op.size, ready, reason=run.reasons.get(key, ""))
@@ -81,27 +83,30 @@ def story_of(key: Key, schedule: Schedule, run: Run, costs: Costs) -> Story:
         add_wait(story, ready, timed.start)
         story.busy.append((timed.start, end_of(story)))
     elif op.kind == "send":
-        tell_send(story, ready, timed.start, costs.between(key[0], int(op.peer)))
+        add_send(story, ready, timed.start, costs.between(key[0], int(op.peer)))
     else:
-        tell_receive(story, timed.start, schedule.sizes, costs)
+        add_receive(story, timed.start, schedule.sizes, costs)
     return story
 
 
 def end_of(story: Story) -> int:
-    """The end of an operation that begins, is eager or a calc, and so ends."""
+    """The end of a calc or an eager send, which ends if it begins."""
     if story.timed.end is None:
         raise Misfit(f"the run is not of these parameters: see operation {story.key[1]} of rank {story.key[0]}")
     return story.timed.end
 
 
 def add_wait(story: Story, begin: int, end: int) -> None:
+    """Adds a wait, unless it is empty. A wait that would end before it begins shows that the run has other
+    parameters."""
     if end < begin:
         raise Misfit(f"the run is not of these parameters: see operation {story.key[1]} of rank {story.key[0]}")
     if begin < end:
         story.waits.append((begin, end))
 
 
-def tell_send(story: Story, ready: int, start: int, parameters: Parameters) -> None:
+def add_send(story: Story, ready: int, start: int, parameters: Parameters) -> None:
+    """Adds the spans of a send that begins at `start`."""
     add_wait(story, ready, start)
     if parameters.is_eager(story.bytes):
         story.busy.append((start, end_of(story)))
@@ -119,7 +124,8 @@ def tell_send(story: Story, ready: int, start: int, parameters: Parameters) -> N
         story.sides.append((handed, handed + parameters.gap(story.bytes)))
 
 
-def tell_receive(story: Story, start: int, sizes: Dict[Key, int], costs: Costs) -> None:
+def add_receive(story: Story, start: int, sizes: Dict[Key, int], costs: Costs) -> None:
+    """Adds the spans of a receive that is posted at `start`, and the size of its message."""
     end, partner = story.timed.end, story.timed.partner
     if end is None:
         story.stuck_from = start
@@ -136,20 +142,20 @@ def tell_receive(story: Story, start: int, sizes: Dict[Key, int], costs: Costs) 
 
 @dataclass
 class Window:
-    """The ranks, in order, and the times that are looked at; `until` is none where there is no end."""
+    """A part of a run: its ranks, in order, and its times. `until` is None if it has no end."""
 
     ranks: Collection[int]
     since: int = 0
     until: Optional[int] = None
 
     def has(self, story: Story) -> bool:
-        """Whether something of the operation lies in the window, a wait or what never begins included."""
+        """Whether a part of the operation is in the window, also if that is only a wait, or if it never begins."""
         if story.begin is None:
             return self.until is None
         return self.meets(story.begin, story.timed.end)
 
     def sees(self, story: Story) -> bool:
-        """Whether the operation does something in the window, is stuck there, or never begins: it does not only wait."""
+        """Whether the operation does more than wait in the window: it acts there, is stuck there, or never begins."""
         if story.never:
             return self.until is None
         stuck = story.stuck_from is not None and self.meets(story.stuck_from, None)
@@ -160,7 +166,7 @@ class Window:
 
 
 def rows_of(spans: Iterable[Tuple[int, float]]) -> Iterator[int]:
-    """The first row that is free for each span of time, where these come in the order of their begins."""
+    """For each span of time, the first row that is free then. The spans are in the order of their begins."""
     taken: List[Tuple[float, int]] = []
     free: List[int] = []
     count = 0
@@ -174,7 +180,8 @@ def rows_of(spans: Iterable[Tuple[int, float]]) -> Iterator[int]:
 
 
 def stories_of(schedule: Schedule, run: Run, costs: Costs, window: Window) -> Dict[Key, Story]:
-    """The stories of the operations in a window, by key. Both have the operations of its ranks alone."""
+    """The stories, by key, of the operations in a window. The schedule and the run have only the operations of its
+    ranks."""
     for key in schedule.ops.keys() ^ run.timed.keys():
         raise Misfit(f"the run is not of this schedule: see operation {key[1]} of rank {key[0]}")
     stories = (story_of(key, schedule, run, costs) for key in schedule.ops)

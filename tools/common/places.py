@@ -1,5 +1,5 @@
-"""Where things stand in a text: lines and columns, and the items of a schedule as they are written. It takes any text, with
-faults too. Nothing of it is proved."""
+"""Places in a text: lines and columns, and the items of a schedule as they are written. It accepts any text, also one
+with faults. Nothing of it is proved."""
 from __future__ import annotations
 
 import re
@@ -11,15 +11,15 @@ TOKEN = re.compile(rb"//[^\n]*|/\*.*?\*/|[A-Za-z0-9_]+|[{}:]|[^ \t\r\n]", re.DOT
 NUMBER = re.compile(rb"[0-9]+b?")
 ACTIONS = (b"calc", b"send", b"recv")
 NEEDS, NOTES = (b"requires", b"irequires"), (b"moves", b"adds")
-# what may follow in an action after its first word, except numbers and sizes
+# The words that may follow the first word of an action, in addition to numbers and sizes.
 OPTIONS = (b"to", b"from", b"tag", b"cpu", b"nic", b"any")
-# options that say what is so without them
+# Options with their default values.
 PLAIN = re.compile(r" (?:tag|cpu|nic) 0\b")
 OPERATION, DEPENDENCY, NOTE, BLOCK = "operation", "dependency", "note", "block"
 
 
 def line_and_column(text: bytes, byte: int) -> Tuple[int, int, str]:
-    """The line and the column, from 1, of a byte, and the whole line. A column is a character."""
+    """The line and the column of a byte, both from 1, and the whole line. Columns count characters."""
     start = text.rfind(b"\n", 0, byte) + 1
     end = text.find(b"\n", byte)
     line = text[start:end if end >= 0 else len(text)]
@@ -31,7 +31,7 @@ def decoded(line: bytes) -> str:
 
 
 def tokens(text: bytes) -> Iterator[Tuple[bytes, int]]:
-    """The tokens of a schedule's text, and where each begins. Comments are none."""
+    """The tokens of a schedule's text, and the byte at which each begins. Comments are skipped."""
     for found in TOKEN.finditer(text):
         if not found[0].startswith((b"//", b"/*")):
             yield found[0], found.start()
@@ -39,8 +39,10 @@ def tokens(text: bytes) -> Iterator[Tuple[bytes, int]]:
 
 @dataclass
 class Item:
-    """An operation, a dependency or a note by its rank and its number among those there, or the block of a rank; the byte where
-    it begins, and its words, those of an operation with its label."""
+    """An operation, a dependency, a note, or the block of a rank.
+
+    `number` counts the items of its kind in the rank, from 0. `byte` is where the item begins. `words` has its words,
+    those of an operation with the label."""
 
     kind: str
     rank: int
@@ -53,11 +55,11 @@ class Item:
 
     @property
     def short(self) -> str:
-        """How it is written, without options that say what is so without them."""
+        """The item as it is written, without options that have their default values."""
         return PLAIN.sub("", str(self))
 
     def goes_on(self, word: bytes) -> bool:
-        """Whether this word belongs to it."""
+        """Whether the item continues with this word."""
         if self.kind == OPERATION:
             return word in OPTIONS or NUMBER.fullmatch(word) is not None
         return len(self.words) < {DEPENDENCY: 3, NOTE: 5, BLOCK: 2}[self.kind]
@@ -84,7 +86,8 @@ def items(text: bytes) -> Iterator[Item]:
 
 
 def started(word: bytes, byte: int, before: List[Tuple[bytes, int]], rank: int, counts: Dict[str, int]) -> Optional[Item]:
-    """The item that begins with this word, or with those before it."""
+    """The item that this word, or a label before it, begins; None if it begins none. Its number is taken from
+    `counts`."""
     if word == b"rank":
         return Item(BLOCK, rank, rank, byte, [word])
     if word in ACTIONS:
@@ -105,8 +108,8 @@ def operations(text: bytes) -> Iterator[Item]:
 
 
 class Places:
-    """Where the items of a schedule stand, for messages. A compiled file has no lines: its operations are told as `text`, the
-    canonical text, has them."""
+    """The places of the items of a schedule, for messages. A compiled file has no lines: `text` is then its canonical
+    text, and `has_lines` is False."""
 
     def __init__(self, name: str, text: bytes, has_lines: bool = True) -> None:
         self.name, self.text, self.has_lines = name, text, has_lines
@@ -115,12 +118,12 @@ class Places:
             self._found.setdefault((item.kind, item.rank, item.number), item)
 
     def at(self, byte: int) -> str:
-        """A byte as an editor names it."""
+        """The place of a byte in the form FILE:LINE:COLUMN."""
         line, column, _ = line_and_column(self.text, byte)
         return f"{self.name}:{line}:{column}"
 
     def told(self, rank: int, number: int, kind: str = OPERATION) -> Optional[str]:
-        """Where the item stands and how it is written, or None where there is none."""
+        """The place of an item and how it is written, or None if it does not exist."""
         item = self._found.get((kind, rank, number))
         if item is None:
             return None
@@ -129,7 +132,7 @@ class Places:
         return f"{place}: {what} is {item}"
 
     def item(self, rank: int, number: int, kind: str = OPERATION) -> Optional[Item]:
-        """The item as it is written, or None where there is none."""
+        """The item, or None if it does not exist."""
         return self._found.get((kind, rank, number))
 
     def label(self, rank: int, number: int) -> Optional[str]:

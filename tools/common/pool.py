@@ -1,6 +1,6 @@
-"""Processes that work in parallel, and return their results in the order of the tasks. Nothing of it is proved.
+"""A pool of processes that work in parallel and return results in the order of the tasks. Nothing of it is proved.
 
-They end with the process that began them: by `terminate`, and where it is killed, as their pipe to it closes.
+They end with the process that started them: it terminates them or, if it is killed, they end when their pipe closes.
 """
 from __future__ import annotations
 
@@ -14,14 +14,15 @@ from typing import Callable, Deque, Dict, Generic, Iterable, Iterator, List, Tup
 
 Task = TypeVar("Task")
 Found = TypeVar("Found")
-# how many tasks may be begun before the first that is not done, per process
+# The number of tasks per process that may be started, counted from the first that is not done.
 AHEAD = 256
-# what asks a process to end
+# The signals that ask a process to end.
 STOPS = (signal.SIGINT, signal.SIGTERM, signal.SIGHUP)
 
 
 class Pool(Generic[Task, Found]):
-    """`jobs` processes that do `work`. If the process of a task is killed, `lost` gives its result."""
+    """A pool of `jobs` processes that do `work`. If the process of a task is killed, the result of the task is
+    `lost`."""
 
     def __init__(self, work: Callable[[Task], Found], lost: Found, jobs: int, folder: str) -> None:
         self.work, self.lost, self.folder = work, lost, folder
@@ -30,7 +31,7 @@ class Pool(Generic[Task, Found]):
         self.jobs = jobs
 
     def _begin(self) -> None:
-        """Begins a process that waits for a task."""
+        """Starts a process that waits for a task."""
         ours, its = connection.Pipe()
         before = [*self.workers, ours]
         words = (self.work, its, before, self.folder)
@@ -43,7 +44,7 @@ class Pool(Generic[Task, Found]):
         self.idle.append(ours)
 
     def map(self, tasks: Iterable[Task]) -> Iterator[Found]:
-        """What is found for each task, in their order, each as soon as it and those before it are there."""
+        """The results of the tasks, in their order. Each is returned as soon as it and all earlier ones exist."""
         rest = iter(enumerate(tasks))
         found: Dict[int, Found] = {}
         order: Deque[int] = deque()
@@ -70,7 +71,7 @@ class Pool(Generic[Task, Found]):
                 yield found.pop(order.popleft())
 
     def _answers(self, pipes: List[connection.Connection]) -> Iterator[Tuple[connection.Connection, Found]]:
-        """The answers that have come; it waits for the first."""
+        """The results that have arrived. Waits for the first one."""
         for pipe in connection.wait(pipes):
             assert isinstance(pipe, connection.Connection)
             try:
@@ -83,7 +84,7 @@ class Pool(Generic[Task, Found]):
             yield pipe, answer
 
     def end(self) -> None:
-        """Ends all processes and what they have begun."""
+        """Ends all processes and the processes that they started."""
         for worker in self.workers.values():
             worker.terminate()
         for worker in self.workers.values():
@@ -92,7 +93,8 @@ class Pool(Generic[Task, Found]):
 
 def serve(work: Callable[[Task], Found], pipe: connection.Connection, others: List[connection.Connection],
           folder: str) -> None:
-    """Does tasks until there are no more. An interrupt is for the process that began this one."""
+    """The main loop of a process of the pool: does tasks until the pipe closes. It ignores interrupts, which the
+    process that started it handles."""
     os.setpgid(0, 0)
     signal.signal(signal.SIGINT, signal.SIG_IGN)
     signal.signal(signal.SIGTERM, leave)
@@ -109,5 +111,5 @@ def serve(work: Callable[[Task], Found], pipe: connection.Connection, others: Li
 
 
 def leave(*_: object) -> None:
-    """Ends this process and what it has begun, which is its process group."""
+    """Kills the process group of this process: itself and the processes that it started."""
     os.killpg(0, signal.SIGKILL)

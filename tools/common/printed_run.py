@@ -1,4 +1,4 @@
-"""Reads the run that `goal sim` or `goal nodes` has printed. Nothing of it is proved."""
+"""Reads a run that `goal sim` or `goal nodes` has printed. Nothing of it is proved."""
 import re
 from dataclasses import dataclass, field
 from typing import Container, Dict, Iterable, List, Optional, Tuple
@@ -9,7 +9,7 @@ NUMBER = re.compile("[0-9]{1,20}")
 
 @dataclass(frozen=True)
 class Timed:
-    """An operation of a run: its times in nanoseconds and its partner, each None where the run has none."""
+    """An operation of a run: its times in nanoseconds and its partner, each None if it has none."""
 
     start: Optional[int]
     end: Optional[int]
@@ -18,7 +18,7 @@ class Timed:
 
 @dataclass
 class Run:
-    """The first line of a run, and its operations and reasons by (rank, number)."""
+    """A run: the numbers of its first line, and by (rank, number) its operations and why stuck operations are stuck."""
 
     ranks: int
     ops: int
@@ -30,11 +30,11 @@ class Run:
 
 
 class NoRun(ValueError):
-    """What was read is no printed run."""
+    """The text is not a printed run."""
 
 
 def first_line(line: str) -> Run:
-    """The run that a first line tells, without its operations."""
+    """The run of a first line, without operations."""
     words = line.split()
     if words[::2] != ["ranks", "ops", "stuck", "unread", "finish"] or not all(NUMBER.fullmatch(word) for word in words[1::2]) or len(words) != 10:
         raise NoRun("no first line `ranks P ops N stuck K unread U finish T`")
@@ -43,11 +43,12 @@ def first_line(line: str) -> Run:
 
 
 def moment(word: str) -> Optional[int]:
+    """The time that a word of a run gives, or None for `-`."""
     return None if word == "-" else int(word)
 
 
 def read_run(lines: Iterable[str], ranks: Optional[Container[int]] = None) -> Run:
-    """The run that the lines tell; with `ranks`, the operations of these alone."""
+    """The run that these lines print. With `ranks`, it has only the operations of these ranks."""
     lines = iter(lines)
     run = first_line(next(lines, ""))
     for at, line in enumerate(lines, 2):
@@ -68,6 +69,6 @@ def read_run(lines: Iterable[str], ranks: Optional[Container[int]] = None) -> Ru
 
 
 def timed_of(words: List[str]) -> Timed:
-    """From `op R I KIND start A end B [match Q J]`."""
+    """The operation of a line `op R I KIND start A end B [match Q J]`."""
     partner = (int(words[9]), int(words[10])) if len(words) == 11 else None
     return Timed(moment(words[5]), moment(words[7]), partner)

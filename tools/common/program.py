@@ -14,20 +14,21 @@ from typing import Sequence
 from common.command import Fault
 
 DONE, STUCK, REFUSED, NOT_CERTIFIED = 0, 1, 3, 6
-# the words KIND of `goal gen` and `goal certify`, and those of them that take a root
+# The values of KIND of `goal gen` and `goal certify`, and those that take a root.
 KINDS = ("bcast", "barrier", "allgather", "allreduce", "alltoall", "reduce", "gather", "scatter", "reduce_scatter", "scan")
 ROOTED = ("bcast", "reduce", "gather", "scatter")
-# how many digits name a version
+# The number of digits of a version.
 DIGITS = 12
 TOP = os.path.dirname(os.path.dirname(os.path.dirname(os.path.abspath(__file__))))
 BESIDE = os.path.join(TOP, "goal")
-# It says whether the program beside the tools is proved. An installation does not have it, since `./install` has asked it.
+# This script finds out whether the program beside the tools is proved. An installation does not have it: `./install` has
+# already run it.
 ANSWER = os.path.join(TOP, "launch", "answer.py")
 
 
 @dataclass(frozen=True)
 class Answer:
-    """How a call ended: the status, what went to standard output, and the line on standard error."""
+    """How a call ended: its exit status, standard output, and standard error without trailing newlines."""
 
     status: int
     out: str
@@ -41,27 +42,27 @@ def add_option(parser: argparse.ArgumentParser) -> None:
 
 
 def chosen(path: str | None = None) -> str:
-    """The program: the one with this path, else that of GOAL, else the one beside the folder of the tools: if it is proved, itself, so
-    that its launcher is asked once and not by each call."""
+    """The program: this path, or else $GOAL, or else the program that belongs to these tools. If that is proved, it is
+    the proved program itself and not its launcher, which would check the sources at each call."""
     return path or os.environ.get("GOAL") or proved() or BESIDE
 
 
 @lru_cache(maxsize=None)
 def proved() -> str | None:
-    """The path of the proved program, if it is proved; it is asked for once. With GOAL_PROVED=1
-    this waits for its proof. `./install` has installed a proved one alone."""
+    """The path of the proved program of these tools, or None if it is not proved; looked up once. With GOAL_PROVED=1,
+    it waits for the proof. An installed program is always proved."""
     found = BESIDE
     if os.path.exists(ANSWER):
         words = [sys.executable, "-B", ANSWER, "--where"]
         found = subprocess.run(words, stdout=subprocess.PIPE, check=False).stdout.decode("utf-8", "surrogateescape").rstrip("\n")
     if found:
-        # (large pages, as the launcher asks for them)
+        # (huge pages, for which the launcher also asks)
         os.environ.setdefault("GLIBC_TUNABLES", "glibc.malloc.hugetlb=1")
     return found or None
 
 
 def call(program: str, words: Sequence[str], text: str | None = None) -> Answer:
-    """What the program answers to these words. A text that is given is its standard input: name it `/dev/stdin`."""
+    """Calls the program with these words. A given text is its standard input, which the words name as `/dev/stdin`."""
     try:
         done = subprocess.run([program, *words], input=text, capture_output=True, encoding="utf-8", errors="replace", check=False)
     except OSError as error:
@@ -70,7 +71,7 @@ def call(program: str, words: Sequence[str], text: str | None = None) -> Answer:
 
 
 def expect(answer: Answer, *statuses: int) -> Answer:
-    """The answer, where its status is one of these; else a Fault with what the program says."""
+    """The answer, if it has one of these statuses. Otherwise raises a Fault with the message of the program."""
     if answer.status not in statuses:
         said = answer.err.splitlines()[-1] if answer.err else f"it ended with status {answer.status}"
         raise Fault(said if said.startswith("goal: ") else f"goal: {said}")
@@ -79,8 +80,8 @@ def expect(answer: Answer, *statuses: int) -> Answer:
 
 @lru_cache(maxsize=None)
 def version(path: str) -> str:
-    """What distinguishes this program from others: the first digits of the SHA-256 of its file, or of the sources where
-    the launcher of a checkout is called."""
+    """The version of a program: the first digits of the SHA-256 of its file or, if it is the launcher of a checkout, of
+    the sources."""
     if os.path.exists(ANSWER) and os.path.realpath(path) == os.path.realpath(BESIDE):
         code = "import sys; sys.path.insert(0, sys.argv[1]); import sources; print(sources.digest())"
         words = [sys.executable, "-B", "-c", code, os.path.join(TOP, "launch")]

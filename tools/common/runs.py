@@ -1,4 +1,4 @@
-"""The runs of a sweep: makes the schedule of each point once, and collects the results. Nothing of it is proved."""
+"""The runs of a sweep: makes each schedule once, runs all points, and collects the results. Nothing of it is proved."""
 from __future__ import annotations
 
 import contextlib
@@ -27,7 +27,7 @@ SEND = re.compile(r": send (\d+)b")
 RANK_OR_SEND = re.compile(r"^rank (\d+)|: send (\d+)b to (\d+)", re.MULTILINE)
 CALC = re.compile(r"(?<=: calc )\d+")
 LOST = "its process was killed: is there too little memory?"
-# the columns of shares of the finish, in ns
+# The columns with the shares of the finish, in ns.
 SHARES = tuple(f"share_{name}" for name in NAMES)
 Time = Union[int, Decimal, str]
 Key = Tuple[str, ...]
@@ -35,7 +35,7 @@ Key = Tuple[str, ...]
 
 @dataclass(frozen=True)
 class Result:
-    """The results of a run, or why there are none."""
+    """The results of a run, or the reason (`fault`) why there are none."""
 
     finish: Time = ""
     stuck: Union[int, str] = ""
@@ -45,15 +45,17 @@ class Result:
     shares: Dict[str, Time] = field(default_factory=dict)
 
     def columns(self) -> Dict[str, str]:
-        """What it has for the columns of a table."""
+        """The values for the columns of a table."""
         found = {"finish": self.finish, "stuck": self.stuck, "wait": self.wait, **self.shares, "protocol": self.protocol}
         return {name: str(value) for name, value in found.items()}
 
 
 @dataclass
 class Asked:
-    """What all runs of a sweep have in common: the program, by what times are multiplied, whether the greatest wait
-    and the shares are asked for, the folder for files, and the schedules that come from standard input."""
+    """What all runs of a sweep have in common.
+
+    `scale` is the factor for all times. `wait` and `shares` say whether the greatest wait and the shares are wanted.
+    `folder` is the folder for files. `texts` has the schedules that come from standard input."""
 
     goal: str
     scale: int
@@ -63,7 +65,7 @@ class Asked:
     texts: Dict[str, str] = field(default_factory=dict)
 
     def take_standard_input(self, points: Iterable[Point]) -> None:
-        """Reads what is standard input before the processes begin, which have another."""
+        """Reads standard input, if a point needs it, before the processes start: they have another standard input."""
         for name in {point.get("schedule", "") for point in points}:
             if command.source(name) == command.STANDARD_INPUT:
                 self.texts[name] = schedule_of(name, self.goal)[1] or ""
@@ -78,7 +80,7 @@ def key_of(point: Point) -> Key:
 
 
 class Runs:
-    """The runs of points, side by side. The file of a schedule is removed after its last run."""
+    """Runs points in parallel. The file of a schedule is removed after its last run."""
 
     def __init__(self, asked_for: Asked, jobs: int) -> None:
         self.asked = asked_for
@@ -89,7 +91,7 @@ class Runs:
         return result_of(self.asked, *task)
 
     def of(self, points: Sequence[Point]) -> Iterator[Result]:
-        """The results of points, in their order, each as soon as it is there."""
+        """The results of the points, in their order, each as soon as it and all earlier ones exist."""
         left = Counter(map(key_of, points))
         tasks = ((self._path(key_of(point)), point) for point in points)
         for point, result in zip(points, self.pool.map(tasks)):
@@ -107,7 +109,7 @@ class Runs:
 
 @contextlib.contextmanager
 def running(asked_for: Asked, jobs: int) -> Iterator[Runs]:
-    """Runs whose processes end with this block, also after an exception."""
+    """Runs whose processes end with the `with` block, also after an exception."""
     runs = Runs(asked_for, jobs)
     try:
         yield runs
@@ -122,7 +124,7 @@ def remove_schedule(path: str) -> None:
 
 
 def result_of(asked_for: Asked, path: str, point: Point) -> Result:
-    """The run of a point, whose schedule has this file."""
+    """Runs a point. The file of its schedule has this path."""
     try:
         make_once(asked_for, path, point)
         if "machine" in point:
@@ -137,7 +139,8 @@ def result_of(asked_for: Asked, path: str, point: Point) -> Result:
 
 
 def make_once(asked_for: Asked, path: str, point: Point) -> None:
-    """Makes the file of a schedule, where no process has; all others wait for it. It fails for all if it fails once."""
+    """Makes the file of a schedule unless it exists. Other processes that need it wait. If making it fails, it fails
+    for all of them."""
     if os.path.exists(path):
         return
     with open(path + ".lock", "w", encoding="utf-8") as lock:
@@ -153,7 +156,7 @@ def make_once(asked_for: Asked, path: str, point: Point) -> None:
 
 
 def make(asked_for: Asked, path: str, point: Point) -> None:
-    """Makes a schedule, and keeps its compiled file, and the sizes of its messages."""
+    """Makes a schedule. Writes its compiled file, and a file with the sizes of its messages."""
     made = schedule_text(asked_for, point)
     write_out("".join(f"{line}\n" for line in sizes_of(made, "machine" in point)), path + ".sizes")
     write_out(scaled(made, asked_for.scale), path + ".text")
@@ -163,7 +166,7 @@ def make(asked_for: Asked, path: str, point: Point) -> None:
 
 
 def schedule_text(asked_for: Asked, point: Point) -> str:
-    """The canonical text of a schedule."""
+    """The canonical text of the schedule of a point."""
     if "schedule" in point:
         name = point["schedule"]
         shown = program.call(asked_for.goal, ["show", command.source(name)], asked_for.texts.get(name))
@@ -181,7 +184,8 @@ def schedule_text(asked_for: Asked, point: Point) -> str:
 
 
 def sizes_of(text: str, by_pair: bool) -> List[str]:
-    """The least and the greatest size of the messages in a text; of those between each two ranks, if that is wanted."""
+    """The least and the greatest size of the messages in a text as a line, or with `by_pair` as a line for each pair of
+    ranks."""
     if not by_pair:
         sizes = [int(size) for size in SEND.findall(text)]
         return [f"0 0 {min(sizes)} {max(sizes)}"] if sizes else []
@@ -198,7 +202,7 @@ def sizes_of(text: str, by_pair: bool) -> List[str]:
 
 
 def scaled(text: str, scale: int) -> str:
-    """The text with its calcs `scale` times as long."""
+    """The text of a schedule with its calcs `scale` times as long."""
     if scale == 1:
         return text
     if any(int(nanos) * scale > MOST_CALC for nanos in CALC.findall(text)):
@@ -207,7 +211,8 @@ def scaled(text: str, scale: int) -> str:
 
 
 def protocol_of(path: str, most_eager: int, machine: Optional[Machine] = None) -> str:
-    """How the messages of a schedule are sent: eager up to `most_eager` bytes, or up to S of their class."""
+    """How the messages of a schedule are sent: `eager`, `rendezvous` or `both`. Messages are eager up to `most_eager`
+    bytes or, on a machine, up to S of their class."""
     found: Set[bool] = set()
     with open(path + ".sizes", encoding="utf-8") as file:
         for line in file:
@@ -218,7 +223,7 @@ def protocol_of(path: str, most_eager: int, machine: Optional[Machine] = None) -
 
 
 def unscaled(time: int, scale: int) -> Time:
-    """A time in ns, of one that is `scale` times as long."""
+    """The time in ns of a time that is `scale` times as long."""
     exact = Decimal(time) / scale
     return int(exact) if exact == int(exact) else exact.normalize()
 
@@ -246,7 +251,7 @@ def run_with_parameters(asked_for: Asked, path: str, point: Point) -> Result:
 
 
 def shares_in(whole: Whole, scale: int) -> Dict[str, Time]:
-    """The columns of shares of a run."""
+    """The values for the columns with the shares of the finish of a run."""
     return {f"share_{name}": unscaled(nanos, scale) for name, nanos in shares_by_name(whole).items()}
 
 

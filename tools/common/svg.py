@@ -6,18 +6,18 @@ from contextlib import contextmanager
 from typing import Any, Iterable, Iterator, Optional, Sequence, Tuple, Union
 
 FONT = "Helvetica, Arial, 'DejaVu Sans', sans-serif"
-# What letters take of the font's size, for room: an average, as no font is at hand to ask.
+# Characters that are narrower or wider than the average. Widths are estimates, since no font is available.
 NARROW, WIDE = "ijlt.,:;|!'() frI", "mwMW@%→·"
 
 
-# (xml.sax.saxutils has these too, but importing it takes as long as the rest of a tool)
+# (xml.sax.saxutils has the next two functions, but importing it takes as long as the rest of a tool)
 def escaped(text: str) -> str:
-    """The text as it is written between two tags."""
+    """The text escaped for use between two tags."""
     return text.replace("&", "&amp;").replace(">", "&gt;").replace("<", "&lt;")
 
 
 def quoted(text: str) -> str:
-    """The text as the value of an attribute, in quotes."""
+    """The text escaped and quoted as the value of an attribute."""
     return '"' + escaped(text).replace('"', "&quot;") + '"'
 
 
@@ -29,12 +29,12 @@ def number(value: float) -> str:
 
 
 def text_width(text: str, size: float) -> float:
-    """About how many pixels a text of this size takes."""
+    """The estimated width of a text in pixels, at this font size."""
     return size * sum(0.34 if c in NARROW else 0.9 if c in WIDE else 0.58 for c in text)
 
 
 def longest_fit(texts: Iterable[str], room: float, size: float) -> str:
-    """The first of the texts that has room, or none."""
+    """The first of the texts that fits into `room` pixels, or the empty text."""
     return next((text for text in texts if text_width(text, size) <= room), "")
 
 
@@ -51,10 +51,10 @@ class Drawing:
         ]
 
     def shape(self, name: str, note: Optional[str] = None, text: Optional[str] = None, **attributes: Any) -> None:
-        """A shape of this name. An underscore in an attribute's name stands for a hyphen."""
-        told = "".join(f" {key.replace('_', '-')}={self.value(value)}" for key, value in attributes.items() if value is not None)
+        """Adds the element with this name. Underscores in the names of attributes become hyphens."""
+        given = "".join(f" {key.replace('_', '-')}={self.value(value)}" for key, value in attributes.items() if value is not None)
         inner = (f"<title>{escaped(note)}</title>" if note else "") + (escaped(text) if text else "")
-        self.lines.append(f"<{name}{told}>{inner}</{name}>" if inner else f"<{name}{told}/>")
+        self.lines.append(f"<{name}{given}>{inner}</{name}>" if inner else f"<{name}{given}/>")
 
     @staticmethod
     def value(value: Union[str, float]) -> str:
@@ -70,26 +70,26 @@ class Drawing:
         self.shape("text", text=text, x=x, y=y, font_size=size, fill=fill, **attributes)
 
     def path(self, points: Sequence[Tuple[float, float]], stroke: str, **attributes: Any) -> None:
-        """A line through the points."""
-        told = "M" + "L".join(f"{number(x)} {number(y)}" for x, y in points)
-        self.shape("path", d=told, stroke=stroke, fill="none", **attributes)
+        """Adds a line through the points."""
+        commands = "M" + "L".join(f"{number(x)} {number(y)}" for x, y in points)
+        self.shape("path", d=commands, stroke=stroke, fill="none", **attributes)
 
     @contextmanager
     def group(self, note: Optional[str] = None, **attributes: Union[str, float]) -> Iterator[None]:
-        told = "".join(f" {key.replace('_', '-')}={self.value(value)}" for key, value in attributes.items())
-        self.lines.append(f"<g{told}>" + (f"<title>{escaped(note)}</title>" if note else ""))
+        given = "".join(f" {key.replace('_', '-')}={self.value(value)}" for key, value in attributes.items())
+        self.lines.append(f"<g{given}>" + (f"<title>{escaped(note)}</title>" if note else ""))
         yield
         self.lines.append("</g>")
 
     def arrow_head(self, name: str, colour: str) -> None:
-        """The head of arrows whose `marker_end` is `url(#name)`."""
+        """Defines an arrow head, for lines whose `marker_end` is `url(#name)`."""
         self.lines.append(
             f'<marker id="{name}" viewBox="0 0 8 8" refX="7" refY="4" markerWidth="7" markerHeight="7"'
             f' markerUnits="userSpaceOnUse" orient="auto"><path d="M0 0.8L8 4L0 7.2z" fill="{colour}"/></marker>'
         )
 
     def window(self, name: str, x: float, y: float, width: float, height: float) -> None:
-        """What has `clip_path="url(#name)"` is drawn within this rectangle alone."""
+        """Defines a clipping rectangle. Shapes with `clip_path="url(#name)"` are drawn only inside it."""
         self.lines.append(
             f'<clipPath id="{name}"><rect x="{number(x)}" y="{number(y)}" width="{number(width)}"'
             f' height="{number(height)}"/></clipPath>'

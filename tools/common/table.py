@@ -1,4 +1,4 @@
-"""The table of a sweep, as CSV: rows that are written as they come, and read again. Nothing of it is proved."""
+"""The table of a sweep as CSV: writes rows as they are computed, and reads them again. Nothing of it is proved."""
 from __future__ import annotations
 
 import csv
@@ -16,7 +16,7 @@ from common.grid import Point
 from common.runs import SHARES, Result
 
 Row = Dict[str, str]
-# the columns of what comes out of a run, in their order: some only on request
+# The columns with results of a run, in their order. Some are present only on request.
 RESULTS = ("finish", "stuck", "wait", *SHARES, "protocol")
 
 
@@ -28,7 +28,7 @@ def line_of(fields: Iterable[object]) -> str:
 
 
 class Table:
-    """The columns of a sweep: its axes, its results and, where the rows are kept, the version of the program."""
+    """The columns of a sweep: its axes, its results and, if the rows are kept in a file, the version of the program."""
 
     def __init__(self, axes: Iterable[str], wait: bool, shares: bool, version: str = "") -> None:
         self.axes = list(axes)
@@ -42,12 +42,12 @@ class Table:
         return {name: values.get(name, "") for name in self.columns}
 
     def point(self, row: Row) -> Tuple[str, ...]:
-        """What tells the point of a row from others."""
+        """The values of the axes in a row, which identify its point."""
         return tuple(row[axis] for axis in self.axes)
 
 
 class Output:
-    """Standard output, or a file to whose end rows are added. Each row is written when it is known."""
+    """Standard output, or a file to which rows are appended. Each row is written at once."""
 
     def __init__(self, table: Table, file: Optional[IO[str]] = None) -> None:
         self.table, self.file = table, file or sys.stdout
@@ -73,7 +73,7 @@ class Output:
 
 
 def opened(path: str) -> IO[str]:
-    """A file to read and add to, which no other sweep has open."""
+    """Opens a file to read and append to. Refuses it if another sweep has it open."""
     try:
         file = open(path, "a+", encoding="utf-8", newline="")
         fcntl.flock(file, fcntl.LOCK_EX | fcntl.LOCK_NB)
@@ -87,7 +87,7 @@ def opened(path: str) -> IO[str]:
 
 
 def rows_kept(table: Table, points: Sequence[Point], file: IO[str]) -> List[Row]:
-    """The rows that a file has: those of the first points. What follows its last whole line is cut off."""
+    """The rows of a file, which are those of the first points. Removes an incomplete last line from the file."""
     file.seek(0)
     text = file.read()
     whole = text[: text.rfind("\n") + 1]
@@ -135,8 +135,8 @@ def check_axes(table: Table, where: str, row: Row, point: Point) -> None:
 
 
 def gathered(table: Table, points: Sequence[Point], paths: Iterable[str]) -> List[Optional[Row]]:
-    """The rows that are in these files, in any order, for each point; none where it is missing. What follows the last
-    whole line of a file is left out."""
+    """For each point, its row in these files, or None if it is missing. The files may have the rows in any order. An
+    incomplete last line of a file is ignored."""
     places = {tuple(point[axis] for axis in table.axes): place for place, point in enumerate(points)}
     rows: List[Optional[Row]] = [None] * len(points)
     version = ""
@@ -162,7 +162,7 @@ def gathered(table: Table, points: Sequence[Point], paths: Iterable[str]) -> Lis
 
 
 def ranges_of(numbers: Iterable[int], most: int) -> Iterator[Tuple[int, int]]:
-    """Rising numbers as ranges of at most `most` that follow one another."""
+    """Rising numbers as ranges of successive numbers, with at most `most` numbers each."""
     first = last = -1
     for number in numbers:
         if first >= 0 and number == last + 1 and number - first < most:
@@ -180,7 +180,7 @@ def range_text(first: int, last: int) -> str:
 
 
 class Progress:
-    """A line on a terminal that says how far it is. Rows may go to the same terminal."""
+    """A line with the progress, if standard error is a terminal. Rows may go to the same terminal."""
 
     def __init__(self, done: int, count: int) -> None:
         self.first = self.done = done
@@ -188,14 +188,14 @@ class Progress:
         self.is_on = sys.stderr.isatty()
 
     def clear(self) -> None:
-        """Makes room for a row."""
+        """Removes the line, to make room for a row."""
         if self.is_on and self.width and sys.stdout.isatty():
             sys.stderr.write("\r" + " " * self.width + "\r")
             sys.stderr.flush()
             self.width = 0
 
     def step(self) -> None:
-        """One more is done."""
+        """Counts another run as done, and shows the progress."""
         self.done += 1
         now = time.monotonic()
         if not self.is_on or (now - self.shown < 0.1 and self.done < self.count):
@@ -210,7 +210,7 @@ class Progress:
 
 
 def duration(seconds: float) -> str:
-    """A time in the units that a person would say."""
+    """A duration in a unit that fits: seconds, minutes, or hours and minutes."""
     minutes = round(seconds / 60)
     if seconds < 90:
         return f"{max(1, round(seconds))} s"

@@ -1,4 +1,4 @@
-"""Runs of a schedule with other values of one parameter: the finish that each gives. Nothing of it is proved."""
+"""Runs a schedule with other values of one parameter, to find the finish for each. Nothing of it is proved."""
 from __future__ import annotations
 
 import tempfile
@@ -17,7 +17,7 @@ PICOS = 1000
 
 @dataclass(frozen=True)
 class Knob:
-    """A parameter of a class of messages, with its value: in ns, in bytes of S, in ps per byte of G and O."""
+    """A parameter of a class of messages, with its value: S in bytes, G and O in ps per byte, all others in ns."""
 
     name: str
     number: int
@@ -28,11 +28,11 @@ class Knob:
         return LIMITS[self.name] * PICOS + PICOS - 1 if self.name in RATES else LIMITS[self.name]
 
     def text(self, value: int) -> str:
-        """A value as it is written for goal: a rate in ns per byte."""
+        """A value as text. A rate is in ns per byte."""
         return f"{value // PICOS}.{value % PICOS:03}" if self.name in RATES else str(value)
 
     def around(self) -> List[int]:
-        """Values around the one that it has."""
+        """Values around the present one, and that one."""
         at = self.value
         found = {0, at // 2, at - at // 10, at - 1, at, at + 1, at + at // 10, 2 * at} if at else {0, 1, 10, 100, 1000}
         return sorted(value for value in found if 0 <= value <= self.most)
@@ -44,12 +44,13 @@ def value_of(costs: Parameters, name: str) -> int:
 
 
 def changed(costs: Parameters, name: str, value: int) -> Parameters:
-    """The same with one value changed."""
+    """The same parameters with one value changed. A rate is in ps per byte."""
     return replace(costs, **({name: value // PICOS, RATES[name]: value % PICOS} if name in RATES else {name: value}))
 
 
 class Reruns:
-    """The finish of a schedule for values of a knob; None if an operation is stuck or goal refuses the value."""
+    """The finish of a schedule for other values of a parameter; None if an operation is stuck or goal refuses the
+    value."""
 
     def __init__(self, whole: Whole) -> None:
         self.whole = whole
@@ -58,7 +59,7 @@ class Reruns:
         self.seen: Dict[Knob, Dict[int, Optional[int]]] = {}
 
     def knobs(self, names: str) -> List[Knob]:
-        """The parameters of these names, of the classes that some message has."""
+        """The parameters with these names, for each class that some message has."""
         used = {self.whole.costs.between(key[0], int(op.peer)) for key, op in self.whole.schedule.ops.items() if op.kind == "send"}
         return [Knob(name, number, value_of(costs, name)) for number, costs in enumerate(self.classes) if costs in used for name in names]
 
@@ -79,13 +80,13 @@ class Reruns:
             return finish_of(program.call(whole.goal, ["nodes", whole.source, file.name], whole.text))
 
     def is_monotone(self, knob: Knob) -> bool:
-        """Whether, in the runs so far, no greater value gave a lesser finish."""
+        """Whether in all runs so far a greater value never gave an earlier finish."""
         found = [finish for _, finish in sorted(self.seen.get(knob, {}).items()) if finish is not None]
         return found == sorted(found)
 
 
 def finish_of(answer: program.Answer) -> Optional[int]:
-    """The finish, or none where something is stuck or the budget is too great."""
+    """The finish of an answer; None if an operation is stuck or the budget is exceeded."""
     if answer.status == program.REFUSED and "budget" in answer.err:
         return None
     program.expect(answer, program.DONE, program.STUCK)
@@ -94,7 +95,8 @@ def finish_of(answer: program.Answer) -> Optional[int]:
 
 
 def curve(reruns: Reruns, knob: Knob) -> List[Tuple[int, Optional[int]]]:
-    """The finish at values around a knob's own; of S with all messages eager, and with none."""
+    """The finish at values around the present one. For S: at the present value, with no eager messages, and with only
+    eager ones."""
     values = knob.around()
     if knob.name == "S":
         values = sorted({0, knob.value, max(reruns.whole.schedule.sizes.values(), default=0)})
@@ -103,7 +105,8 @@ def curve(reruns: Reruns, knob: Knob) -> List[Tuple[int, Optional[int]]]:
 
 @dataclass(frozen=True)
 class Reached:
-    """A value with a finish of at most the wanted one; at the next one it is over it, or `past` is None where there is none."""
+    """A value whose finish is at most the wanted one. `past` is the next value, whose finish exceeds it; None if
+    `value` is the greatest possible."""
 
     value: int
     finish: int

@@ -1,4 +1,4 @@
-"""Loads a whole run of a schedule with the causes of its times, for `path` and other tools. Nothing of it is proved."""
+"""Loads a whole run of a schedule with the causes of its times, for tools such as `path`. Nothing of it is proved."""
 from __future__ import annotations
 
 import argparse
@@ -19,7 +19,7 @@ from common.printed_run import Run, Timed, read_run
 
 
 def add_whole_words(parser: argparse.ArgumentParser) -> None:
-    """Adds the arguments that choose a run, for tools that read all of it."""
+    """Adds the arguments that choose a run, for tools that read the whole run."""
     parser.add_argument("name", metavar="NAME",
                         help="the schedule: a text or a compiled file (- is standard input, also for --run and "
                              "--machine)")
@@ -34,9 +34,10 @@ def add_whole_words(parser: argparse.ArgumentParser) -> None:
 @dataclass
 class Whole:
     """A run of a schedule. If the ranks of a node share cards, it is a run of the folded schedule (tools/fold), and
-    `names` has the rank and number of each operation in the schedule of the user. The program reads the file
-    `source`, and `text` as its standard input, if there is one. `shown` is the canonical text of the schedule of the
-    user."""
+    `names` has the rank and number of each operation in the original schedule.
+
+    The program reads the file `source`, and `text`, if there is one, as its standard input. `shown` is the canonical
+    text of the original schedule."""
 
     goal: str
     source: str
@@ -58,21 +59,21 @@ class Whole:
 
     @property
     def ranks(self) -> int:
-        """The ranks of the schedule of the user."""
+        """The number of ranks of the original schedule."""
         return rank_count(self.shown[0])
 
     def named(self, key: Key) -> Key:
-        """The rank and the number of an operation in the schedule of the user."""
+        """The rank and the number of an operation in the original schedule."""
         return self.names.get(key, key)
 
     def key_of(self, name: Key) -> Key:
-        """The operation that has this rank and number there."""
+        """The operation that has this rank and number in the original schedule."""
         return {old: new for new, old in self.names.items()}.get(name, name)
 
 
 def load_whole(arguments: argparse.Namespace, wanted: Optional[Key] = None) -> Whole:
-    """The run that the arguments ask for. Wrong arguments, such as an operation that does not exist, are found before
-    the run starts."""
+    """The run that the arguments ask for. Wrong arguments, such as an operation `wanted` that does not exist, are
+    refused before the run starts."""
     try:
         options = given_options(arguments)
         check_sources(arguments, options)
@@ -92,17 +93,17 @@ def whole_of(
     goal: str, source: str, text: Optional[str], options: Dict[str, int], lines: List[str], costs: Costs, cards: Cards,
     shown: Optional[List[str]] = None
 ) -> Whole:
-    """The whole of a printed run. On a machine, ranks share these cards. `shown` is the canonical text, if it is
+    """The `Whole` of a printed run. On a machine, the ranks share these cards. `shown` is the canonical text, if it is
     known."""
     run, shown = read_run(lines), shown or shown_by(goal, source, text)
     if not cards.count or not isinstance(costs, Machine):
-        return Whole(goal, source, text, options, *told(read_canonical(shown, with_notes=False), run, costs), {}, shown)
+        return Whole(goal, source, text, options, *with_stories(read_canonical(shown, with_notes=False), run, costs), {}, shown)
     folded = folding.Fold(read_canonical(shown, with_notes=False), costs, cards)
     text = "".join(folded.text())
     schedule = read_canonical(shown_by(goal, STANDARD_INPUT, text))
     names = {new: old for old, new in folded.new_key.items()}
     run = rekeyed(run, folded.new_key)
-    return Whole(goal, STANDARD_INPUT, text, options, *told(schedule, run, folded.folded_machine()), names, shown)
+    return Whole(goal, STANDARD_INPUT, text, options, *with_stories(schedule, run, folded.folded_machine()), names, shown)
 
 
 def shown_by(goal: str, source: str, text: Optional[str]) -> List[str]:
@@ -111,17 +112,17 @@ def shown_by(goal: str, source: str, text: Optional[str]) -> List[str]:
 
 
 def cards_of_machine(name: Optional[str]) -> Cards:
-    """The cards that the nodes of a machine have by its description."""
+    """The cards that the description of a machine gives to its nodes."""
     return (cluster_of(name, text_of(name)).cards if name is not None else None) or Cards()
 
 
-def told(schedule: Schedule, run: Run, costs: Costs) -> Tuple[Schedule, Run, Costs, Dict[Key, Story]]:
-    """A run with its stories."""
+def with_stories(schedule: Schedule, run: Run, costs: Costs) -> Tuple[Schedule, Run, Costs, Dict[Key, Story]]:
+    """A schedule, its run and its costs, and the stories of all operations."""
     return schedule, run, costs, stories_of(schedule, run, costs, Window(range(run.ranks)))
 
 
 def rekeyed(run: Run, new_key: Dict[Key, Key]) -> Run:
-    """A run in the ranks and numbers of the folded schedule."""
+    """A run translated to the ranks and numbers of the folded schedule."""
     timed = {new_key[key]: Timed(it.start, it.end, it.partner and new_key[it.partner]) for key, it in run.timed.items()}
     reasons = {}
     for key, reason in run.reasons.items():
@@ -134,14 +135,15 @@ def rekeyed(run: Run, new_key: Dict[Key, Key]) -> Run:
 
 
 def timed_chain(whole: Whole) -> List[Tuple[int, Key]]:
-    """The actions of the chain of causes to the last end, each with its time and its operation in the schedule of the user."""
+    """The actions on the chain of causes to the last end: for each its time, and its operation in the original
+    schedule."""
     last = last_end(whole.causes)
     steps = chain_to(whole.causes, end_of(last)) if last else []
     return [(step.time, whole.named(step.action[1])) for step in steps]
 
 
 def shares_by_name(whole: Whole) -> Dict[str, int]:
-    """How many ns of the finish each parameter takes, on the chain of causes to the last end. They add up to it."""
+    """The share in ns of each parameter on the chain of causes to the last end. The shares add up to the finish."""
     found = dict.fromkeys(NAMES, 0)
     last = last_end(whole.causes)
     for share in shares_of(chain_to(whole.causes, end_of(last))) if last else []:
