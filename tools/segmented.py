@@ -1,4 +1,4 @@
-"""Certifies the segments of a collective one by one, by exchanging slot numbers. Nothing of it is proved."""
+"""Certifies each segment of a collective separately, by exchanging slot numbers. Nothing of it is proved."""
 from __future__ import annotations
 
 import re
@@ -11,7 +11,8 @@ from common.order import order_of, senders_of
 
 NOTE = re.compile(r"^(l\d+) (moves|adds) (\d+) to (\d+)$", re.MULTILINE)
 SLOT = re.compile(r"slot (\d+)$")
-# Faults that concern one segment alone (all others concern all segments); faults with which `certify` does not judge.
+# The faults that concern only one segment (all others concern all segments), and those with which `certify` gives no
+# verdict.
 OF_ONE = ("weight", "wrong")
 UNDECIDED = ("too large", "weight")
 # The segment of a slot that holds data of several segments.
@@ -73,7 +74,8 @@ def exchanged(text: str, block: int, width: int) -> str:
 
 @dataclass(frozen=True)
 class Use:
-    """Why a slot belongs to a segment: an operation reads its data of the start, or leaves data in it at the end."""
+    """Why a slot belongs to a segment: an operation reads the data that it has at the start, or leaves data in it at
+    the end."""
 
     slot: int
     key: Key
@@ -84,8 +86,8 @@ class Use:
 
 
 def uses_of(schedule: Schedule, order: List[Key]) -> Dict[int, Use]:
-    """The slots that belong to segments, each with a use that shows it. All other slots only pass data on: on each rank
-    every read is of data that the schedule put there, and the data that was put there last is read again."""
+    """The slots that belong to segments, each with a use that shows this. All other slots only pass data on: on each
+    rank, every read gets data that the schedule put there, and the data that was put there last is read."""
     uses: Dict[int, Use] = {}
     last: Dict[Tuple[int, int], Optional[Use]] = {}
 
@@ -112,8 +114,8 @@ def uses_of(schedule: Schedule, order: List[Key]) -> Dict[int, Use]:
 
 
 class Segments:
-    """A schedule of a collective on blocks of slots, each treated as the collective treats the first. `fault` is a
-    fault of all segments, or None; the other attributes exist only if it is None."""
+    """A schedule that does a collective on several blocks of slots, the segments. `fault` is a fault of all segments,
+    or None. The attributes `schedule`, `order` and `uses` exist only if it is None."""
 
     def __init__(self, goal: str, kind: str, text: str, root: int = 0) -> None:
         self.goal, self.kind, self.text, self.root = goal, kind, text, root
@@ -135,11 +137,12 @@ class Segments:
         return next(block for block in range(1, len(used) + 2) if block not in used)
 
     def left_out(self, count: int) -> Optional[Use]:
-        """The use of the first slot that belongs to a segment but lies after the first `count` segments, or None."""
+        """The use of the first slot that belongs to a segment but is after the first `count` blocks, or None."""
         return next((use for slot, use in sorted(self.uses.items()) if slot >= count * self.width), None)
 
     def stretches(self, count: int) -> List[range]:
-        """The segments, each alone; neighbouring segments that no note touches are one range."""
+        """The segments as ranges: one range for each segment, but neighbouring segments that no note touches share
+        one."""
         found: List[range] = []
         for block in range(count):
             alike = block not in self._touched and found and found[-1][0] not in self._touched
@@ -147,8 +150,9 @@ class Segments:
         return found
 
     def verdicts(self, count: int) -> Iterator[Tuple[range, Optional[str]]]:
-        """For each range of segments the fault of its first one, in the slot numbers of the schedule, or None if it is
-        certified: alone, and with no data from another segment when all run at once."""
+        """For each range of segments, the fault of its first segment in the slot numbers of the schedule, or None.
+
+        None means that the segment is certified alone, and gets no data of another segment when all run at once."""
         mixed = self.mixed(count) if count > 1 else {}
         for blocks in self.stretches(count):
             yield blocks, self.verdict(blocks[0]) or mixed.get(blocks[0])
@@ -161,7 +165,7 @@ class Segments:
         return fault and SLOT.sub(lambda found: f"slot {exchange(int(found[1]), block, self.width)}", fault)
 
     def mixed(self, count: int) -> Dict[int, str]:
-        """For each segment, the first of its slots that gets data of another segment when all run at once. (A barrier
+        """For each segment that gets data of another segment when all run at once, the first slot that does. (A barrier
         moves no data: each rank must hear of all ranks, and may hear more.)"""
         held = self._held_at_end(count)
         found: Dict[int, str] = {}

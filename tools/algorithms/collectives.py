@@ -10,8 +10,8 @@ from common.command import Fault
 
 @dataclass(frozen=True)
 class Wish:
-    """What the user asks for. `size` is in bytes: of a broadcast and an allreduce that of the whole vector, of the others
-    that of the item of one rank, or of one rank for another."""
+    """What the user asks for. `size` is in bytes. For a broadcast or an allreduce it is the size of the whole vector,
+    for an alltoall that of the item of one rank for another, and otherwise that of the item of one rank."""
 
     ranks: int
     size: int
@@ -21,11 +21,11 @@ class Wish:
     sum_ps: int = 0
 
     def cut_plan(self, count: int) -> Plan:
-        """A plan whose own slots are the pieces of the vector, `count` of them."""
+        """A plan whose own slots are the `count` pieces of the vector."""
         return Plan(self.ranks, cut(self.size, count), self.sum_ps)
 
     def item_plan(self, count: int) -> Plan:
-        """A plan with `count` own slots, each an item."""
+        """A plan with `count` own slots, each of which holds an item."""
         return Plan(self.ranks, [self.size] * count)
 
     def nodes(self) -> List[range]:
@@ -75,12 +75,12 @@ def ring_allreduce(plan: Plan, members: Sequence[int], segments: int) -> None:
 
 
 def allreduce_halving_doubling(wish: Wish) -> Plan:
-    """The largest messages go to the rank that is half of all ranks away."""
+    """Halving and doubling where the largest messages go to the rank that is half of all ranks away."""
     return halved_and_doubled(wish, near=False)
 
 
 def allreduce_halving_doubling_near(wish: Wish) -> Plan:
-    """The largest messages go to the next rank."""
+    """Halving and doubling where the largest messages go to the next rank."""
     return halved_and_doubled(wish, near=True)
 
 
@@ -115,9 +115,8 @@ def allreduce_two_level(wish: Wish) -> Plan:
 
 
 def allreduce_hierarchical(wish: Wish) -> Plan:
-    """A reduce-scatter within each node, an allreduce of each part among the nodes by one rank of each, and an
-    allgather within each node. By halving and doubling if the number of ranks or nodes is a power of two, else around
-    a ring."""
+    """A reduce-scatter within each node, an allreduce of each part among one rank of each node, and an allgather within
+    each node. Each step uses halving and doubling if the number of its ranks is a power of two, else a ring."""
     nodes = wish.nodes()
     count, width = len(nodes[0]), len(nodes)
     plan = wish.cut_plan(count * width)
@@ -144,7 +143,8 @@ def allgather_doubling(wish: Wish) -> Plan:
 
 
 def allgather_bruck(wish: Wish) -> Plan:
-    """In each round a rank sends what it has, or what is left to send, as far back as it has items."""
+    """In each round, the distance is the number of items that a rank has. The rank at this distance before it gets
+    these items, or those that it still lacks."""
     plan = wish.item_plan(wish.ranks)
     for distance in trees.powers(wish.ranks):
         count = min(distance, wish.ranks - distance)
@@ -154,8 +154,8 @@ def allgather_bruck(wish: Wish) -> Plan:
 
 
 def allgather_neighbour(wish: Wish) -> Plan:
-    """Neighbours exchange their items. Then each rank sends the last two items that it got, to its left and right in
-    turn."""
+    """Neighbours exchange their items. Then, in each step, a rank sends the last two items that it got, to its left and
+    its right in turn."""
     if wish.ranks % 2:
         raise Fault("allgather-neighbour needs an even number of ranks")
     plan = wish.item_plan(wish.ranks)
@@ -169,7 +169,8 @@ def allgather_neighbour(wish: Wish) -> Plan:
 
 
 def alltoall_bruck(wish: Wish) -> Plan:
-    """An item for the rank that is d ahead takes a step for each binary digit 1 of d, with all others of that digit."""
+    """An item for the rank that is d ahead moves once for each binary digit 1 of d, in one message with all other items
+    that move for this digit."""
     ranks = wish.ranks
     plan = alltoall_plan(wish)
     where = [[(rank + ahead) % ranks for ahead in range(ranks)] for rank in range(ranks)]
@@ -188,8 +189,9 @@ def alltoall_bruck(wish: Wish) -> Plan:
 
 
 def alltoall_pairwise(wish: Wish) -> Plan:
-    """In each step a rank exchanges with one other: with the rank xor the step where the ranks are a power of two, else to the
-    one so far ahead from the one so far behind. A step begins when the one before has ended."""
+    """In step s, a rank exchanges with the rank whose number is its own xor s if the number of ranks is a power of two.
+    Otherwise it sends to the rank s ahead and receives from the rank s behind. A step begins when the previous one has
+    ended."""
     plan = alltoall_plan(wish)
     ranks = wish.ranks
     pairs = ranks & (ranks - 1) == 0
@@ -204,7 +206,7 @@ def alltoall_pairwise(wish: Wish) -> Plan:
 
 
 def alltoall_plan(wish: Wish) -> Plan:
-    """A plan in which each rank has copied the item that it keeps."""
+    """A plan that begins with a copy at each rank: of the item that the rank has for itself."""
     plan = wish.item_plan(2 * wish.ranks)
     for rank in range(wish.ranks):
         plan.add(rank, [(rank, wish.ranks + rank)])

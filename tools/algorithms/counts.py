@@ -1,5 +1,5 @@
-"""Counts what an algorithm would make, so that a plan that is too large is refused before it is made. Nothing of it is
-proved."""
+"""Counts the operations and slots of an algorithm, so that a plan that is too large is refused before it is made.
+Nothing of it is proved."""
 from dataclasses import dataclass
 from typing import TYPE_CHECKING
 
@@ -47,7 +47,7 @@ def tree(wish: "Wish") -> Counts:
 
 
 def there_and_back(wish: "Wish") -> Counts:
-    """A reduce and a broadcast by a tree."""
+    """A reduce and a broadcast along the same tree."""
     messages = (wish.ranks - 1) * wish.segments
     return Counts(2 * messages, messages, messages, 2 * messages)
 
@@ -85,7 +85,8 @@ def hierarchical(wish: "Wish") -> Counts:
 
 
 def part(members: int, pieces: int) -> int:
-    """The messages of one half of an allreduce among `members` members: by halving, or else around a ring."""
+    """The number of messages of a reduce-scatter, or of an allgather, among `members` members: by halving, else a
+    ring."""
     is_halved = power(members) == members and pieces % members == 0
     return members * (rounds(members) if is_halved else members - 1)
 

@@ -1,5 +1,5 @@
-"""Algorithms of users: functions of a Python file, which make plans. A mistake in the file is reported with its line. Nothing of
-it is proved."""
+"""Algorithms of users: functions in Python files that make plans. A mistake in such a file is reported with its line.
+Nothing of it is proved."""
 import contextlib
 import inspect
 import os

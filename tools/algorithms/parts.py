@@ -1,5 +1,5 @@
-"""An allreduce among some ranks in two halves: each gets the sum of its part, and then the parts of all others. Nothing of it is
-proved."""
+"""An allreduce among some ranks in two halves: first each rank gets the sum of its part of the slots (a
+reduce-scatter), then the parts of all others (an allgather). Nothing of it is proved."""
 from typing import List, Sequence, Union
 
 from algorithms import trees
@@ -12,13 +12,13 @@ def power(count: int) -> int:
 
 
 def aligned(place: int, length: int) -> range:
-    """The block of `length` places with this place, where blocks begin at the multiples of `length`."""
+    """The block of `length` places that contains this place. Blocks begin at multiples of `length`."""
     first = place - place % length
     return range(first, first + length)
 
 
 def reversed_places(count: int) -> List[int]:
-    """The places below a power of two, each with its binary digits in reverse order."""
+    """The numbers below `count`, a power of two, in the order of their reversed binary digits."""
     places = [0]
     while len(places) < count:
         places = [2 * place for place in places] + [2 * place + 1 for place in places]
@@ -26,11 +26,12 @@ def reversed_places(count: int) -> List[int]:
 
 
 class Halving:
-    """An allreduce of some slots, a multiple of `takers`: each pair of ranks exchanges halves of what it has in common, until
-    each has the sum of its part, and back.
+    """An allreduce by recursive halving and doubling. The number of slots must be a multiple of that of the `takers`.
 
-    As many members as the greatest power of two take part. Each of the others hands its vector to its neighbour first, and gets
-    the sum from it last. The largest messages go half of the members far, or, where that is `near`, to the next one."""
+    In each round, pairs of ranks exchange halves of the slots that they share, until each has the sum of its part. Then
+    the rounds are undone in reverse order. The largest power of two of members, the takers, take part. Each other
+    member first sends its vector to its neighbour, and at the end gets the sum from it. The largest messages go half of
+    the members far or, with `near`, to the next member."""
 
     def __init__(self, plan: Plan, members: Sequence[int], slots: Sequence[int], near: bool = False) -> None:
         self.plan, self.slots = plan, slots
@@ -41,7 +42,7 @@ class Halving:
         self.takers = [takers[place] for place in reversed_places(count)] if near else takers
 
     def add_up(self) -> None:
-        """Each taker gets the sum of its part: the slots are as many parts in a row as there are takers."""
+        """Each taker gets the sum of its part. The slots are divided into successive parts, one for each taker."""
         self.plan.combine([Message(one, other, self.slots) for one, other in self.pairs])
         for distance in reversed(trees.powers(len(self.takers))):
             self.plan.combine([Message(rank, self.takers[place ^ distance], self.stretch(place ^ distance, distance))
@@ -55,15 +56,15 @@ class Halving:
         self.plan.exchange([Message(other, one, self.slots) for one, other in self.pairs])
 
     def stretch(self, place: int, length: int) -> Sequence[int]:
-        """The slots of the parts of this place and those around it."""
+        """The slots of the parts in the block of `length` places that contains this place."""
         width = len(self.slots) // len(self.takers)
         places = aligned(place, length)
         return self.slots[places.start * width:places.stop * width]
 
 
 class Ring:
-    """The same around a ring, for any number of members: each part goes from rank to rank. Of P pieces of `unit` slots, the
-    member at place p of n has those whose numbers times n / P are p, rounded down."""
+    """An allreduce around a ring, for any number of members: each part goes from rank to rank. The slots are P pieces
+    of `unit` slots. Of n members, the one at place p has the pieces k with k * n / P, rounded down, equal to p."""
 
     def __init__(self, plan: Plan, members: Sequence[int], slots: Sequence[int], unit: int = 1) -> None:
         self.plan, self.takers = plan, members
@@ -82,14 +83,15 @@ class Ring:
             self.plan.exchange(self.on(-step))
 
     def on(self, shift: int) -> List[Message]:
-        """Each place sends the part that is `shift` ahead to the next."""
+        """The messages of a round: each place p sends part p + `shift` to the next place."""
         count = len(self.takers)
         return [Message(rank, self.takers[(place + 1) % count], self.parts[(place + shift) % count])
                 for place, rank in enumerate(self.takers)]
 
 
 def parts_of(plan: Plan, members: Sequence[int], slots: Sequence[int], unit: int = 1) -> Union[Halving, Ring]:
-    """By halving where the members are a power of two and divide the pieces of `unit` slots, else around a ring."""
+    """A Halving if the number of members is a power of two and divides the number of pieces of `unit` slots, else a
+    Ring."""
     if power(len(members)) == len(members) and len(slots) // unit % len(members) == 0:
         return Halving(plan, members, slots)
     return Ring(plan, members, slots, unit)

@@ -10,25 +10,25 @@ An algorithm is a function that makes a Plan and returns it:
         return plan
 
 Each rank has slots, which hold values. The first slots are those of the collective, and have sizes in bytes; `spare` gives
-slots for what comes in. A message moves the values of some slots, and has as many bytes as these slots.
+unused slots, for example for incoming values. A message moves the values of some slots, and has the size of these slots.
 
     plan.exchange(messages)       one round: all messages are sent, then all are received
-    plan.combine(messages)        the same, and what comes in is added to the slots of the same numbers
-    plan.add(rank, pairs, cost)   a calc: the value of the first slot of each pair is added to the second, or copied if that is empty
-    plan.calc(rank, cost, slots)  a calc of `cost` ns that uses these slots and leaves their values
+    plan.combine(messages)        the same, and each incoming value is added to the slot with the same number
+    plan.add(rank, pairs, cost)   a calc that adds the first slot of each pair to the second, or copies it if that is empty
+    plan.calc(rank, cost, slots)  a calc of `cost` ns that uses these slots and leaves their values unchanged
     plan.spare(rank, count)       slots of the rank that nothing uses yet
-    plan.end_step()               a step ends: each rank goes on only when all that it did has ended
+    plan.end_step()               ends a step: each rank continues only after all its operations of the step have ended
 
-Tags, sizes, notes and dependencies are worked out:
-- Both ends of a message are made together, so they agree in bytes, slots and tag. The tag is the number of earlier messages
-  between the two ranks, so no two of them share a channel.
-- An operation requires those earlier ones that it would race with: what set a slot that it reads, and what read or set a
-  slot that it sets. Nothing else is ordered, except by `end_step`.
-- So a rank that sends a slot and receives into it in one round receives after its send has ended. Where two ranks do this
-  with each other, both wait for ever once messages are large: receive into spare slots, as `combine` does.
+The plan derives tags, sizes, notes and dependencies:
+- It makes both ends of a message together, so they agree in size, slots and tag. The tag is the number of earlier messages
+  from the one rank to the other, so no two of them share a channel.
+- An operation requires the earlier operations that it would race with: those that set a slot that it reads, and those that
+  read or set a slot that it sets. Only `end_step` adds other dependencies.
+- So a rank that sends a slot and receives into it in one round receives after its send has ended. If two ranks do this with
+  each other, both hang when messages are larger than S. To avoid that, receive into spare slots, as `combine` does.
 
-`cpu` and `nic` of a message are those of its two ranks. Operations of one rank that nothing orders run at once where they
-are on several of them.
+`cpu` and `nic` of a message are used at both of its ranks. Operations of a rank that no dependency orders can run at the
+same time if they are on different cpus and NICs.
 """
 from dataclasses import dataclass
 from typing import Dict, Iterator, List, Optional, Sequence, Set, Tuple
@@ -47,9 +47,10 @@ MOST_DEVICE = 255
 
 @dataclass(frozen=True)
 class Message:
-    """The values of `slots` of rank `source`, for rank `target`: for the same slots there, or for those of `into`, in order.
+    """A message with the values of `slots` of rank `source`, for the same slots of rank `target`, or for those of
+    `into`.
 
-    It has as many bytes as its slots, or `size`. At both ranks it takes this cpu and this nic.
+    Its size is that of its slots, or `size` if that is given. At both ranks it uses this cpu and this NIC.
     """
 
     source: int
@@ -67,7 +68,7 @@ def cut(size: int, count: int) -> List[int]:
 
 
 def runs(slots: Sequence[int]) -> List[Tuple[int, int]]:
-    """The slots as ranges (first, last), in order: the fewest that give the same list."""
+    """The slots as ranges (first, last) in order: the fewest ranges that give the same list."""
     found: List[Tuple[int, int]] = []
     for slot in slots:
         if found and slot == found[-1][1] + 1:
@@ -91,7 +92,7 @@ class Rank:
         self.step_before = range(0)
 
     def append(self, action: str, reads: Sequence[int], sets: Sequence[int], notes: Sequence[str]) -> int:
-        """Adds an operation that reads some slots and then sets some, and returns how many needs it has."""
+        """Adds an operation that reads some slots and then sets some. Returns the number of its dependencies."""
         number = len(self.operations)
         before = set(self.step_before)
         for slot in reads:
@@ -115,7 +116,7 @@ class Rank:
         return len(self.needs[number])
 
     def last_of(self, before: Set[int]) -> List[int]:
-        """Those of these operations that no other of them requires, directly or indirectly."""
+        """Those of these operations that none of the others requires, directly or indirectly."""
         if len(before) < 2:
             return list(before)
         kept: List[int] = []
@@ -134,7 +135,7 @@ class Rank:
         return kept[::-1]
 
     def lines(self) -> Iterator[str]:
-        """The lines of its block."""
+        """The lines of the block of the rank."""
         for number, action in enumerate(self.operations):
             yield f"l{number + 1}: {action}"
         for number, needs in enumerate(self.needs):
@@ -144,8 +145,8 @@ class Rank:
 
 
 class Plan:
-    """A schedule among `ranks` ranks. The collective's own slots, from 0, have these `sizes` in bytes; a sum costs `sum_ps`
-    picoseconds per byte, rounded up to whole nanoseconds."""
+    """A schedule among `ranks` ranks. The collective's own slots, from 0, have these `sizes` in bytes; a sum costs
+    `sum_ps` picoseconds per byte, rounded up to whole nanoseconds."""
 
     def __init__(self, ranks: int, sizes: Sequence[int], sum_ps: int = 0) -> None:
         check("the number of ranks", ranks, MOST_RANKS, 1)
@@ -159,7 +160,7 @@ class Plan:
         self.operations = self.needs = self.notes = 0
 
     def exchange(self, messages: Sequence[Message]) -> None:
-        """One round of messages: all are sent, and then all received."""
+        """One round of messages: all are sent, then all are received."""
         receives = []
         for message in messages:
             self._check(message)
@@ -188,13 +189,14 @@ class Plan:
             self.add(message.target, list(zip(spare, into)), cost, message.cpu)
 
     def add(self, rank: int, pairs: Sequence[Tuple[int, int]], cost: int = 0, cpu: int = 0) -> None:
-        """A calc of `cost` nanoseconds: for each pair, the value of the first slot is added to that of the second. Where
-        the second is empty, it is a copy."""
+        """A calc of `cost` nanoseconds. For each pair, it adds the value of the first slot to the second, or copies it
+        if the second is empty."""
         self._calc(rank, cost, cpu, [slot for pair in pairs for slot in pair], [into for _, into in pairs],
                    [f"adds {slot} to {into}" for slot, into in pairs])
 
     def calc(self, rank: int, cost: int, slots: Sequence[int] = (), cpu: int = 0) -> None:
-        """A calc of `cost` nanoseconds. It comes after what set these slots, and what reads or sets them later comes after it."""
+        """A calc of `cost` nanoseconds, after the operations that set these slots and before all later ones that read
+        or set them."""
         self._calc(rank, cost, cpu, slots, slots, [])
 
     def spare(self, rank: int, count: int) -> range:

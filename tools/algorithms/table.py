@@ -1,4 +1,4 @@
-"""The table of the algorithms: their names, options, limits, costs, and where each is described. Nothing of it is proved."""
+"""The table of the algorithms: their names, options, limits, costs and sources. Nothing of it is proved."""
 from dataclasses import dataclass
 from typing import Callable, Tuple
 
@@ -16,7 +16,8 @@ BRUCK = ("Bruck, Ho, Kipnis, Upfal and Weathersby, *Efficient Algorithms for All
 
 @dataclass(frozen=True)
 class Algorithm:
-    """One algorithm: P are the ranks, n the bytes of the vector, b those of an item, K the segments, N the ranks of a node."""
+    """An algorithm. In its formulas, P is the number of ranks, n the bytes of the vector, b the bytes of an item, K the
+    number of segments, N the ranks per node."""
 
     name: str
     plan: Callable[[Wish], Plan]

@@ -1,7 +1,7 @@
 """Trees among some ranks, and what goes up and down them. Nothing of it is proved.
 
-The members of a tree are a list of ranks, the root first; a tree is the list of its edges (parent, child), by the places of
-the ranks in that list, in the order in which a broadcast takes them."""
+The members of a tree are a list of ranks, the root first. A tree is a list of edges (parent, child) in the order in
+which a broadcast uses them; parent and child are places in the list of members."""
 from typing import Callable, List, Sequence, Tuple
 
 from algorithms.plan import Message, Plan
@@ -20,7 +20,7 @@ def binary(count: int) -> Tree:
 
 
 def binomial(count: int) -> Tree:
-    """A binomial tree: in each round the distance halves, and each place with the value sends it over that distance."""
+    """A binomial tree: in each round the distance halves, and each place that has the value sends it that far."""
     edges: Tree = []
     for distance in reversed(powers(count)):
         edges += [(parent, parent + distance) for parent in range(0, count - distance, 2 * distance)]
@@ -38,33 +38,34 @@ def rotated(ranks: int, root: int) -> List[int]:
 
 
 def broadcast(plan: Plan, members: Sequence[int], tree: Tree, messages: Sequence[Sequence[int]]) -> None:
-    """The root's values go down the tree: a message for each list of slots."""
+    """Sends the root's values down the tree, with a message for each list of slots."""
     for slots in messages:
         for parent, child in tree:
             plan.exchange([Message(members[parent], members[child], slots)])
 
 
 def reduce(plan: Plan, members: Sequence[int], tree: Tree, messages: Sequence[Sequence[int]]) -> None:
-    """The sum of all values goes up the tree to the root: a message for each list of slots."""
+    """Sums all values up the tree to the root, with a message for each list of slots."""
     for slots in messages:
         for parent, child in reversed(tree):
             plan.combine([Message(members[child], members[parent], slots)])
 
 
 def part(child: int, count: int) -> range:
-    """The places in the subtree of the binomial tree below this child."""
+    """The places in the subtree of this child, with itself, in the binomial tree."""
     return range(child, min(child + (child & -child), count))
 
 
 def scatter(plan: Plan, members: Sequence[int], slot_of: Callable[[int], int]) -> None:
-    """The root's slot for each place goes down the binomial tree, with the slots of the subtree of that place."""
+    """Sends the root's slot for each place down the binomial tree, in one message with the slots of the place's
+    subtree."""
     for parent, child in binomial(len(members)):
         slots = [slot_of(place) for place in part(child, len(members))]
         plan.exchange([Message(members[parent], members[child], slots)])
 
 
 def gather(plan: Plan, members: Sequence[int], slot_of: Callable[[int], int]) -> None:
-    """The slot of each place goes up the binomial tree to the root, with the slots of its subtree."""
+    """Sends the slot of each place up the binomial tree to the root, in one message with the slots of its subtree."""
     for parent, child in reversed(binomial(len(members))):
         slots = [slot_of(place) for place in part(child, len(members))]
         plan.exchange([Message(members[child], members[parent], slots)])
