@@ -29,9 +29,9 @@ class Halving:
     """An allreduce by recursive halving and doubling. The number of slots must be a multiple of that of the `takers`.
 
     In each round, pairs of ranks exchange halves of the slots that they share, until each has the sum of its part. Then
-    the rounds are undone in reverse order. The largest power of two of members, the takers, take part. Each other
-    member first sends its vector to its neighbour, and at the end gets the sum from it. The largest messages go half of
-    the members far or, with `near`, to the next member."""
+    the rounds are undone in reverse order. The number of takers is the largest power of two that is at most the number
+    of members. Each other member first sends its vector to its neighbour, and at the end gets the sum from it. The
+    largest messages go half of the members far or, with `near`, to the next member."""
 
     def __init__(self, plan: Plan, members: Sequence[int], slots: Sequence[int], near: bool = False) -> None:
         self.plan, self.slots = plan, slots
