@@ -17,7 +17,7 @@ import sys
 from typing import Dict, List, Mapping, NamedTuple, NoReturn, Optional, Sequence, Tuple
 
 TOP = os.path.dirname(os.path.dirname(os.path.abspath(__file__)))
-# The file of an installation that names the sources it was installed from.
+# The file in an installation that names the sources from which it was installed.
 VERSION = os.path.join(TOP, "VERSION")
 BAD_LINE, REFUSED, READ_FAULT = 2, 3, 4
 EXPLAINED = (BAD_LINE, REFUSED, READ_FAULT)
@@ -48,9 +48,9 @@ KINDS = ("bcast", "barrier", "allgather", "allreduce", "alltoall", "reduce", "ga
 ROOTED = ("bcast", "reduce", "gather", "scatter")
 READ = ("NAME", "MACHINE")
 STANDARD_INPUT = "/dev/stdin"
-# For the number of a word that names a device, the file with the bytes that the device gave.
+# By the number of the word that names a device, a file with the bytes read from the device.
 Copies = Mapping[int, str]
-# The first bytes of files of other kinds, and what to say about them.
+# The first bytes of files of other kinds, each with the explanation.
 MARKS = ((b"\xef\xbb\xbf", "begins with a byte-order mark: save it as UTF-8 without one"), (b"\xff\xfe", "is UTF-16: save it as UTF-8"),
          (b"\xfe\xff", "is UTF-16: save it as UTF-8"), (b"\x1f\x8b", "is packed by gzip: unpack it first"),
          (b"PK\x03\x04", "is a zip file: unpack it first"))
@@ -61,12 +61,12 @@ LONGEST = 40
 def form_of(command: str) -> str:
     """The usage line of a command."""
     plain, options, _ = COMMANDS[command]
-    told = " ".join(f"[{name} N]" for name in options)
-    return f"goal {command} {' '.join(plain)}" + (f" {told}" if told else "")
+    optional = " ".join(f"[{name} N]" for name in options)
+    return f"goal {command} {' '.join(plain)}" + (f" {optional}" if optional else "")
 
 
 def shown(word: str) -> str:
-    """A word for a message: in quotes if it is empty or has blanks, cut if it is long."""
+    """A word as messages show it: in quotes if it is empty or has blanks, cut if it is long."""
     cut = word if len(word) <= LONGEST else word[:LONGEST] + ".."
     return cut if re.fullmatch(r"[!-~]+", cut) else repr(cut)
 
@@ -97,7 +97,7 @@ def checkout() -> str:
 
 
 def near(word: str, names: Sequence[str]) -> str:
-    """A question with the most similar name, or the list of names if none is similar."""
+    """The end of a message: a question with the most similar name, or the list of names if none is similar."""
     alike = [name for name in names if name.lower() == word.lower()] or difflib.get_close_matches(word, names, 1, 0.6)
     return f": is it {alike[0]}?" if alike else f": it is one of {' '.join(names)}"
 
@@ -161,7 +161,7 @@ def words_fault(words: Sequence[str]) -> Optional[str]:
 
 
 def plain_fault(names: Sequence[str], plain: Sequence[Tuple[int, str]]) -> Optional[str]:
-    """What is wrong with the arguments, or None. Options are left out here."""
+    """What is wrong with the arguments without the options, or None."""
     for name, (place, word) in zip(names, plain):
         fault = None
         if name == "KIND" and word not in KINDS:
@@ -217,7 +217,7 @@ def reading_fault(files: Sequence[File]) -> Optional[str]:
 
 
 def is_read_once(file: File) -> bool:
-    """Whether the file exists but is no plain file, so that it gives its bytes only once."""
+    """Whether the file exists but is not a plain file, so that it can be read only once."""
     try:
         return not stat.S_ISREG(os.stat(file.path).st_mode)
     except OSError:
@@ -245,7 +245,7 @@ def place_of(name: str, text: bytes, byte: int) -> str:
 
 
 def odd_content(what: str, name: str, text: bytes) -> Optional[str]:
-    """What the file is, if it is clearly of another kind; else None."""
+    """A message if the file is clearly of another kind; else None."""
     words = text.split(None, 1)[:1]
     first = words[0] if words else b""
     for mark, told in MARKS:
@@ -265,7 +265,7 @@ def odd_content(what: str, name: str, text: bytes) -> Optional[str]:
 
 
 def refusal_fault(files: Sequence[File], said: str) -> Optional[str]:
-    """An explanation of a refusal with the line `said`, or None."""
+    """An explanation of a refusal, or None. `said` is the line that the program printed."""
     gone = next((file for file in files if is_read_once(file)), None)
     if gone:
         how = "came through a pipe" if stat.S_ISFIFO(os.stat(gone.path).st_mode) else "is a device"
@@ -310,7 +310,7 @@ def operation_of(name: str, text: bytes, rest: str) -> Optional[str]:
 
 
 def explain(words: Sequence[str], status: int, said: str = "", copies: Copies = {}) -> List[str]:
-    """The lines to add if the program ended with this status. `said` is its line for a refusal."""
+    """The lines to add if the program ended with this status. `said` is the line that it printed for a refusal."""
     if status == BAD_LINE and (not words or words[0] in ("--help", "-h", "help")):
         return commands()
     if status == BAD_LINE and words[0] in ("--version", "-V", "version"):
@@ -339,7 +339,7 @@ def say(lines: Sequence[str]) -> None:
 
 
 def said_again(program: str, words: Sequence[str], copies: Copies) -> str:
-    """The line of a refusal, from a second run. Empty if an input cannot be read again."""
+    """The line that the program prints for a refusal, from a second run. Empty if an input cannot be read again."""
     if any(is_read_once(file) for file in files_of(words, copies)):
         return ""
     how = None if STANDARD_INPUT in words else subprocess.DEVNULL
@@ -348,7 +348,7 @@ def said_again(program: str, words: Sequence[str], copies: Copies) -> str:
 
 
 def called(program: str, words: Sequence[str], copies: Copies) -> List[str]:
-    """The call of the program, with copies instead of devices."""
+    """The words of a call of the program, with copies instead of devices."""
     return [program, *(copies.get(at, word) for at, word in enumerate(words))]
 
 
@@ -359,7 +359,7 @@ def explain_ended(program: str, words: Sequence[str], status: int, copies: Copie
 
 
 def become(program: str, words: Sequence[str], copies: Copies = {}) -> NoReturn:
-    """Becomes the program. If explanations are wanted, it runs the program and explains a failure instead."""
+    """Becomes the program (exec). If explanations are wanted, it instead runs the program, and explains a failure."""
     if not is_wanted():
         os.execv(program, called(program, words, copies))
     status = subprocess.run(called(program, words, copies), check=False, close_fds=False).returncode

@@ -1,4 +1,4 @@
-"""Answers command lines of `goal` while it is not known that the program is up to date.
+"""Answers command lines of `goal` when the program is not known to be up to date.
 
 - If the program was proved from sources with the current contents, the program answers.
 - Otherwise a proof runs or starts in the background (prove.py), one per checkout. Until it ends, `rt try` answers from
@@ -23,7 +23,7 @@ import sources
 from sources import BEGUN, PROGRAM, PROOF, TOP, text_of
 from trial import Trial, say
 
-# The process that proves holds the lock.
+# The process that runs the proof holds the lock.
 LOCK, LOG = f"{PROOF}/lock", f"{PROOF}/log"
 # The digest of sources whose proof failed, the kit, and why it failed.
 FAILED = f"{PROOF}/failed"
@@ -36,7 +36,7 @@ TO_PROVE = re.compile(r"(?m)^goal: (\d+) crates to prove$")
 
 
 def held(path: str) -> IO[str] | None:
-    """The file with its lock, or None if another process holds the lock."""
+    """Opens and locks a file. None if another process holds the lock."""
     file = open(path, "a", encoding="utf-8")
     try:
         fcntl.flock(file, fcntl.LOCK_EX | fcntl.LOCK_NB)
@@ -47,14 +47,16 @@ def held(path: str) -> IO[str] | None:
 
 
 class Proof:
-    """The proof of this checkout, seen from this call."""
+    """The proof of this checkout, as this call sees it. `is_tried_again`: a proof that failed is started again.
+
+    `is_begun` says whether this call started it, and `reported` how many lines of progress this call has printed."""
 
     def __init__(self, is_tried_again: bool) -> None:
-        self.is_tried_again, self.is_begun, self.told = is_tried_again, False, 0
+        self.is_tried_again, self.is_begun, self.reported = is_tried_again, False, 0
 
     def is_done(self) -> bool:
         """Whether the program is proved. Starts a proof if none runs; ends this process if the proof failed."""
-        # (the lock comes first, so that no proof can end between the checks below)
+        # (this call takes the lock first, so that no proof can end between the checks below)
         lock = held(LOCK)
         if not lock:
             return False
@@ -77,7 +79,7 @@ class Proof:
 
     def begin(self, lock: IO[str]) -> None:
         """Starts the proof, which then holds the lock."""
-        self.is_begun, self.told = True, 0
+        self.is_begun, self.reported = True, 0
         if os.path.exists(FAILED):
             os.remove(FAILED)
         sources.begin()
@@ -90,16 +92,16 @@ class Proof:
     def how_far(self) -> str:
         """The progress of the proof, in one line."""
         said = text_of(LOG)
-        self.told, begun = len(PROGRESS.findall(said)), BEGUN if os.path.exists(BEGUN) else PROOF
+        self.reported, begun = len(PROGRESS.findall(said)), BEGUN if os.path.exists(BEGUN) else PROOF
         count = TO_PROVE.findall(said)
         minutes = max(0, int(time.time() - os.stat(begun).st_mtime)) // 60
-        return f"{self.told}{f' of {count[0]}' if count else ''} crates proved after {minutes} min; log {LOG}"
+        return f"{self.reported}{f' of {count[0]}' if count else ''} crates proved after {minutes} min; log {LOG}"
 
     def tell(self) -> None:
         """Prints a line for each crate that was proved since the last progress line."""
-        for line in PROGRESS.findall(text_of(LOG))[self.told :]:
+        for line in PROGRESS.findall(text_of(LOG))[self.reported :]:
             say(line)
-            self.told += 1
+            self.reported += 1
 
 
 def is_taken_from_gate() -> bool:
@@ -110,7 +112,7 @@ def is_taken_from_gate() -> bool:
 
 
 class Call:
-    """This call: its words, and what it started, which ends with it."""
+    """This call of `goal`: its words, and what it starts, which ends with it."""
 
     def __init__(self, words: list[str]) -> None:
         self.words, self.folder = words, tempfile.mkdtemp(prefix="goal-")
@@ -135,7 +137,7 @@ class Call:
         shutil.rmtree(self.folder, ignore_errors=True)
 
     def run_program(self) -> None:
-        """Becomes the proved program, which reads copies of the devices that were read already."""
+        """Becomes the proved program. It reads copies of the devices that this call has already read."""
         copies = {}
         for number, path in self.trial.copies.items() if self.trial else ():
             given = os.open(path, os.O_RDONLY)
@@ -145,14 +147,15 @@ class Call:
         become(self.words, copies)
 
     def explain(self, status: int) -> None:
-        """Explains a failure of the answer from the sources, if a person reads it."""
+        """Explains the failure of an answer from the sources, if explanations are wanted."""
         import explain
 
         if self.trial and status in explain.EXPLAINED and explain.is_wanted():
             explain.say(explain.explain(self.words, status, self.trial.said, self.trial.copies))
 
     def status_from_sources(self, proof: Proof) -> int | None:
-        """The status of an answer from the sources. None if there is no such answer, or if the proof ends first."""
+        """Answers from the sources. Returns the exit status, or None if there is no such answer or the proof ends
+        first."""
         self.trial = trial = Trial(self.words, self.folder)
         if not trial.can_be:
             return None
@@ -177,7 +180,8 @@ class Call:
 
 
 def become(words: list[str], copies: dict[int, str] | None = None) -> None:
-    """Becomes the proved program. `copies` has the copy of each device, by the number of the word that names it."""
+    """Becomes the proved program. `copies` has the path of the copy of each device, by the number of the word that
+    names it."""
     for number in (signal.SIGPIPE, *SIGNALS):
         signal.signal(number, signal.SIG_DFL)
     # (huge pages, for which `goal` also asks)
@@ -197,7 +201,7 @@ def wait_for(proof: Proof) -> None:
 
 
 def answer(words: list[str]) -> int:
-    """The status of the answer to these words. Often this process becomes the program that answers."""
+    """Answers these words, and returns the exit status. Often this process becomes the program, and does not return."""
     os.makedirs(PROOF, exist_ok=True)
     waits = os.environ.get("GOAL_PROVED") == "1"
     proof, call = Proof(waits), Call(words)
@@ -245,9 +249,9 @@ def main(words: list[str]) -> int:
     """Answers these words. Returns the exit status."""
     for it in SIGNALS:
         signal.signal(it, lambda number, _: os._exit(128 + number))
-    # (`goal` blocks the interrupt until here)
+    # (`goal` blocks SIGINT until here)
     signal.pthread_sigmask(signal.SIG_UNBLOCK, {signal.SIGINT})
-    # (a closed standard stream stays unwritable, and no later file gets its number)
+    # (a closed standard stream gets a descriptor that cannot be written, so that no later file gets its number)
     for number in range(3):
         try:
             os.fstat(number)

@@ -1,10 +1,18 @@
-"""prove.py LOCK: proves the program with every crate that it uses, and builds it. `answer.py` starts it in the background.
+"""prove.py LOCK: proves the program and every crate that it uses, and builds it. `answer.py` starts it in the
+background.
 
-The libraries come alone, without their tests: first those with the longest way to the program, as many side by side as there are
-cores and memory, and one that finds cores idle gets them. On a machine with no work on them to take up, each is built with its
-statements and not its proofs, as the gate builds it, since those above then load less. Else rt's own functions build them over the
-kept work (in this process, since two commands `rt lib` would wait for one another). LOCK is the number of an open file, which holds
-the lock of this checkout. Standard output is the log, and tells how far the proof is."""
+LOCK is the descriptor of an open file that holds the lock of this checkout. Standard output is the log, with lines that
+report the progress.
+
+It proves the libraries in parallel, without their tests, as cores and memory allow. The crate with the longest chain of
+crates that depend on it comes first, and a crate gets more jobs if cores are idle. There are two ways to build a library:
+
+- If at most half of the libraries have kept work, each is built with its statements and without its proofs, as `rt ci`
+  builds it. The crates above then load less.
+- Otherwise functions of rt build the libraries over the kept work. They run in this process, since two commands `rt lib`
+  would wait for one another.
+
+Nothing of this is proved."""
 from __future__ import annotations
 
 import contextlib
@@ -26,31 +34,33 @@ from typing import Any, Callable
 import sources
 from sources import BEGUN, PROGRAM, PROOF, TOP, put, text_of
 
-# The kit's command rt as a module, and its crates, have the types that they have there.
+# The module of the kit's command rt, and the crates of that module. Their types are not known here.
 Kit = Any
 Crate = Any
 
-# By library, what its statements were built from.
+# The folder that has, for each library, from what its statements were built.
 STATEMENTS = f"{PROOF}/statements"
 # The digest of sources whose proof failed, the kit, and why it failed.
 FAILED = f"{PROOF}/failed"
-# A check with more jobs than this seldom ends sooner.
+# A check with more jobs than this is seldom faster.
 MOST_JOBS = 4
-# How far the proof stands behind other work, in steps of `nice`: at 10 another process gets nine tenths of a core that they share.
-BEHIND = 10
-# What a check with one job takes of the memory that rt plans for it, and what each further job takes of that: as measured.
+# The `nice` value of the proof: at 10, a process that shares a core with the proof gets nine tenths of the core.
+NICE = 10
+# As measured: a check with one job takes this share of the memory that rt plans for it, and each additional job takes this
+# share of what one job takes.
 MEMORY_OF_A_CHECK, MEMORY_OF_A_JOB = 0.6, 0.5
 FAILING = threading.Lock()
 
 
 def seconds(crates: list[Crate]) -> dict[str, float]:
-    """By name, about how many seconds of one core the proof of a crate takes: a fit to thirty crates that were measured."""
+    """By name, the estimated seconds that the proof of a crate takes on one core, from a fit to thirty measured
+    crates."""
     lines = {it.name: it.count(rb"\n") for it in crates}
     return {it.name: 5 + lines[it.name] / 16 + sum(lines[dep.name] for dep in it.below()) / 500 for it in crates}
 
 
-def ways(crates: list[Crate]) -> dict[str, float]:
-    """By name, how long the proof of a crate takes with the longest chain of others that wait for it."""
+def critical_paths(crates: list[Crate]) -> dict[str, float]:
+    """By name, the estimated seconds for the proof of a crate and of the longest chain of crates that depend on it."""
     found = seconds(crates)
     for crate in sorted(crates, key=lambda it: -len(it.below())):
         above = [it for it in crates if crate in it.deps]
@@ -58,14 +68,16 @@ def ways(crates: list[Crate]) -> dict[str, float]:
     return found
 
 
-def in_turn(crates: list[Crate], prove: Callable[[Crate, int], bool], cores: int, memory: float, need: Callable[[Crate], float]) -> bool:
-    """Calls prove(crate, jobs) for each crate, once those that it uses are proved, side by side; whether each call says that it is.
+def in_parallel(crates: list[Crate], prove: Callable[[Crate, int], bool], cores: int, memory: float, need: Callable[[Crate], float]) -> bool:
+    """Calls prove(crate, jobs) for each crate after the crates that it uses, in parallel. Whether all calls return
+    True.
 
-    The longest way is taken first. The idle cores are shared among the crates that could start, and no more run than fit the memory."""
-    way, is_well = ways(crates), True
+    Crates with the longest critical path come first. Those that can start share the idle cores. The crates that run at
+    the same time must fit into the memory. After a failure no other crate is started."""
+    lengths, is_well = critical_paths(crates), True
     running: dict[Future[bool], tuple[Crate, int, float]] = {}
     proved: set[str] = set()
-    left = sorted(crates, key=lambda it: -way[str(it.name)])
+    left = sorted(crates, key=lambda it: -lengths[str(it.name)])
     needs = {it.name: MEMORY_OF_A_CHECK * need(it) for it in crates}
     with ThreadPoolExecutor(cores) as pool:
         while True:
@@ -99,14 +111,14 @@ def kit() -> Kit:
 
 
 class Log:
-    """What is said of the proof, a crate at a time."""
+    """The log of the proof, which gets the lines of one crate at a time."""
 
     def __init__(self, count: int) -> None:
         self.count, self.proved, self.start, self.alone = count, 0, time.time(), threading.Lock()
         print(f"goal: {count} crates to prove", flush=True)
 
     def add(self, name: str, said: str, is_proved: bool) -> None:
-        """Adds what was said of a crate, and how far the proof is then."""
+        """Adds the output for a crate, and a line that reports the progress."""
         with self.alone:
             self.proved += is_proved
             taken = int(time.time() - self.start)
@@ -116,18 +128,19 @@ class Log:
 
 
 def fail(why: str) -> None:
-    """Notes why there is no proof of these sources, for this call and the next."""
+    """Records why there is no proof of these sources, for this call and the next ones."""
     with FAILING:
         put(FAILED, "\n".join([*text_of(BEGUN).split("\n")[:2], why]))
 
 
 def made_from(rt: Kit, crate: Crate) -> str:
-    """What a library is built from, and what it was built as: the sources, and the sums of the libraries."""
+    """A text that identifies what a library was built from and the result: the stamp of its sources, and the digests of
+    the libraries that it uses and of itself."""
     return "\n".join([crate.stamp(), *(rt.rtlib.sum_of(f"{it.rlib}/format") for it in [*crate.below(), crate])])
 
 
 def build_statements(rt: Kit, crate: Crate, jobs: int) -> int:
-    """Proves a library, and builds what those above load of it: its statements. The status of the check."""
+    """Proves a library and builds its statements, which the crates above load. Returns the exit status of the check."""
     kept, stamp = f"{STATEMENTS}/{crate.name}", crate.stamp()
     if crate.is_built() or text_of(kept) == made_from(rt, crate):
         return 0
@@ -143,7 +156,7 @@ def build_statements(rt: Kit, crate: Crate, jobs: int) -> int:
 
 
 def prove_libraries(rt: Kit, log: Log, crates: list[Crate], keeps: bool) -> bool:
-    """Proves and builds the libraries, over the work that is kept or from nothing; whether all are proved."""
+    """Proves and builds the libraries: over the kept work (`keeps`), or from scratch. Whether all are proved."""
 
     def prove(crate: Crate, jobs: int) -> bool:
         status = 1
@@ -158,13 +171,13 @@ def prove_libraries(rt: Kit, log: Log, crates: list[Crate], keeps: bool) -> bool
             fail(f"{crate.name} (rt says {status})")
         return status == 0
 
-    return in_turn(crates, prove, rt.processors(), 0.85 * rt.free(), rt.need)
+    return in_parallel(crates, prove, rt.processors(), 0.85 * rt.free(), rt.need)
 
 
 def build_program(rt: Kit, log: Log, program: Crate, locks: list[int], keeps: bool) -> bool:
-    """Proves, builds and runs the program; whether its run is well. What it starts ends with this process."""
+    """Proves, builds and runs the program. Whether this succeeds. The processes that it starts end with this one."""
     print(f"== {program.name}", flush=True)
-    # (what is held is closed before the program runs)
+    # (the locks are released before the program runs)
     jobs, words, program.held = ["--jobs", f"{MOST_JOBS}"], ["sim", "data/a"], locks
     if keeps:
         for it in locks:
@@ -183,10 +196,11 @@ def build_program(rt: Kit, log: Log, program: Crate, locks: list[int], keeps: bo
 
 
 def take_from_gate() -> bool:
-    """Whether a plain `rt ci` proved the program that is here from the sources as they are; if so it is recorded.
+    """Whether `rt ci` proved the existing program from the current sources. If so, it records that.
 
-    The gate names what it proved by the sum of all that it was made from, and keeps the sums of what it made: that of a library is
-    part of the name of those above it. So no time is asked for, but what the kit keeps."""
+    `rt ci` keeps each result under a key, a digest of all that it was made from. It also keeps the digests of the files
+    that it made; those of a library are part of the keys of the crates above. So this compares contents, and no
+    times."""
     try:
         begun, rt = sources.state(), kit()
         with open(os.devnull, "w", encoding="utf-8") as nothing, contextlib.redirect_stderr(nothing):
@@ -194,12 +208,12 @@ def take_from_gate() -> bool:
             program = next(it for it in rt.crates_of(TOP) if it.is_program)
         return is_kept(rt, program) and sources.record(begun.strip())
     except (OSError, SystemExit, AttributeError, LookupError, TypeError, ValueError, StopIteration):
-        # (another kit keeps it in another way: then it is proved again)
+        # (another kit may keep its results differently; the program is then proved again)
         return False
 
 
 def is_kept(rt: Kit, program: Crate) -> bool:
-    """Whether the gate has kept a proof of these sources that made this program."""
+    """Whether `rt ci` has kept a proof of the current sources that made the existing program."""
     kept, files = rt.Kept([]), {}
     for crate in [*program.below(), program]:
         key = kept.key(crate)
@@ -213,13 +227,13 @@ def is_kept(rt: Kit, program: Crate) -> bool:
 
 
 def prove(rt: Kit) -> bool:
-    """Proves the program with what it uses, and builds it; whether that went well."""
-    # (what the program does not use, as crates of laws alone, is left to the gate)
+    """Proves the program and the crates that it uses, and builds it. Whether this succeeds."""
+    # (crates that the program does not use, such as those with only laws, are left to `rt ci`)
     program = next(it for it in rt.rtlib.crates_below(TOP) if it.is_program)
     libraries = program.below()
     log = Log(len(libraries) + 1)
     rt.rtlib.guarded()
-    # (a kit of before 13f has no work that checkouts share)
+    # (in kits before 13f, checkouts can not share work)
     if hasattr(rt, "share_work"):
         rt.share_work(True)
     locks = rt.rtlib.lock([*libraries, program])
@@ -228,11 +242,11 @@ def prove(rt: Kit) -> bool:
 
 
 def give_way() -> None:
-    """Has an answer from the sources, and all else, go before the proof."""
-    os.nice(BEHIND)
-    # (a kernel that shares the cores among sessions weighs this one by a number of its own)
+    """Lowers the priority of the proof, so that an answer from the sources and all other work goes first."""
+    os.nice(NICE)
+    # (a kernel with autogroups weighs whole sessions, by a separate nice value)
     with contextlib.suppress(OSError), open("/proc/self/autogroup", "w", encoding="ascii") as file:
-        file.write(f"{BEHIND}")
+        file.write(f"{NICE}")
 
 
 def main(lock: int) -> int:

@@ -22,14 +22,14 @@ from typing import Iterator
 TOP = os.path.dirname(os.path.dirname(os.path.abspath(__file__)))
 PROGRAM = f"{TOP}/crates/goal_prog/out/goal_prog"
 PROOF = f"{TOP}/.proof"
-# The state of sources and kit, with all times and inodes, at the start of the proof that runs or was stopped.
+# The state of sources and kit, with all times and inodes, at the start of the proof that is running or was stopped.
 BEGUN = f"{PROOF}/begun"
 RECORD, CHECK = f"{PROGRAM}.proved", f"{PROGRAM}.check"
 PARTS = ("src", "specs", "proofs")
 # The check runs this many calls of stat(1) in parallel.
 CALLS = 3
 FORMAT = "%s %.9Y %.9Z %i"
-# A file that changed less than this ago may change again without a new time: two ticks of a slow clock.
+# A file that changed less than this long ago may change again and keep its time. These are two ticks of a slow clock.
 TICK_NS = 20_000_000
 
 
@@ -129,7 +129,7 @@ def is_of(recorded: str) -> bool:
 
 
 def is_recorded() -> bool:
-    """Whether the record is of this program, whatever its sources."""
+    """Whether the record is about the existing program, whatever its sources."""
     try:
         return text_of(RECORD).split("\n")[2:] == [sum_of(PROGRAM)]
     except OSError:
@@ -145,12 +145,12 @@ def checked() -> list[str]:
 
 
 def is_left() -> bool:
-    """Whether there is a program without a matching record, as after `rt ci`."""
+    """Whether there is a program without a matching record, for example after `rt ci`."""
     return os.access(PROGRAM, os.X_OK) and not is_recorded()
 
 
 def keep_check(names: list[str], lines: list[str]) -> None:
-    """Writes the check, so that the next calls compare only this; not if a file has only just changed."""
+    """Writes the check, with which the next calls compare only times. It is not written if a file changed just now."""
     now, size = time.time_ns(), -(-len(names) // CALLS)
     times = [os.lstat(os.path.join(TOP, name)).st_ctime_ns for name in names]
     if any(now - TICK_NS <= it <= now for it in times):
@@ -169,7 +169,7 @@ def is_current() -> bool:
     """Whether the program exists and is proved from the current contents of the sources."""
     if not is_recorded() or not os.access(PROGRAM, os.X_OK):
         return False
-    # (times come before contents: the next call sees what changes from here on)
+    # (times are read before contents, so that the next call notices a change after this point)
     try:
         names = checked()
         lines = [line_of(it) for it in names]
@@ -177,7 +177,7 @@ def is_current() -> bool:
             return False
         keep_check(names, lines)
     except OSError:
-        # (in a folder that cannot be written, for example: each call reads the contents)
+        # (for example in a folder that cannot be written, where each call reads the contents)
         return is_of(text_of(RECORD)) and is_recorded()
     return True
 
@@ -195,7 +195,8 @@ def is_as_begun() -> bool:
 
 
 def record(begun: str) -> bool:
-    """Records that the program is proved from the sources of this state, if none was touched since. Whether it did."""
+    """Records that the program is proved from the sources of this state, unless one was touched since. Whether it did
+    so."""
     if begun != state().strip():
         return False
     lines = begun.split("\n")
@@ -204,7 +205,7 @@ def record(begun: str) -> bool:
 
 
 def end() -> bool:
-    """Records what was proved since `begin`, unless a source was touched meanwhile. Whether it did."""
+    """Records what was proved since `begin`, unless a source was touched meanwhile. Whether it did so."""
     is_whole = record(text_of(BEGUN))
     os.remove(BEGUN)
     return is_whole

@@ -1,4 +1,4 @@
-"""Answers a command line from the sources, by `rt try`. It copies what goes in and out. Nothing of it is proved."""
+"""Answers a command line from the sources, by `rt try`. It copies the inputs and outputs. Nothing of it is proved."""
 from __future__ import annotations
 
 import errno
@@ -15,10 +15,10 @@ from sources import TOP
 WRITE_FAULT = 5
 # One byte more than the longest input that a command accepts.
 MOST_BYTES = 2**27 + 1
-# The last lines of `rt try` after the program has ended, with its status; and the hints that rt prints first.
+# The last lines that `rt try` prints after the program has ended, with its status, and the hints that it prints first.
 ENDED = re.compile(rb"(?:\A|(?<=\n))checked: ended status=\d+\nrun=ended status=(\d+) [^\n]*proved=no\n\Z")
 HINTS = re.compile(rb"\A(?:rt: [^\n]*\n)+")
-# The range of arguments, without the command, that name files that it reads.
+# For each command, which of its arguments name files that it reads, as a range.
 READS = {"sim": (0, 1), "waits": (0, 1), "knots": (0, 1), "show": (0, 1), "compile": (0, 1), "certify": (1, 2), "nodes": (0, 2)}
 
 
@@ -36,7 +36,7 @@ def tell(text: bytes) -> None:
 
 
 def names_in(words: list[str]) -> tuple[list[int], list[int]]:
-    """The numbers of the words that name files that a command reads, and of those that name files that it writes."""
+    """The numbers of the words that name files to read, and of those that name files to write."""
     plain, is_value = [], False
     for number, word in enumerate(words[1:], 1):
         is_option = not is_value and word.startswith("-")
@@ -48,7 +48,7 @@ def names_in(words: list[str]) -> tuple[list[int], list[int]]:
 
 
 def is_device(name: str) -> bool:
-    """Whether the name may mean something else in another process, or gives its bytes only once."""
+    """Whether the name may mean another file in another process, or its bytes can be read only once."""
     try:
         mode = os.stat(name).st_mode
     except OSError:
@@ -57,8 +57,9 @@ def is_device(name: str) -> bool:
 
 
 class Trial:
-    """An answer from the sources. It runs in another folder, so it gets absolute names and copies of devices. A
-    compiled file goes to a temporary file, and to OUT when it is complete, so a trial can be stopped at any time."""
+    """An answer from the sources. It runs in another folder, so it gets absolute names, and copies of devices. A
+    compiled file goes to a temporary file first, and to OUT when it is complete. So a trial can be stopped at any
+    time."""
 
     def __init__(self, words: list[str], folder: str) -> None:
         self.folder, self.ran, self.out = folder, None, None  # type: str, subprocess.Popen[bytes] | None, str | None
@@ -77,7 +78,7 @@ class Trial:
             self.out, self.named[number] = self.named[number], f"{folder}/made"
 
     def from_root(self, name: str) -> str:
-        """The absolute name."""
+        """The absolute form of a file name."""
         try:
             return os.path.join(os.getcwd(), name)
         except FileNotFoundError:
@@ -85,7 +86,7 @@ class Trial:
             return os.path.join(f"{self.folder}/removed", name)
 
     def copy(self, number: int) -> bool:
-        """Copies the bytes of a device. Whether it could be read."""
+        """Copies the bytes of the device that the word with this number names. Whether it could be read."""
         path = f"{self.folder}/{number}"
         try:
             with open(self.named[number], "rb") as given, open(path, "wb") as to:
@@ -102,17 +103,18 @@ class Trial:
         return True
 
     def begin(self) -> None:
-        """Starts it."""
+        """Starts the trial."""
         with open(f"{self.folder}/out", "wb") as out, open(f"{self.folder}/err", "wb") as err:
             how: dict[str, Any] = {"stdin": subprocess.DEVNULL, "stdout": out, "stderr": err, "cwd": f"{TOP}/crates/goal_prog"}
             self.ran = subprocess.Popen(["rt", "try", "--", *self.named], **how)
 
     def is_over(self) -> bool:
-        """Whether it has ended."""
+        """Whether the trial has ended."""
         return self.ran is not None and self.ran.poll() is not None
 
     def status(self, far: str) -> int | None:
-        """After the end: reports the progress of the proof, writes the output, returns the status (None: no answer)."""
+        """After the trial has ended: reports the progress of the proof, `far`, and writes the output. Returns the exit
+        status, or None if there is no answer."""
         with open(f"{self.folder}/err", "rb") as err:
             said = err.read()
         ended = ENDED.search(said)
@@ -138,7 +140,7 @@ class Trial:
                     piece = piece[os.write(1, piece) :]
 
     def write_out(self, path: str) -> None:
-        """Writes OUT; signals that would end this process wait until then."""
+        """Writes OUT. Signals that would end this process are blocked meanwhile."""
         signals = {signal.SIGTERM, signal.SIGHUP, signal.SIGINT}
         signal.pthread_sigmask(signal.SIG_BLOCK, signals)
         try:
