@@ -1,5 +1,5 @@
 #!/usr/bin/env python3
-"""Tests of .ci/believed: which names it reaches, and that it reports a wrong table, group or name."""
+"""Tests of .ci/believed: which names it reaches, and that it reports wrong tables, groups and names."""
 from __future__ import annotations
 
 import contextlib
@@ -13,7 +13,7 @@ import unittest
 from typing import Any
 
 TOP = os.path.dirname(os.path.dirname(os.path.dirname(os.path.abspath(__file__))))
-# what was read, by what it was read from
+# A cache of results of reading files, by the contents of the files.
 READ: dict[str, Any] = {}
 
 
@@ -22,7 +22,7 @@ class Believed(unittest.TestCase):
 
     @classmethod
     def setUpClass(cls) -> None:
-        """A copy of what is read and changed; the rest is linked."""
+        """Makes a copy of the files that the tests read or change, and links to all others."""
         cls.top = tempfile.mkdtemp()
         cls.addClassCleanup(shutil.rmtree, cls.top)
         linked = ("proofs", "must-fail")
@@ -40,7 +40,8 @@ class Believed(unittest.TestCase):
         shutil.copy(f"{TOP}/.ci/believed", f"{cls.top}/.ci")
 
     def called(self, *words: str) -> tuple[int, str]:
-        """The status and the output of .ci/believed with these words, in this process: a file that it has read is not read again."""
+        """The status and the output of .ci/believed with these words. It runs in this process, so that results are
+        cached."""
         path, last = f"{self.top}/.ci/believed", "\nsys.exit(main(sys.argv[1:]))\n"
         with open(path) as it:
             source = it.read()
@@ -56,7 +57,7 @@ class Believed(unittest.TestCase):
         return status, said.getvalue()
 
     def file(self, crate: str, name: str) -> Any:
-        """What .ci/believed takes of a file of specs/, which is the same as long as its bytes are."""
+        """The contents of a file of specs/ as .ci/believed reads them, cached by the text of the file."""
         with open(f"{self.top}/crates/{crate}/specs/{name}.antt") as it:
             key = f"{crate}/{name} {it.read()}"
         if key not in READ:
@@ -64,7 +65,7 @@ class Believed(unittest.TestCase):
         return READ[key]
 
     def kept(self, path: str) -> str:
-        """The text of a file, which it has again after the test."""
+        """The text of a file. The file gets it back after the test."""
         with open(f"{self.top}/{path}") as it:
             text = it.read()
         self.addCleanup(self.write, path, text)
@@ -83,14 +84,14 @@ class Believed(unittest.TestCase):
         self.kept("docs/PROVED.md")
         self.called("--write")
 
-    def test_names_are_followed_and_not_files(self) -> None:
+    def test_names_are_followed_rather_than_files(self) -> None:
         reached = dict(line.split(": ") for line in self.called("--list")[1].splitlines())
         self.assertEqual(reached["goal_graph/Order"].split(), ["IsBefore", "IsLess", "key"])
         self.assertNotIn("goal_graph/Laws", reached)
         self.assertIn("IsCompleteRun", reached["sim_params/Run"].split())
         self.assertNotIn("goal_parser/Laws", reached)
 
-    def test_a_table_that_is_stale_is_told_and_written(self) -> None:
+    def test_a_stale_table_is_reported_and_rewritten(self) -> None:
         self.assertEqual(self.called()[0], 0)
         self.change("docs/PROVED.md", "| goal_print | the canonical text | ", "| goal_print | the canonical text | Page 1, ")
         status, said = self.called()
@@ -99,13 +100,13 @@ class Believed(unittest.TestCase):
         self.write_table()
         self.assertEqual(self.called()[0], 0)
 
-    def test_a_file_in_another_group_is_told(self) -> None:
+    def test_a_file_in_the_wrong_group_is_reported(self) -> None:
         self.change("crates/sim_stuck/specs/Lib.antt", "pub mod StuckText\n-- What only the code keeps.\n", "-- What only the code keeps.\npub mod StuckText\n")
         status, said = self.called()
         self.assertEqual(status, 1)
         self.assertIn("crates/sim_stuck/specs/Lib.antt: StuckText is believed, and not in the first group", said)
 
-    def test_a_law_in_a_file_of_the_first_group_is_told(self) -> None:
+    def test_a_law_in_a_file_of_the_first_group_is_reported(self) -> None:
         rule = "abbrev pub IsLess : List ℕ → List ℕ → Type 0\n"
         law = "abbrev pub NoneIsLess : Type 0\nNoneIsLess = (k : List ℕ) → ¬ (IsLess k k)\n\n"
         self.change("crates/goal_graph/specs/Order.antt", rule, law + rule)
@@ -114,13 +115,13 @@ class Believed(unittest.TestCase):
         self.assertEqual(status, 1)
         self.assertIn("crates/goal_graph/specs/Order.antt: NoneIsLess is in the first group, and the top call does not reach it", said)
 
-    def test_what_is_listed_as_said_by_itself_is_looked_at_again(self) -> None:
+    def test_a_needless_entry_of_by_itself_is_reported(self) -> None:
         self.change(".ci/believed", '    "goal_blocks/Right": ', '    "goal_blocks/Walk": "all of it is reached",\n    "goal_blocks/Right": ')
         status, said = self.called()
         self.assertEqual(status, 1)
         self.assertIn(".ci/believed: BY_ITSELF lists goal_blocks/Walk, and needs not", said)
 
-    def test_a_constant_of_code_in_a_definition_is_told(self) -> None:
+    def test_a_definition_that_cites_a_constant_of_code_is_reported(self) -> None:
         path = "crates/goal_graph/specs/Order.antt"
         self.change(path, "key a = a.time", "key a = MOST_TIME")
         use = "use Rattle.goal_graph.specs.declared.plan.TheConstants.{MOST_TIME}\n\n"
@@ -133,42 +134,42 @@ class Believed(unittest.TestCase):
         with open(f"{self.top}/docs/PROVED.md") as it:
             self.assertIn("`MOST_TIME`", it.read())
 
-    def test_an_exception_for_code_that_is_none_is_told(self) -> None:
+    def test_a_needless_exception_for_code_is_reported(self) -> None:
         begin = "OF_CODE: dict[str, str] = {"
         self.change(".ci/believed", begin, begin + '\n    "goal_graph/plan": "no reason",\n')
         self.assertIn(".ci/believed: OF_CODE lists goal_graph/plan, and needs not", self.called()[1])
 
-    def test_a_name_that_is_nowhere_is_told(self) -> None:
+    def test_a_name_that_is_not_in_the_sources_is_reported(self) -> None:
         self.change("docs/PROVED.md", "`HaveReturned`", "`HaveGone`")
         status, said = self.called()
         self.assertEqual(status, 1)
         self.assertRegex(said, r"docs/PROVED.md:\d+: `HaveGone` is not in the sources")
 
-    def test_a_name_that_a_comment_alone_has_is_told(self) -> None:
+    def test_a_name_that_is_only_in_a_comment_is_reported(self) -> None:
         self.change("docs/PROVED.md", "`HaveReturned`", "`HaveGone`")
         self.change("crates/goal_graph/specs/Order.antt", "abbrev pub IsLess : ", "-- HaveGone\nabbrev pub IsLess : ")
         self.assertIn("`HaveGone` is not in the sources", self.called()[1])
 
-    def test_a_row_whose_call_or_clause_is_gone_is_told(self) -> None:
+    def test_a_row_whose_call_or_clause_does_not_exist_is_reported(self) -> None:
         self.change("crates/sim_match/src/laws.rt", "pub fn laws_of_posts_and_arrivals", "pub fn laws_of_posts")
         self.change("crates/goal_words/src/laws.rt", "ensures options_join {", "ensures options_joined {")
         said = self.called()[1]
         self.assertIn("there is no call `laws_of_posts_and_arrivals` in sim_match, sim_resources", said)
         self.assertIn("`laws_of_lines` has no clause `options_join`", said)
 
-    def test_a_row_apart_from_its_table_is_told(self) -> None:
+    def test_a_row_apart_from_its_table_is_reported(self) -> None:
         self.change("docs/PROVED.md", "\n| `Request::of` |", "\n\n| `Request::of` |")
         self.assertRegex(self.called()[1], r"docs/PROVED.md:\d+: this row has no table")
 
-    def test_a_row_for_a_contract_without_names_is_told_where_it_has_them(self) -> None:
+    def test_a_row_for_unnamed_clauses_is_reported_if_all_have_names(self) -> None:
         self.change("docs/PROVED.md", "| `Request::of` | `request`, `priced` |", "| `Request::of` | — |")
         self.assertIn("`Request::of` has no clause without a name", self.called()[1])
 
-    def test_a_mutant_that_no_clause_of_this_name_refuses_is_told(self) -> None:
+    def test_a_mutant_whose_clause_does_not_exist_is_reported(self) -> None:
         self.change("docs/PROVED.md", "| `said` of `say` |", "| `read` of `say` |")
         self.assertIn("`say` has no clause `read`", self.called()[1])
 
-    def test_a_clause_of_a_trait_counts_for_those_who_meet_it(self) -> None:
+    def test_a_clause_of_a_trait_counts_for_its_implementations(self) -> None:
         self.change("docs/PROVED.md", "| `EventOrder::before` |", "| `EventKey::before` |")
         self.assertEqual(self.called()[0], 0)
 

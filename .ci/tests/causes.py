@@ -1,5 +1,5 @@
 #!/usr/bin/env python3
-"""Tests of the causes of a run, which the tools share: on random schedules every derived time is the printed one."""
+"""Tests of the causes of a run, which several tools use: on random schedules, each derived time is the printed one."""
 import os
 import random
 import sys
@@ -21,7 +21,8 @@ SIZES = (0, 1, 2, 8, 9, 1000)
 
 
 def drawn_schedule(draw: random.Random) -> str:
-    """Messages, calcs and needs on few ranks, cpus and NICs, so that much waits; some receives take from any, or any tag."""
+    """A random schedule with few ranks, cpus and NICs, so that much waits. Some receives take from any rank or with any
+    tag."""
     ranks = draw.randrange(1, 5)
     cpus, nics, calm = draw.choice((1, 1, 2, 3)), draw.choice((1, 1, 2)), draw.random()
     blocks: List[List[str]] = [[] for _ in range(ranks)]
@@ -47,7 +48,7 @@ def drawn_schedule(draw: random.Random) -> str:
 
 
 def drawn_parameters(draw: random.Random) -> Dict[str, int]:
-    """Small numbers, so that times meet, and zeros."""
+    """Random parameters: small numbers and zeros, so that many times are equal."""
     values = {name: draw.choice((0, 0, 1, 2, 5, 10, 100)) for name in ("L", "o", "g")}
     values.update({name: draw.choice((0, 0, 1, 2)) for name in ("G", "O")})
     values.update({name: draw.choice((0, 0, 80, 500)) for name in ("Gp", "Op")})
@@ -55,7 +56,7 @@ def drawn_parameters(draw: random.Random) -> Dict[str, int]:
 
 
 def drawn_machine(draw: random.Random, ranks: int) -> str:
-    """Three classes, and nodes as they are drawn."""
+    """A machine with three classes and random nodes."""
     classes = [" ".join(map(str, ["class", *(drawn_parameters(draw)[name] for name in ("L", "o", "g", "G", "Gp", "O", "Op", "S"))])) for _ in range(3)]
     nodes = [draw.randrange(3) for _ in range(ranks)]
     return f"classes 3 {' '.join(classes)} inside 0 default 1 ranks {ranks} {' '.join(map(str, nodes))} pairs 1 0 1 2"
@@ -81,7 +82,7 @@ def causes_of(schedule: Schedule, run: Run, costs: Costs) -> Causes:
 
 class Drawn(unittest.TestCase):
     def check(self, causes: Causes, run: Run, what: str) -> None:
-        """That every start and end is what its causes make it."""
+        """Checks that each start and end is the greatest time of its causes."""
         for key, timed in run.timed.items():
             first = causes.first(key)
             for action, moment in ((first, timed.start), ((END, key), timed.end)):
@@ -104,7 +105,7 @@ class Drawn(unittest.TestCase):
             self.check(causes_of(schedule, run, costs), run, f"{number}: {machine}\n{text}")
 
     def test_a_run_of_other_parameters_is_refused(self) -> None:
-        """Of those whose run differs: each is refused."""
+        """Each run is refused with other parameters, if these give another run."""
         draw, differ = random.Random(SEED + 2), 0
         for _ in range(ROUNDS // 3):
             text, options = drawn_schedule(draw), drawn_parameters(draw)

@@ -1,5 +1,5 @@
 #!/usr/bin/env python3
-"""Tests of tools/certify: its verdicts are those of `goal certify`, and its statements on slots are true."""
+"""Tests of tools/certify: its verdicts are those of `goal certify`, and its statements about slots are true."""
 import os
 import random
 import re
@@ -34,7 +34,7 @@ rank 2 { s: send 8b to 0  s moves 0 to 0  r: recv 8b from 0  r moves 0 to 0  r r
 
 
 def made(*words: str) -> str:
-    """A schedule of tools/schedule."""
+    """A schedule that tools/schedule makes."""
     return program.expect(program.call(os.path.join(TOP, "tools", "schedule"), words), program.DONE).out
 
 
@@ -43,7 +43,7 @@ def shown(text: str) -> Schedule:
 
 
 def first_wrong(schedule: Schedule, kind: str, block: int = 0) -> Optional[str]:
-    """The first slot that does not hold what is wanted, as the verdict says it."""
+    """The first slot with wrong contents, in the form of a verdict of `goal certify`, or None."""
     flow = Flow(schedule, kind, 0, [block])
     for rank in range(schedule.ranks):
         for slot in wanted_at(kind, schedule.ranks, 0, rank):
@@ -55,15 +55,15 @@ def first_wrong(schedule: Schedule, kind: str, block: int = 0) -> Optional[str]:
 
 
 class Slots(unittest.TestCase):
-    def test_what_is_certified_holds_what_is_wanted(self) -> None:
+    def test_slots_of_certified_schedules_have_the_wanted_contents(self) -> None:
         for kind in KINDS:
             self.assertIsNone(first_wrong(shown(program.call(GOAL, ["gen", kind, "8", "8"]).out), kind), kind)
         for block in range(4):
             self.assertIsNone(first_wrong(shown(made("allreduce-ring", "4", "64")), "allreduce", block))
         self.assertIsNone(first_wrong(shown(made("alltoall-bruck", "6", "64")), "alltoall"))
 
-    def test_the_wrong_slot_is_that_of_the_verdict(self) -> None:
-        """Of schedules with a spoilt note that no race or length shows."""
+    def test_the_verdict_names_the_wrong_slot(self) -> None:
+        """For schedules with a damaged note that causes no race and no wrong length."""
         draw, wrong = random.Random(SEED), 0
         for text, kind in self.spoilt(draw):
             verdict = program.call(GOAL, ["certify", kind, "/dev/stdin"], text).out.strip()
@@ -73,7 +73,7 @@ class Slots(unittest.TestCase):
         self.assertGreater(wrong, 10)
 
     def spoilt(self, draw: random.Random) -> Iterator[Tuple[str, str]]:
-        """Schedules with one slot of one note changed."""
+        """Schedules with one changed slot in one note."""
         for _ in range(60):
             kind = draw.choice(KINDS)
             text = program.call(GOAL, ["gen", kind, "4", "8"]).out
@@ -84,8 +84,8 @@ class Slots(unittest.TestCase):
 
 
 class Explained(unittest.TestCase):
-    def told(self, kind: str, text: str, *words: str) -> str:
-        """What the tool prints. Its first line is that of `goal certify`."""
+    def explained(self, kind: str, text: str, *words: str) -> str:
+        """The output of the tool. Checks that its first line is that of `goal certify`."""
         with tempfile.TemporaryDirectory() as folder:
             with open(os.path.join(folder, "it"), "w", encoding="utf-8") as file:
                 file.write(text)
@@ -97,46 +97,46 @@ class Explained(unittest.TestCase):
         return done.stdout
 
     def test_certified(self) -> None:
-        self.assertEqual(self.told("allreduce", STAR), "certified allreduce ranks 3\n")
+        self.assertEqual(self.explained("allreduce", STAR), "certified allreduce ranks 3\n")
 
     def test_a_race(self) -> None:
-        told = self.told("allreduce", STAR.replace("d requires c", ""))
+        told = self.explained("allreduce", STAR.replace("d requires c", ""))
         self.assertIn("it:5:3: 0 2 is c: calc 2, which adds to slot 0", told)
         self.assertIn("with `d requires c`: certified allreduce ranks 3", told)
 
-    def test_a_contribution_that_is_there_twice(self) -> None:
-        told = self.told("allreduce", STAR.replace("adds 2 to 0", "adds 1 to 0"))
+    def test_a_contribution_that_is_added_twice(self) -> None:
+        told = self.explained("allreduce", STAR.replace("adds 2 to 0", "adds 1 to 0"))
         for line in ("missing: item 0 of rank 2", "there 2 times: item 0 of rank 1", "item 0 of rank 2 ends in slot 2 of rank 0",
                      "it:6:26: d adds 1 to 0 (calc 2 of rank 0), where both slots hold it"):
             self.assertIn(line, told)
 
     def test_pairs(self) -> None:
-        told = self.told("allreduce", STAR.replace("recv 8b from 2 ", "recv 8b from 2 tag 7 "))
+        told = self.explained("allreduce", STAR.replace("recv 8b from 2 ", "recv 8b from 2 tag 7 "))
         self.assertIn("nearest, with another tag, ", told)
-        self.assertIn(", of 2 slots", self.told("allreduce", STAR.replace("a moves 1 to 1", "a moves 1 to 2")))
-        self.assertIn("name the rank and the tag", self.told("allreduce", STAR.replace("recv 8b from 2 ", "recv 8b from any ")))
-        self.assertIn("another tag", self.told("allreduce", STAR.replace("t: send 8b to 2", "t: send 8b to 1")))
+        self.assertIn(", of 2 slots", self.explained("allreduce", STAR.replace("a moves 1 to 1", "a moves 1 to 2")))
+        self.assertIn("name the rank and the tag", self.explained("allreduce", STAR.replace("recv 8b from 2 ", "recv 8b from any ")))
+        self.assertIn("another tag", self.explained("allreduce", STAR.replace("t: send 8b to 2", "t: send 8b to 1")))
 
     def test_a_stall(self) -> None:
         text = "num_ranks 2 rank 0 { s: send 8b to 1 s moves 0 to 0 r: recv 8b from 1 r moves 1 to 1 r requires s } " \
                "rank 1 { s: send 8b to 0 s moves 0 to 0 r: recv 8b from 0 r moves 1 to 1 r requires s }"
-        told = self.told("barrier", text)
+        told = self.explained("barrier", text)
         self.assertIn("waits for its partner", told)
         self.assertIn("and so round from", told)
 
     def test_segments(self) -> None:
-        told = self.told("allreduce", made("allreduce-ring", "4", "4096").replace("l15 moves 3 to 3", "l15 moves 9 to 9"), "--segments")
+        told = self.explained("allreduce", made("allreduce-ring", "4", "4096").replace("l15 moves 3 to 3", "l15 moves 9 to 9"), "--segments")
         self.assertIn("segment 3: not certified: wrong 1 slot 3\n", told)
         self.assertIn("missing: item 3 of rank 2", told)
         self.assertIn("slot 9 of rank 1", told)
 
     def test_a_slot_of_two_segments(self) -> None:
-        """Slot 0 gets what begins in segment 1, too."""
+        """A slot of segment 0 also gets data of segment 1."""
         text = made("allreduce-ring", "2", "64", "--segments", "1")
         last = max(int(label) for label in re.findall(r"^l(\d+):", text.split("rank 1")[0], re.MULTILINE))
         needs = "".join(f"l{last + 1} requires l{label}\n" for label in range(1, last + 1))
         mixing = f"l{last + 1}: calc 0 cpu 0\n{needs}l{last + 1} adds 1 to 0\n"
-        told = self.told("allreduce", text.replace("}\n", mixing + "}\n", 1), "--segments")
+        told = self.explained("allreduce", text.replace("}\n", mixing + "}\n", 1), "--segments")
         self.assertIn("mixed 0 slot 0", told)
         self.assertIn("not wanted: item 1 of rank 0", told)
         self.assertIn(f"l{last + 1} adds 1 to 0", told)

@@ -1,6 +1,6 @@
 #!/usr/bin/env python3
-"""Tests of tools/check: operations without a partner, with the most similar one; rings; receives that compete or are
-too small; and all of these at once. On random schedules it finds a fault exactly if a run without eager sends
+"""Tests of tools/check. It finds operations without a partner, with the most similar one; cycles; receives that compete
+or are too small; and all of these at once. On random schedules, it finds a fault exactly if a run without eager sends
 hangs."""
 from __future__ import annotations
 
@@ -21,7 +21,7 @@ SEED = 20261201
 
 
 def checked(text: str, *words: str) -> tuple[int, list[str], str]:
-    """The status of the tool, and its lines without the names of the file."""
+    """The status of the tool, its lines, and its standard error."""
     done = tool_calls.called("check", "-", *words, given=text)
     return done.returncode, done.stdout.splitlines(), done.stderr
 
@@ -32,7 +32,7 @@ class Findings(unittest.TestCase):
         self.assertEqual((status, told), (6, ""))
         return lines
 
-    def test_another_tag_size_or_rank_is_told(self) -> None:
+    def test_another_tag_size_or_rank_is_reported(self) -> None:
         for receive, wanted in (("recv 8b from 0 tag 7", "nearest, with another tag, 7"), ("recv 9b from 0 tag 7", "nearest, with another tag, 7 and another size, 9 bytes"),
                                 ("recv 8b from 2", "nearest, with another rank, from 2")):
             lines = self.said(f"num_ranks 3 rank 0 {{ s: send 8b to 1 }} rank 1 {{ r: {receive} }}")
@@ -60,14 +60,14 @@ class Findings(unittest.TestCase):
         lines = self.said("num_ranks 2 rank 0 { send 8b to 1 } rank 1 { recv 4b from any }")
         self.assertEqual(lines[:2], ["smaller than its message: -:1:46: 1 0 is recv 4b from any", "  the message: -:1:22: 0 0 is send 8b to 1"])
 
-    def test_a_ring_by_the_greatest_eager_size(self) -> None:
+    def test_a_cycle_depends_on_the_greatest_eager_size(self) -> None:
         text = "num_ranks 2 rank 0 { s: send 8b to 1 r: recv 8b from 1 r requires s } rank 1 { s: send 8b to 0 r: recv 8b from 0 r requires s }"
         self.assertEqual(checked(text)[0], 0)
         lines = self.said(text, "--S", "0")
         self.assertEqual([line.split(": ", 1)[1] for line in lines[1:-1]], ["0 0 is s: send 8b to 1", "1 1 is r: recv 8b from 0",
                                                                              "1 0 is s: send 8b to 0", "0 1 is r: recv 8b from 1"])
 
-    def test_a_wrong_tag_and_a_ring_at_once(self) -> None:
+    def test_a_wrong_tag_and_a_cycle_at_once(self) -> None:
         lines = self.said("num_ranks 4 rank 0 { s: send 8b to 1 r: recv 8b from 1 r requires s } rank 1 { s: send 8b to 0 r: recv 8b from 0 tag 1 r requires s }"
                           "rank 2 { send 8b to 3 tag 2 } rank 3 { recv 8b from 2 }", "--S", "0")
         self.assertEqual([line.split(":")[0].split(",")[0] for line in lines if line[0] != " "],
@@ -85,7 +85,7 @@ class Findings(unittest.TestCase):
 
 
 def drawn(draw: random.Random) -> str:
-    """A schedule of three ranks, where no two messages share a channel. Here and there an end has another tag."""
+    """A random schedule of three ranks, where no two messages share a channel. Some receives have a wrong tag."""
     blocks: list[list[str]] = [[] for _ in range(3)]
     for tag in range(draw.randrange(1, 7)):
         source, target = draw.sample(range(3), 2)
@@ -103,7 +103,7 @@ def drawn(draw: random.Random) -> str:
 
 
 class Drawn(unittest.TestCase):
-    def test_a_fault_is_found_where_a_run_does_not_end(self) -> None:
+    def test_a_fault_is_found_exactly_if_a_run_hangs(self) -> None:
         draw, hung = random.Random(SEED), 0
         for _ in range(150):
             text = drawn(draw)
@@ -115,8 +115,8 @@ class Drawn(unittest.TestCase):
             hung += found
         self.assertTrue(30 < hung < 120, hung)
 
-    def test_as_many_as_can_be_are_matched(self) -> None:
-        """By all assignments of a few receives to a few messages."""
+    def test_the_matching_is_a_maximum(self) -> None:
+        """Compared with all assignments of a few receives to a few messages."""
         draw = random.Random(SEED)
         channels = [(source, tag) for source in "01" for tag in "01"]
         patterns = [(source, tag) for source in ("0", "1", "any") for tag in ("0", "1", "any")]
@@ -128,7 +128,7 @@ class Drawn(unittest.TestCase):
 
 
 def most(free: dict[tuple[str, str], int], patterns: list[tuple[str, str]]) -> int:
-    """The most receives of these patterns that get one of the messages, by trying all."""
+    """The greatest number of receives of these patterns that can get a message, by trying all assignments."""
     if not patterns:
         return 0
     best = most(free, patterns[1:])

@@ -1,5 +1,6 @@
 #!/usr/bin/env python3
-"""Tests of examples/README.md: it names each file, and its claims on how `sim`, `waits` and `knots` end are true."""
+"""Tests of examples/README.md: it names each file, and `sim`, `waits` and `knots` end with the statuses that it
+states."""
 import os
 import re
 import sys
@@ -13,16 +14,16 @@ GOAL = program.chosen()
 EXAMPLES = os.path.join(TOP, "examples")
 
 
-class Told(unittest.TestCase):
+class Claims(unittest.TestCase):
     def setUp(self) -> None:
         with open(os.path.join(EXAMPLES, "README.md"), encoding="utf-8") as file:
             self.text = file.read()
 
-    def test_each_file_is_told(self) -> None:
-        told = set(re.findall(r"^\| `(\w+)` \||^\*\*An? \w+\*\*, `([\w.]+)`", self.text, re.MULTILINE))
-        self.assertEqual({one or other for one, other in told}, set(os.listdir(EXAMPLES)) - {"README.md"})
+    def test_each_file_is_described(self) -> None:
+        described = set(re.findall(r"^\| `(\w+)` \||^\*\*An? \w+\*\*, `([\w.]+)`", self.text, re.MULTILINE))
+        self.assertEqual({one or other for one, other in described}, set(os.listdir(EXAMPLES)) - {"README.md"})
 
-    def test_they_end_as_told(self) -> None:
+    def test_each_ends_with_the_stated_status(self) -> None:
         rows = re.findall(r"^\| `(\w+)` \| .* \| (\d) \|$", self.text, re.MULTILINE)
         self.assertEqual(len(rows), 12)
         for name, status in rows:

@@ -1,6 +1,6 @@
 #!/usr/bin/env python3
-"""Tests of launch/explain.py: it finds a fault in a command line exactly if the program refuses it; it names the
-word, the file and the place of a byte; and it adds nothing if no person reads."""
+"""Tests of launch/explain.py. It finds a fault in a command line exactly if the program refuses it. It names the word,
+the file and the place of a byte. It adds nothing if no person reads standard error."""
 from __future__ import annotations
 
 import gzip
@@ -24,7 +24,7 @@ EXCHANGE = os.path.join(TOP, "examples", "exchange")
 
 
 def explained(words: Sequence[str], **how: Any) -> tuple[int, str, list[str]]:
-    """What the program says with these words where a person reads: its status, standard output and standard error."""
+    """Runs the program with explanations: its status, standard output, and the lines of standard error."""
     code = "import sys; sys.path.insert(0, sys.argv[1]); import explain; explain.become(sys.argv[2], sys.argv[3:])"
     command = [sys.executable, "-c", code, os.path.join(TOP, "launch"), GOAL, *words]
     how.setdefault("env", {**os.environ, "GOAL_EXPLAIN": "1"})
@@ -33,7 +33,7 @@ def explained(words: Sequence[str], **how: Any) -> tuple[int, str, list[str]]:
 
 
 class Lines(unittest.TestCase):
-    def test_the_word_at_fault(self) -> None:
+    def test_the_wrong_word_is_named(self) -> None:
         for words, wanted in (
                 ("sim --L 1us x", "word 3: 1us is not a number: 1 to 20 digits, in ns. The form is: goal sim NAME [--L N]"),
                 ("sim x --L=1us", "word 3: 1us is not a number: 1 to 20 digits, in ns."),
@@ -52,7 +52,7 @@ class Lines(unittest.TestCase):
             self.assertEqual(len(said), 1, words)
             self.assertTrue(said[0].startswith(wanted), (words, said[0]))
 
-    def test_a_fault_is_found_where_the_program_finds_one(self) -> None:
+    def test_a_fault_is_found_exactly_if_the_program_finds_one(self) -> None:
         draw = random.Random(SEED)
         pieces = [*explain.COMMANDS, *explain.KINDS, *explain.RUN_OPTIONS, "--root", "--L=5", "--G=x", "--S=", "--Gp=999", "--Gp=1000", "--l=1", "-",
                   "", "/dev/null", "0", "1", "8", "007", "65536", "65537", "300000", "300001", "99999999999999999999", "123456789012345678901",
@@ -91,7 +91,7 @@ class Files(unittest.TestCase):
         return path
 
     def added(self, *words: str) -> str:
-        """The line that is added, without the folder."""
+        """The added line, without the path of the folder."""
         status, out, lines = explained(words)
         self.assertEqual((out, len(lines), status in (3, 4)), ("", 2, True), (words, lines))
         self.assertEqual(lines[0], program.call(GOAL, words).err)
@@ -125,13 +125,13 @@ class Files(unittest.TestCase):
         self.assertEqual(self.added("nodes", EXCHANGE, self.file(b"classes 1\nclass 1 2 x")), "goal: it:2:11: here is x")
         self.assertEqual(self.added("sim", self.file(b"num_ranks 1\nrank 0 { a: calc 1 b: calc 2 a requires b b requires a }")), "goal: it:2:10: 0 0 is a: calc 1")
 
-    def test_what_needs_more_than_a_place(self) -> None:
+    def test_refusals_without_a_place(self) -> None:
         self.assertEqual(self.added("gen", "allreduce", "6", "8"), "goal: an allreduce has 1, 2, 4, 8 .. ranks; tools/schedule writes allreduces of any number")
         self.assertEqual(self.added("gen", "alltoall", "600", "8"), "goal: it is made for at most 512 ranks")
         machine = os.path.join(TOP, "examples", "two_nodes")
         self.assertEqual(self.added("nodes", EXCHANGE, machine), f"goal: {explain.shown(machine)} has nodes for 16 ranks, and the schedule has another number of ranks")
 
-    def test_what_came_through_a_pipe_is_gone(self) -> None:
+    def test_a_pipe_cannot_be_read_again(self) -> None:
         status, _, lines = explained(["sim", "/dev/stdin"], input=b"num_ranks")
         self.assertEqual((status, lines), (3, ["goal: refused: text: syntax at 9", "goal: /dev/stdin came through a pipe and can not be read again: "
                                                "save it in a file, and the place of the fault is told"]))
@@ -150,7 +150,7 @@ class Files(unittest.TestCase):
 
 
 class Help(unittest.TestCase):
-    def test_the_commands_in_ten_lines(self) -> None:
+    def test_the_help_lists_the_commands(self) -> None:
         for words in ((), ["--help"]):
             status, out, lines = explained(words)
             self.assertEqual((status, out, lines[0], len(lines)), (2, "", "goal: the words are not a command line of goal", 11))
@@ -163,7 +163,7 @@ class Help(unittest.TestCase):
         self.assertEqual((status, len(lines)), (2, 2))
         self.assertIn("the sources are", lines[1])
 
-    def test_the_documents_have_the_forms(self) -> None:
+    def test_the_documents_have_the_usage_lines(self) -> None:
         with open(os.path.join(TOP, "docs", "COMMANDS.md"), encoding="utf-8") as file:
             text = file.read()
         self.assertIn(explain.form_of("sim"), text)
@@ -172,14 +172,14 @@ class Help(unittest.TestCase):
 
 
 class Quiet(unittest.TestCase):
-    def test_without_a_reader_nothing_is_added(self) -> None:
+    def test_nothing_is_added_unless_a_person_reads(self) -> None:
         env = {key: value for key, value in os.environ.items() if key != "GOAL_EXPLAIN"}
         for words in ((), ["--help"], ["sim"], ["sim", "/no/such/file"], ["sim", "/dev/null"], ["knots", EXCHANGE],
                       ["knots", os.path.join(TOP, "examples", "both_send_first")]):
             answer = program.call(GOAL, words)
             self.assertEqual(explained(words, env=env), (answer.status, answer.out, answer.err.splitlines()), words)
 
-    def test_what_succeeds_has_nothing_added(self) -> None:
+    def test_nothing_is_added_after_success(self) -> None:
         for words in (["knots", EXCHANGE], ["knots", os.path.join(TOP, "examples", "both_send_first")]):
             answer = program.call(GOAL, words)
             self.assertEqual(explained(words), (answer.status, answer.out, []), words)
@@ -195,7 +195,7 @@ class Quiet(unittest.TestCase):
         os.close(ours)
         self.assertEqual((done.returncode, told), (4, ["goal: reading failed", "goal: /no/such/file is not there"]))
 
-    def test_the_words_of_the_launcher(self) -> None:
+    def test_the_call_by_the_launcher(self) -> None:
         done = subprocess.run([sys.executable, os.path.join(TOP, "launch", "explain.py"), GOAL, "4", "sim", "/no/such/file"], capture_output=True, text=True, check=False)
         self.assertEqual((done.returncode, done.stdout, done.stderr), (0, "", "goal: /no/such/file is not there\n"))
 

@@ -1,7 +1,6 @@
 #!/usr/bin/env python3
-"""Tests of tools/fold: with a card for each rank it gives the run of `goal nodes`, operation by operation; with
-shared cards it gives small runs that were computed by hand; and a schedule that cannot be folded is refused with the
-reason."""
+"""Tests of tools/fold. With a card for each rank, it gives the run of `goal nodes`, operation by operation. With shared
+cards, it gives small runs that were computed by hand. A schedule that cannot be folded is refused with the reason."""
 import os
 import random
 import subprocess
@@ -30,17 +29,17 @@ def canonical(text: str) -> str:
 
 
 def run_by(text: str, cluster: Cluster, cards: Cards) -> List[str]:
-    """The run of the folded schedule, in the ranks of the schedule."""
+    """The run of the folded schedule, in the ranks of the original schedule."""
     return folding.run_folded(GOAL, folding.Fold(read_canonical(canonical(text).splitlines()), cluster.machine, cards))
 
 
 def run_of_nodes(text: str, cluster: Cluster) -> List[str]:
-    """What `goal nodes` prints itself."""
+    """The run that `goal nodes` prints."""
     return folding.run_lines(GOAL, "/dev/stdin", text, cluster, OWN)
 
 
 def drawn_schedule(draw: random.Random, ranks: int, wild: bool) -> str:
-    """Messages, calcs and needs as they are drawn; with `wild`, some receives take from any or with any tag."""
+    """A random schedule. With `wild`, some receives take from any rank or with any tag."""
     blocks: List[List[str]] = [[] for _ in range(ranks)]
     counts = [0] * ranks
 
@@ -62,7 +61,7 @@ def drawn_schedule(draw: random.Random, ranks: int, wild: bool) -> str:
 
 
 def drawn_machine(draw: random.Random, ranks: int, in_order: bool) -> Cluster:
-    """Nodes as they are drawn; `in_order`, the ranks of a node follow one another."""
+    """A machine with random nodes. With `in_order`, the ranks of a node are successive."""
     nodes = [draw.randrange(4) for _ in range(ranks)]
     nodes = sorted(nodes) if in_order else nodes
     names = sorted(set(nodes))
@@ -73,7 +72,7 @@ def drawn_machine(draw: random.Random, ranks: int, in_order: bool) -> Cluster:
 
 
 class Own(unittest.TestCase):
-    """With a card for each rank."""
+    """Runs with a card for each rank."""
 
     def check(self, text: str, cluster: Cluster, what: str, whole: bool = True) -> None:
         folded, wanted = run_by(text, cluster, OWN), run_of_nodes(text, cluster)
@@ -97,7 +96,7 @@ class Own(unittest.TestCase):
                 self.check("".join(algorithm.make(wish).text()), drawn_machine(draw, ranks, False), f"{algorithm.name} {ranks}")
 
     def test_drawn_schedules(self) -> None:
-        """Cpus, nics, tags, needs by start, large messages, and much that is stuck."""
+        """With several cpus, NICs and tags, `irequires`, rendezvous messages, and many stuck operations."""
         for seed in range(40):
             draw = random.Random(seed)
             ranks = draw.randrange(1, 12)
@@ -125,8 +124,8 @@ class Own(unittest.TestCase):
 
 
 class Shared(unittest.TestCase):
-    """Two nodes of two ranks, worked by hand: of 1,000 bytes over the cable a card is held for 50 + 999 ns at each side, and they
-    arrive 100 + 999 + 1000 ns after the send begins."""
+    """Two nodes of two ranks, computed by hand. A message of 1,000 bytes over the cable holds the card at each side for
+    50 + 999 ns, and arrives 100 + 999 + 1000 ns after the send begins."""
 
     two_of_two = read("", CLASSES + "nodes 2 of 2\n")
 
@@ -142,8 +141,9 @@ class Shared(unittest.TestCase):
                    "op 2 0 recv start 0 end 2199 match 0 0", "op 3 0 recv start 0 end 3248 match 1 0")
         self.check(text, Cards(2), "op 3 0 recv start 0 end 2199 match 1 0")
 
-    def test_a_small_message_waits_at_the_card_that_receives(self) -> None:
-        # 100 bytes begin at 1049 and arrive at 1049 + 100 + 99 + 1000 = 2248; the card takes them when it has had the 1,000, at 3148
+    def test_a_small_message_waits_for_the_receiving_card(self) -> None:
+        # (the message of 100 bytes is sent at 1049 and arrives at 1049 + 100 + 99 + 1000 = 2248; the card takes it at
+        # 3148, after the message of 1,000 bytes)
         text = "num_ranks 4 rank 0 { send 1000b to 2 } rank 1 { send 100b to 3 } rank 2 { recv 1000b from 0 } rank 3 { recv 100b from 1 }"
         self.check(text, ONE, "op 1 0 send start 1049 end 1149 match 3 0", "op 3 0 recv start 0 end 3248 match 1 0")
 
@@ -151,7 +151,7 @@ class Shared(unittest.TestCase):
         text = "num_ranks 4 rank 0 { send 1000b to 2 recv 1000b from 1 cpu 1 } rank 1 { send 1000b to 0 } rank 2 { recv 1000b from 0 }"
         self.check(text, ONE, "op 1 0 send start 0 end 5 match 0 1", "op 0 1 recv start 0 end 20 match 1 0")
 
-    def test_where_a_rank_has_two_cpus_a_path_inside_and_a_card_are_two(self) -> None:
+    def test_a_path_inside_a_node_and_a_card_are_separate(self) -> None:
         text = "num_ranks 4 rank 0 { send 1000b to 1 send 1000b to 2 cpu 1 } rank 1 { recv 1000b from 0 } rank 2 { recv 1000b from 0 }"
         self.check(text, OWN, "op 0 1 send start 1 end 101 match 2 0")
         self.check(text, ONE, "op 0 1 send start 0 end 100 match 2 0")
@@ -165,7 +165,7 @@ class Shared(unittest.TestCase):
                                   "2 in turn": ["0", "0", "1049", "1049"], "3": ["0", "1049", "0", "0"],
                                   "4": ["0"] * 4, "8": ["0"] * 4, "own": ["0"] * 4})
 
-    def test_nics_of_a_rank_are_cards_from_its_own_on(self) -> None:
+    def test_nics_of_a_rank_are_successive_cards(self) -> None:
         text = "num_ranks 2 rank 0 { send 1000b to 1 send 1000b to 1 cpu 1 nic 1 } rank 1 { recv 1000b from 0 recv 1000b from 0 cpu 1 nic 1 }"
         cluster = read("", CLASSES + "nodes 2 of 1\n")
         self.check(text, Cards(2), "op 1 1 recv start 0 end 2199 match 0 1", cluster=cluster)
@@ -181,7 +181,7 @@ class Shared(unittest.TestCase):
 
 
 class Refused(unittest.TestCase):
-    def test_what_can_not_be_folded_is_told(self) -> None:
+    def test_a_schedule_that_can_not_be_folded_is_refused(self) -> None:
         from_any = "num_ranks 4 rank 0 { send 1b to 2 } rank 1 { send 1b to 2 } rank 3 { send 1b to 2 } "
         for text, nodes, cards, why in (
                 (from_any + "rank 2 { recv 1b from any recv 1b from 1 }", "nodes 2 of 2", ONE,
@@ -197,7 +197,7 @@ class Refused(unittest.TestCase):
                 run_by(text, read("", CLASSES + nodes), cards)
             self.assertTrue(str(told.exception).startswith(why), str(told.exception))
 
-    def test_from_any_is_folded_where_it_can_be(self) -> None:
+    def test_receives_from_any_are_folded_if_possible(self) -> None:
         text = "num_ranks 4 rank 0 { send 1b to 2 } rank 1 { send 1b to 2 } rank 2 { recv 1b from any recv 1b from any }"
         lines = run_by(text, read("", CLASSES + "nodes 2 of 2"), ONE)
         self.assertIn("op 1 0 send start 50 end 150 match 2 1", lines)
@@ -233,7 +233,7 @@ class Words(unittest.TestCase):
             self.assertEqual(drawn.stdout, self.ended("timeline", "schedule", "--machine", "cluster", "--run", "run", cwd=folder).stdout)
             self.assertIn("finish 3,248 ns", drawn.stdout)
 
-    def test_what_is_stuck_ends_with_status_1(self) -> None:
+    def test_a_stuck_run_ends_with_status_1(self) -> None:
         with tempfile.NamedTemporaryFile("w") as file:
             file.write(self.description)
             file.flush()
@@ -247,12 +247,12 @@ class Words(unittest.TestCase):
 
 
 class Placements(unittest.TestCase):
-    def test_ranks_are_dealt_to_nodes_of_the_same_sizes(self) -> None:
+    def test_ranks_are_placed_on_nodes_of_the_same_sizes(self) -> None:
         cluster = read("", CLASSES + "node 0 5 3\nnode 1\nnode 2 4\n")
         self.assertEqual(cluster.placed("block").machine.nodes, [0, 0, 0, 1, 2, 2])
         self.assertEqual(cluster.placed("cyclic").machine.nodes, [0, 1, 2, 0, 2, 0])
 
-    def test_they_are_those_of_the_description(self) -> None:
+    def test_placements_equal_those_of_a_description(self) -> None:
         block, cyclic = (read("", CLASSES + f"nodes 3 of 4{how}\n") for how in ("", " cyclic"))
         self.assertEqual(block.placed("cyclic").machine.nodes, cyclic.machine.nodes)
         self.assertEqual(cyclic.placed("block").machine.nodes, block.machine.nodes)

@@ -1,7 +1,7 @@
 #!/usr/bin/env python3
-"""Tests of ./install in a checkout with a fake proof: the program that the other tests use, with a record that it is
-proved from the sources there. An installation runs without the project; its man pages and completions have all
-options and tools."""
+"""Tests of ./install in a checkout with a fake proof: the checkout has the program that the other tests use, and a
+record that it is proved from the sources there. An installation runs without the project. Its man pages and completions
+have all options and tools."""
 from __future__ import annotations
 
 import os
@@ -24,7 +24,7 @@ TOOLS = [name for name in sorted(os.listdir(os.path.join(TOP, "tools"))) if os.a
          and os.path.isfile(os.path.join(TOP, "tools", name))]
 # A PATH with neither the kit nor a checkout.
 BARE = "/usr/bin:/bin"
-# The record of a program in a checkout, as launch/sources.py keeps it after a proof.
+# Writes the record that launch/sources.py keeps of a program in a checkout after a proof.
 RECORD = """import sys; sys.path.insert(0, "launch"); import sources
 sources.put(sources.RECORD, f"{sources.digest()}\\na kit\\n{sources.sum_of(sources.PROGRAM)}\\n")"""
 Ended = Tuple[int, str, str]
@@ -38,13 +38,13 @@ def run(words: List[str], **how: Any) -> Ended:
 
 
 def tree(folder: str) -> List[str]:
-    """What is below a folder, but for what Python keeps."""
+    """The paths below a folder, except compiled modules of Python."""
     found = (os.path.relpath(os.path.join(at, name), folder) for at, folders, names in os.walk(folder) for name in folders + names)
     return sorted(path for path in found if "__pycache__" not in path)
 
 
 class Place(unittest.TestCase):
-    """A folder with a checkout and room for installations."""
+    """Makes a folder with a checkout, and a path for an installation."""
 
     def setUp(self) -> None:
         self.work = tempfile.mkdtemp(prefix="install ")
@@ -72,30 +72,30 @@ class Place(unittest.TestCase):
             file.write(text)
 
     def record(self) -> None:
-        """Has the program count as proved."""
+        """Records that the program is proved."""
         subprocess.run([sys.executable, "-B", "-c", RECORD], cwd=self.checkout, check=True)
 
     def install(self, *words: str, **env: str) -> Ended:
         return run([os.path.join(self.checkout, "install"), *words], env={"PATH": BARE, **env}, cwd=self.work)
 
     def installed(self, prefix: Optional[str] = None, **env: str) -> None:
-        """Installs, which goes well."""
+        """Installs, and checks that this succeeds."""
         ended = self.install(prefix or self.prefix, **env)
         self.assertEqual((ended[0], ended[2]), (0, ""), ended)
 
     def call(self, name: str, *words: str, prefix: Optional[str] = None, **env: str) -> Ended:
-        """What an installed command says."""
+        """Calls an installed command."""
         path = os.path.join(prefix or self.prefix, "bin")
         return run([name, *words], env={"PATH": f"{path}:{BARE}", **env}, cwd=self.work)
 
     def refused(self, ended: Ended, why: str) -> None:
-        """One line says why, and that is all."""
+        """Checks that the only output of a call is one line with the reason."""
         self.assertEqual((ended[0], ended[1], ended[2].count("\n")), (2, "", 1), ended)
         self.assertTrue(ended[2].startswith("install: ") and why in ended[2], ended)
 
 
 class Installing(Place):
-    def test_what_is_installed_runs_without_the_checkout(self) -> None:
+    def test_an_installation_runs_without_the_checkout(self) -> None:
         self.installed()
         shutil.rmtree(self.checkout)
         moved = os.path.join(self.work, "moved")
@@ -128,7 +128,7 @@ class Installing(Place):
         self.assertEqual(run([link, "gen", "barrier", "1", "0"])[0], 0)
         self.assertEqual(run(["sh", "goal", "gen", "barrier", "1", "0"], cwd=os.path.join(self.prefix, "bin"))[0], 0)
 
-    def test_a_failure_is_explained_and_the_version_told(self) -> None:
+    def test_failures_are_explained_and_the_version_is_printed(self) -> None:
         self.installed()
         status, _, told = self.call("goal", "--version", GOAL_EXPLAIN="1")
         lines = told.splitlines()
@@ -151,14 +151,14 @@ class Installing(Place):
         self.installed()
         self.assertEqual(self.call("goal", "gen", "barrier", "1", "0")[0], 0)
 
-    def test_folders_of_a_package(self) -> None:
+    def test_a_package_is_staged_in_destdir(self) -> None:
         room = os.path.join(self.work, "room")
         self.installed("/opt/goal", DESTDIR=room)
         self.assertEqual(self.call("goal", "gen", "barrier", "1", "0", prefix=f"{room}/opt/goal")[0], 0)
         self.assertEqual(self.install("--remove", "/opt/goal", DESTDIR=room)[0], 0)
         self.assertEqual(tree(room), ["opt"])
 
-    def test_who_may_read_it(self) -> None:
+    def test_everyone_may_read_it(self) -> None:
         how: Dict[str, Any] = {"env": {"PATH": BARE}, "preexec_fn": lambda: os.umask(0o077)}
         self.assertEqual(run([os.path.join(self.checkout, "install"), self.prefix], **how)[0], 0)
         for path in tree(self.prefix):
@@ -174,7 +174,7 @@ class Removing(Place):
         self.assertEqual(self.install("--remove", self.prefix), (0, "", ""))
         self.assertFalse(os.path.exists(self.prefix))
 
-    def test_what_a_killed_installation_left(self) -> None:
+    def test_files_of_a_killed_installation_are_removed(self) -> None:
         self.installed()
         os.remove(os.path.join(self.prefix, "bin", "goal"))
         for name in ("bin/goal", "lib/goal/manifest"):
@@ -182,7 +182,7 @@ class Removing(Place):
         self.assertEqual(self.install("--remove", self.prefix), (0, "", ""))
         self.assertFalse(os.path.exists(self.prefix))
 
-    def test_what_was_there_stays(self) -> None:
+    def test_other_files_stay(self) -> None:
         for name in ("bin/other", "share/man/man1/other.1", "lib/goal/own"):
             os.makedirs(os.path.dirname(os.path.join(self.prefix, name)), exist_ok=True)
             self.write(os.path.join(self.prefix, name), "")
@@ -200,7 +200,7 @@ class Removing(Place):
 
 
 class Again(Place):
-    def test_a_newer_one_takes_the_place(self) -> None:
+    def test_a_newer_installation_replaces_an_older_one(self) -> None:
         self.write(os.path.join(self.checkout, "tools", "former"), "#!/bin/sh\n")
         os.chmod(os.path.join(self.checkout, "tools", "former"), 0o755)
         self.installed()
@@ -214,7 +214,7 @@ class Again(Place):
         self.assertEqual(self.install("--remove", self.prefix), (0, "", ""))
         self.assertFalse(os.path.exists(self.prefix))
 
-    def test_the_manifest_has_all(self) -> None:
+    def test_the_manifest_lists_all_files(self) -> None:
         self.installed()
         self.installed()
         with open(os.path.join(self.prefix, "lib/goal/manifest"), encoding="utf-8") as file:
@@ -223,24 +223,24 @@ class Again(Place):
 
 
 class Refused(Place):
-    def nothing(self, why: str, **env: str) -> None:
-        """An installation that is refused leaves nothing."""
+    def refused_cleanly(self, why: str, **env: str) -> None:
+        """Checks that an installation is refused for this reason, and leaves nothing."""
         before = os.path.exists(self.prefix), tree(self.prefix)
         self.refused(self.install(self.prefix, **env), why)
         self.assertEqual((os.path.exists(self.prefix), tree(self.prefix)), before)
 
     def test_a_program_that_is_not_proved(self) -> None:
         self.write(self.source, "changed\n")
-        self.nothing("no program is proved from the current sources: `rt ci` proves one")
+        self.refused_cleanly("no program is proved from the current sources: `rt ci` proves one")
 
     def test_a_program_that_was_replaced(self) -> None:
         with open(self.program, "ab") as file:
             file.write(b"x")
-        self.nothing("no program is proved")
+        self.refused_cleanly("no program is proved")
 
     def test_no_program(self) -> None:
         os.remove(self.program)
-        self.nothing("no program is proved")
+        self.refused_cleanly("no program is proved")
 
     def test_words(self) -> None:
         for words in ((), ("--remove",), ("a", "b"), ("a", "--remove"), ("--prefix",), ("",), ("--remove", "--remove", "a")):
@@ -248,18 +248,18 @@ class Refused(Place):
                 self.refused(self.install(*words), "./install PREFIX")
         self.assertEqual(self.install("--help")[0], 0)
 
-    def test_what_another_has_put_there(self) -> None:
+    def test_a_foreign_file(self) -> None:
         os.makedirs(os.path.join(self.prefix, "bin"))
         self.write(os.path.join(self.prefix, "bin", "goal"), "")
-        self.nothing("bin/goal exists and is not part of an installation")
+        self.refused_cleanly("bin/goal exists and is not part of an installation")
 
     def test_a_place_that_cannot_be_written(self) -> None:
         self.write(self.prefix, "")
-        self.nothing("where it goes")
+        self.refused_cleanly("where it goes")
         os.remove(self.prefix)
         os.makedirs(self.prefix)
         self.write(os.path.join(self.prefix, "share"), "")
-        self.nothing("share")
+        self.refused_cleanly("share")
 
     @unittest.skipIf(os.geteuid() == 0 and not shutil.which("setpriv"), "root may write everywhere")
     def test_a_folder_of_others(self) -> None:
@@ -288,7 +288,7 @@ class Completing(Place):
         self.installed()
 
     def offered(self, line: str) -> List[str]:
-        """What is offered at the end of a line; `|` divides its words as bash does."""
+        """The completions at the end of a line. In the line, `|` separates the words that bash would make."""
         words = line.split("|")
         file = os.path.join(self.prefix, "share/bash-completion/completions", words[0])
         script = 'source "$1"; shift; COMP_WORDS=("$@"); COMP_CWORD=$(($# - 1)); complete -p "$1" >&2; ' \
@@ -334,11 +334,11 @@ class Completing(Place):
 
 
 class Manuals(unittest.TestCase):
-    """The man pages have all that there is, and the formatter finds nothing wrong."""
+    """The man pages have all commands, tools, options and limits, and the formatter reports no fault."""
 
     @staticmethod
     def shown(name: str) -> str:
-        """A page as it is read, with its lines joined; or its source, where there is no man."""
+        """A page as `man` shows it, with its lines joined; without `man`, its source."""
         path = os.path.join(TOP, "installed", name)
         if shutil.which("man"):
             ended = run(["man", "-l", path], env={"PATH": BARE, "MANWIDTH": "200", "LC_ALL": "C.UTF-8"})
@@ -367,7 +367,7 @@ class Manuals(unittest.TestCase):
             self.assertIn(f".Nm goal-{name}", parts[0])
             said = run([os.path.join(TOP, "tools", name), "--help"])[1]
             options = {word for line in re.findall(r"(?m)^  (-.*?)(?:  |$)", said) for word in re.findall(r"(?<!\S)--?[A-Za-z][A-Za-z-]*", line)}
-            # (in this format an option stands without its first dash)
+            # (in this format an option is written without its first dash)
             given = {f"-{word}" for word in re.findall(r"(?<=\s)-?[A-Za-z][A-Za-z-]*", section)}
             missing += [f"goal-{name} {option}" for option in sorted(options - {"-h", "--help"} - given)]
         self.assertEqual(missing, [])

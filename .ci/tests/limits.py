@@ -1,6 +1,6 @@
 #!/usr/bin/env python3
-"""Tests that each tool keeps its limits before it runs or certifies a schedule. A fake `goal` only shows and
-compiles."""
+"""Tests that each tool checks its limits before it runs or certifies a schedule. They use a fake `goal` that can only
+show and compile."""
 from __future__ import annotations
 
 import os
@@ -19,7 +19,8 @@ GOAL = os.path.abspath(program.chosen())
 CARDS = "class a L=5\nnodes 2 of 4\ninside a\nbetween a\ncards 1\n"
 TABLE = "L,g,finish,stuck,protocol\n" + "".join(f"5,{gap},9,0,eager\n" for gap in range(101))
 SIXTEEN = "the machine has 16 ranks, and the schedule has 8"
-# By the tool, its words and what it says. ALL is an alltoall of 8 ranks, each with 15 operations, CARDS a machine for it.
+# A tool, its arguments, and the beginning of its message. ALL is an alltoall of 8 ranks with 15 operations each. CARDS is
+# a machine for it.
 KEPT = (
     ("certify", "bcast ALL --root 65536", "argument --root: '65536' is not the number of a rank from 0 to 65535"),
     ("check", "ALL --limit 0", "argument --limit: '0' is not a number of findings from 1 to 1048576"),
@@ -51,7 +52,7 @@ KEPT = (
 
 
 class Limits(unittest.TestCase):
-    def test_each_is_kept_before_a_run(self) -> None:
+    def test_each_limit_is_checked_before_a_run(self) -> None:
         tools = os.path.join(TOP, "tools")
         named = {name for name in os.listdir(tools) if os.path.isfile(os.path.join(tools, name)) and not name.endswith(".py")}
         self.assertEqual({tool for tool, _, _ in KEPT}, named)

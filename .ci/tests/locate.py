@@ -1,5 +1,5 @@
 #!/usr/bin/env python3
-"""Tests of tools/locate: bytes of refusals, words of machines, and operations as they are written."""
+"""Tests of tools/locate: it shows bytes that refusals name, words of machines, and operations as they are written."""
 from __future__ import annotations
 
 import os
@@ -31,13 +31,13 @@ def located(*words: str, text: bytes | None = None) -> subprocess.CompletedProce
 
 
 class Operations(unittest.TestCase):
-    def test_they_are_found_as_written(self) -> None:
+    def test_operations_are_found_as_written(self) -> None:
         said = [(one.rank, one.number, str(one), line_and_column(TEXT, one.byte)[:2]) for one in operations(TEXT)]
         self.assertEqual(said, [(2, 0, "a: calc 5 cpu 1", (3, 2)), (2, 1, "b: send 8b to 0 tag 4 nic 1", (4, 16)),
                                 (0, 0, "recv 8b from 2 tag 4", (7, 8)), (0, 1, "calc 7", (7, 29))])
 
-    def test_they_are_those_that_the_program_reads(self) -> None:
-        """Of each example: as many for each rank, of the same kind and size."""
+    def test_operations_are_those_that_the_program_reads(self) -> None:
+        """In each example, both find the same number of operations, with the same ranks, kinds and sizes."""
         folder = os.path.join(TOP, "examples")
         for name in sorted(os.listdir(folder)):
             shown = program.call(GOAL, ["show", os.path.join(folder, name)])
@@ -78,7 +78,7 @@ class Words(unittest.TestCase):
                          "-:3:1\ninside 0 default 0\n^\n")
 
     def test_lines_are_read_as_they_are_printed(self) -> None:
-        """Of each form of line: what stands below it."""
+        """For each form of line: the operations that are shown below it."""
         text = b"num_ranks 2\nrank 0 { a: send 8b to 1  b: calc 5 b requires a a moves 0 to 0 }\nrank 1 { recv 8b from 0 }\n"
         a, b, c = "0 0 is a: send 8b to 1", "0 1 is b: calc 5", "1 0 is recv 8b from 0"
         with tempfile.NamedTemporaryFile() as file:
@@ -102,7 +102,7 @@ class Words(unittest.TestCase):
             ended = located(file.name, text=b"alone 7 0 behind 1\n")
             self.assertEqual((ended.returncode, ended.stderr.decode()), (2, f"locate: {file.name}: rank 7 has no operation 0\n"))
 
-    def test_all_that_goal_prints_is_taken(self) -> None:
+    def test_all_output_of_goal_is_accepted(self) -> None:
         folder = os.path.join(TOP, "examples")
         for name in ("both_send_first", "alltoall_send_first", "exchange", "waits", "cycle"):
             path = os.path.join(folder, name)
@@ -111,7 +111,7 @@ class Words(unittest.TestCase):
                 ended = located(path, text=(answer.out + answer.err + "\n").encode())
                 self.assertEqual((ended.returncode, ended.stderr), (0, b""), words)
 
-    def test_what_is_wrong_is_told_in_one_line(self) -> None:
+    def test_faults_are_one_line(self) -> None:
         for words, text, why in ((["-", "9"], b"abc", "- has only 3 bytes"), (["-", "0", "1"], b"num_ranks 1", "-: rank 0 has no operation 1"),
                                  (["-", "0", "1", "2"], b"", "give one number"), (["--word", "-", "0", "1"], b"", "give one number"),
                                  (["--word", "-", "3"], b"a b", "- has only 2 words"), (["-", "0"], b"\x89GOAL", "- is a compiled file"),

@@ -1,6 +1,6 @@
 #!/usr/bin/env python3
-"""Tests of tools/machine: the program accepts its output, each message has the class of the description, and gaps in a
-description are reported."""
+"""Tests of tools/machine: the program accepts its output, each message has the class that the description gives, and
+faults of a description are reported."""
 from __future__ import annotations
 
 import os
@@ -24,7 +24,7 @@ def written(description: str) -> subprocess.CompletedProcess[str]:
 
 
 def latencies(machine: str, ranks: int, pairs: list[tuple[int, int]]) -> list[int]:
-    """How long an empty message is on its way between the ranks of each pair."""
+    """The travel time of an empty message between the ranks of each pair."""
     found = []
     for source, target in pairs:
         text = f"num_ranks {ranks} rank {source} {{ send 0b to {target} }} rank {target} {{ recv 0b from {source} }}"
@@ -49,11 +49,11 @@ class Machines(unittest.TestCase):
                             "nodes 2 of 8\ninside memory\nbetween net\n")
         self.assertEqual(said, wanted)
 
-    def test_classes_go_by_distance(self) -> None:
+    def test_classes_depend_on_distance(self) -> None:
         said = self.machine(CLASSES + BOUNDS + "across c\nnodes 4 of 2\ngroups 2 of 2\n")
         self.assertEqual(latencies(said, 8, [(0, 1), (0, 2), (3, 0), (0, 4), (7, 1), (4, 6)]), [100, 1000, 1000, 10000, 10000, 1000])
 
-    def test_the_same_where_more_pairs_are_near_than_far(self) -> None:
+    def test_classes_when_more_pairs_are_near_than_far(self) -> None:
         said = self.machine(CLASSES + BOUNDS + "across c\nnodes 5 of 1\ngroup 0-1 3-4\ngroup 2\n")
         self.assertIn("default 1\n", said)
         self.assertEqual(latencies(said, 5, [(0, 1), (0, 2), (2, 0), (0, 4), (2, 3)]), [1000, 10000, 10000, 1000, 10000])
@@ -63,22 +63,22 @@ class Machines(unittest.TestCase):
         self.assertIn("ranks 6\n0 1 0\n1 0 1\n", said)
         self.assertEqual(latencies(said, 6, [(0, 2), (0, 1), (5, 1)]), [100, 1000, 100])
 
-    def test_pairs_have_their_own(self) -> None:
+    def test_pairs_have_their_own_classes(self) -> None:
         said = self.machine(CLASSES + BOUNDS + "nodes 4 of 1\npair 0 1 c\noneway 2 3 a\n")
         self.assertEqual(latencies(said, 4, [(0, 1), (1, 0), (2, 3), (3, 2)]), [10000, 10000, 100, 1000])
 
-    def test_ranks_in_turn(self) -> None:
+    def test_ranks_are_placed_in_turn(self) -> None:
         said = self.machine(CLASSES + BOUNDS + "nodes 2 of 3 cyclic\nnodes 2 of 1 cyclic\n")
         self.assertIn("ranks 8\n0 1 0\n1 0 1\n2 3\n", said)
 
-    def test_cards_are_not_in_it(self) -> None:
+    def test_a_machine_has_no_cards(self) -> None:
         whole = self.machine(CLASSES + BOUNDS + "nodes 2 of 3\ncards own\n")
         for cards in ("1", "2 in turn"):
             ended = written(CLASSES + BOUNDS + f"nodes 2 of 3\ncards {cards}\n")
             self.assertEqual((ended.returncode, ended.stdout), (0, whole))
             self.assertEqual(ended.stderr, f"machine: MACHINE has a card for each rank: for `cards {cards}` take tools/fold\n")
 
-    def test_usual_values_are_those_of_sim(self) -> None:
+    def test_default_values_are_those_of_sim(self) -> None:
         said = self.machine("class a\nnodes 1 of 1\ninside a\nbetween a\n")
         self.assertIn("class 2500 1500 1000 6 0 0 0 65535\n", said)
 
@@ -87,7 +87,7 @@ class Machines(unittest.TestCase):
         self.assertIn("class 3000 2000 1000 0 25 0 0 65535\nclass 25000 15000 10000 60 0 0 0 7\n", ended.stdout)
         self.assertEqual((ended.returncode, ended.stderr.startswith("machine: all times are 10 times as long")), (0, True))
 
-    def test_the_largest(self) -> None:
+    def test_the_largest_machine(self) -> None:
         said = self.machine(CLASSES + BOUNDS + "nodes 65536 of 1\n")
         one_calc = "num_ranks 65536 rank 65535 { calc 7 }"
         with tempfile.NamedTemporaryFile("w") as file:
@@ -95,7 +95,7 @@ class Machines(unittest.TestCase):
             file.flush()
             self.assertEqual(program.call(GOAL, ["nodes", "/dev/stdin", file.name], one_calc).status, program.DONE)
 
-    def test_what_is_wrong_is_told_in_one_line(self) -> None:
+    def test_faults_are_one_line(self) -> None:
         for description, why in (
                 ("nods 2 of 2", "-:1: 'nods' does not begin a line"), (CLASSES + "nodes 2 by 2", "-:4: write `nodes COUNT of SIZE`"),
                 ("nodes 2 of 2 round", "-:1: write `nodes COUNT of SIZE`"), ("groups 2 of 2 cyclic", "-:1: write `groups COUNT of SIZE`"),

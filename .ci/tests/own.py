@@ -1,6 +1,6 @@
 #!/usr/bin/env python3
-"""Tests of algorithms of users: the example is certified and swept, a plan does what its module says, and a mistake
-in a user's file is reported with its line."""
+"""Tests of algorithms of users: the example is certified and can be swept, plans do what their module describes, and
+mistakes in a user's file are reported with their lines."""
 import os
 import re
 import subprocess
@@ -28,7 +28,7 @@ def ended(tool: str, *words: str) -> "subprocess.CompletedProcess[str]":
 
 
 class Example(unittest.TestCase):
-    def test_it_is_certified_in_each_segment(self) -> None:
+    def test_the_example_is_certified_in_each_segment(self) -> None:
         make, options = own_algorithm(EXAMPLE + ":direct")
         self.assertEqual(options, ("sum_ps",))
         for ranks in (*range(1, 10), 17):
@@ -40,7 +40,7 @@ class Example(unittest.TestCase):
                 for eager in ("0", "65535"):
                     self.assertRegex(program.call(GOAL, ["sim", "/dev/stdin", "--S", eager], text).out, "stuck 0 unread 0")
 
-    def test_schedule_and_sweep_take_it(self) -> None:
+    def test_schedule_and_sweep_accept_the_example(self) -> None:
         word = EXAMPLE + ":direct"
         said = ended("schedule", word, "4", "4096", "--sum-ps", "1000")
         self.assertEqual((said.returncode, said.stderr), (0, ""))
@@ -51,7 +51,7 @@ class Example(unittest.TestCase):
         self.assertEqual((swept.returncode, len(rows)), (0, 4))
         self.assertEqual((rows[1][rows[0].index("finish")], rows[1][rows[0].index("segments")]), (finish, ""))
 
-    def test_it_is_short(self) -> None:
+    def test_the_example_is_short(self) -> None:
         with open(EXAMPLE, encoding="utf-8") as file:
             self.assertLessEqual(len(file.read().splitlines()), 15)
 
@@ -71,7 +71,7 @@ class Plans(unittest.TestCase):
                      "l3: recv 9b from 1 tag 0 cpu 7 nic 0", "l4: calc 0 cpu 7"):
             self.assertIn(line, lines)
 
-    def test_a_calc_is_between_what_sets_its_slots_and_what_reads_them(self) -> None:
+    def test_a_calc_is_ordered_by_its_slots(self) -> None:
         plan = Plan(2, [8, 8])
         plan.exchange([Message(0, 1, [0]), Message(0, 1, [1])])
         plan.calc(1, 500, [0])
@@ -80,19 +80,19 @@ class Plans(unittest.TestCase):
         self.assertIn("l3: calc 500 cpu 0", lines)
         self.assertEqual([line for line in lines if "requires" in line][-3:], ["l3 requires l1", "l4 requires l3", "l5 requires l2"])
 
-    def test_a_sum_goes_to_the_slots_of_into(self) -> None:
+    def test_sums_go_to_the_slots_of_into(self) -> None:
         plan = Plan(2, [8, 8])
         plan.combine([Message(0, 1, [0], [1])])
         self.assertEqual(self.lines(plan)[-3:], ["l1 moves 2 to 2", "l2 adds 2 to 1", "}"])
 
-    def test_a_step_ends(self) -> None:
+    def test_the_end_of_a_step_orders_operations(self) -> None:
         plan = Plan(2, [8, 8])
         plan.exchange([Message(0, 1, [0])])
         plan.end_step()
         plan.exchange([Message(0, 1, [1])])
         self.assertIn("l2 requires l1", self.lines(plan))
 
-    def test_what_can_not_be_is_a_fault(self) -> None:
+    def test_impossible_plans_are_faults(self) -> None:
         plan = Plan(2, [8])
         cases: List[Tuple[Callable[[], object], str]] = [
                 (lambda: plan.exchange([Message(0, 2, [0])]), "a rank is 2: give 0 to 1"),
@@ -110,7 +110,7 @@ class Plans(unittest.TestCase):
                 call()
             self.assertTrue(str(told.exception).startswith(why), str(told.exception))
 
-    def test_its_page_has_all_of_it(self) -> None:
+    def test_the_document_describes_all_of_it(self) -> None:
         with open(os.path.join(TOP, "docs", "COLLECTIVES.md"), encoding="utf-8") as file:
             text = file.read()
         for name in [name for name in vars(Plan) if not name.startswith("_")]:
@@ -132,13 +132,13 @@ class Mistakes(unittest.TestCase):
                 if words and tool == "sweep":
                     continue
                 done = ended(tool, *more)
-                # (a sweep also names the parameters that are not given)
+                # (a sweep also prints the parameters that are not given)
                 told = [line for line in done.stderr.splitlines() if not line.startswith("sweep: not given: ")]
                 self.assertEqual((done.returncode, len(told)), (2, 1), done.stderr)
                 self.assertRegex(told[0], f"^{tool}: (1 of 1 runs failed, .*: schedule: )?{re.escape(path)}{why}")
             self.assertEqual(os.listdir(folder), ["mine.py"])
 
-    def test_each_is_reported_with_its_line(self) -> None:
+    def test_mistakes_are_reported_with_their_lines(self) -> None:
         body = HEAD + "def mine(ranks, size):\n    plan = Plan(ranks, [size])\n"
         self.check(body + "    plan.exchange([Message(0, ranks, [0])])\n    return plan\n", ":4: a rank is 4: give 0 to 3")
         self.check(body + "    plan.exchange(\n        [Message(0, rank, [0])])\n    return plan\n", ":5: NameError: name 'rank' is not defined")
@@ -162,7 +162,7 @@ class Mistakes(unittest.TestCase):
             done = ended(tool, *words)
             self.assertEqual((done.returncode, done.stderr), (2, f"{tool}: /no/file.py: No such file or directory\n"))
 
-    def test_what_it_prints_is_not_in_the_schedule(self) -> None:
+    def test_printed_text_is_not_in_the_schedule(self) -> None:
         with tempfile.TemporaryDirectory() as folder:
             path = os.path.join(folder, "mine.py")
             with open(os.path.join(folder, "beside.py"), "w", encoding="utf-8") as file:

@@ -1,5 +1,5 @@
 #!/usr/bin/env python3
-"""Tests of tools/path: the chain of causes and its shares add up, and predicted effects of parameters agree with
+"""Tests of tools/path: the chain of causes and its shares add up, and the predicted effects of parameters agree with
 runs."""
 import os
 import random
@@ -28,7 +28,7 @@ def path(*words: str, text: str = "") -> "subprocess.CompletedProcess[str]":
 
 
 def shares_shown(lines: List[str]) -> int:
-    """The sum of the shares that are printed."""
+    """The sum of the printed shares."""
     start = next(at for at, line in enumerate(lines) if line.startswith("of "))
     rows = [line.split("%")[0].split() for line in lines[start + 1:] if line.startswith("  ") and "%" in line]
     return sum(int(row[-2]) for row in rows)
@@ -36,7 +36,7 @@ def shares_shown(lines: List[str]) -> int:
 
 class Chains(unittest.TestCase):
     def test_every_end_adds_up(self) -> None:
-        """Of drawn schedules, each operation's chain and shares."""
+        """For each operation of random schedules, the chain and the shares add up to its end."""
         draw = random.Random(SEED)
         for number in range(ROUNDS):
             text = drawn_schedule(draw)
@@ -109,7 +109,7 @@ class Chains(unittest.TestCase):
 
 class Reruns(unittest.TestCase):
     def test_more_latency_may_end_earlier(self) -> None:
-        """In an alltoall with round parameters: the curve shows it."""
+        """An alltoall with round parameters is an example. The curve shows it."""
         text = program.call(GOAL, ["gen", "alltoall", "32", "1"]).out
         done = path("-", "--what-if", "--L", "2000", "--o", "400", "--g", "300", text=text)
         lines = done.stdout.splitlines()
@@ -118,8 +118,8 @@ class Reruns(unittest.TestCase):
         self.assertEqual((finish["2000"], finish["2001"]), ("26800", "26001"))
         self.assertIn("not monotone here", lines[at + 2])
 
-    def test_reached(self) -> None:
-        """The value brings the finish, and one more does not."""
+    def test_the_reached_value_is_the_last_one(self) -> None:
+        """The value gives at most the wanted finish, and the next value does not."""
         name = os.path.join(EXAMPLES, "exchange")
         for wanted in (10000, 11408, 20000):
             found = {line.split()[0]: line.split() for line in path(name, "--reach", str(wanted)).stdout.splitlines() if ": it is" in line}

@@ -1,5 +1,5 @@
 #!/usr/bin/env python3
-"""Tests of .ci/rows and .ci/mutants with a fake program: which rows pass, how a failure is shown, and how rows are
+"""Tests of .ci/rows and .ci/mutants with a fake program: which rows pass, how failures are shown, and how rows are
 read."""
 from __future__ import annotations
 
@@ -12,7 +12,7 @@ import unittest
 
 TOP = os.path.dirname(os.path.dirname(os.path.dirname(os.path.abspath(__file__))))
 
-# Prints its words, a file or what its first reads get, refuses, or does not end.
+# The fake program. It prints its words, a file, or the input that its first reads get; it refuses; or it does not end.
 STAND_IN = """#!/bin/sh
 case $1 in
 say) shift; echo "$@" ;;
@@ -27,7 +27,7 @@ FAILS = "row bad\nfile text: a b\n$ read text\n> a c\n\n"
 
 
 class Runners(unittest.TestCase):
-    """A folder with copies of both programs, where .ci/cases has one file of rows."""
+    """Makes a folder with copies of both scripts. A test writes the only file of rows there."""
 
     def setUp(self) -> None:
         folder = tempfile.TemporaryDirectory()
@@ -75,7 +75,7 @@ class Rows(Runners):
         for (row, fault), failure in zip(cases, failures):
             self.assertIn(fault, failure.splitlines(), row)
 
-    def test_pieces_come_one_by_one(self) -> None:
+    def test_pieces_of_the_input_come_one_by_one(self) -> None:
         for reads, fault in ((1, "cut at 1"), (2, "by single bytes")):
             _, out, _ = self.ran("rows", f"row pieces\nstdin: echo 76\npieces\n$ reads {reads}\n> 76\n")
             self.assertEqual(out.splitlines()[1], f"  with the input {fault}:")
@@ -97,11 +97,11 @@ class Rows(Runners):
         self.assertEqual(self.ran("rows", rows, "--list")[:2], (0, "a1\na2\na3\nb c7\n"))
         self.assertEqual(self.ran("rows", rows, "--quiet"), (0, "4 passed, 0 failed\n", ""))
 
-    def test_a_file_before_the_rows_is_there_for_each(self) -> None:
+    def test_a_file_before_the_rows_is_shared(self) -> None:
         rows = "file one: 1\nmake two: cat one one\n\nrow first\n$ read one\nprints: printf 1\n\nrow second\n$ read two\nprints: printf 11\n"
         self.assertEqual(self.ran("rows", rows, "--quiet"), (0, "2 passed, 0 failed\n", ""))
 
-    def test_a_file_that_is_at_fault_ends_with_2(self) -> None:
+    def test_a_faulty_file_of_rows_ends_with_2(self) -> None:
         for rows, fault in ((PASSES + PASSES, "several rows have the same name, good: rename one"), ("row {n}\nwith n=1\nwith n=1\n$ say\n", "several rows have the same name, 1: rename one"),
                             (PASSES + "say 6\n", "some.rows:1: this is not a line of a row: say 6"), ("row bad\n> 5\n", "some.rows:1: the row has no call: add a line that begins with $"),
                             ("$ say 5\n", "some.rows:1: before the first row there can only be file, bytes, make")):
@@ -120,12 +120,12 @@ class Mutants(Runners):
         self.assertEqual((status, out.splitlines()[0]), (1, "row loose (some.rows:5): does not notice no output"))
         self.assertRegex(out.splitlines()[1], r"^[1-9]\d* passed, 1 failed$")
 
-    def test_a_row_that_fails_by_itself_is_named(self) -> None:
+    def test_a_row_that_fails_without_mutation_is_named(self) -> None:
         status, out, _ = self.ran("mutants", FAILS)
         self.assertEqual((status, out.splitlines()[0]), (1, "row bad (some.rows:1): failed, with nothing spoilt"))
         self.assertEqual(out.splitlines()[-1], "0 passed, 1 failed")
 
-    def test_a_row_that_can_not_be_made_is_named(self) -> None:
+    def test_a_row_that_can_not_be_prepared_is_named(self) -> None:
         made = "row unmade\ndo: false\n$ say 5\n"
         self.assertEqual(self.ran("mutants", made)[:2], (1, "row unmade (some.rows:1): failed, with nothing spoilt\n  `false` ends with status 1: \n0 passed, 1 failed\n"))
         _, out, _ = self.ran("mutants", "row loose\n$ say 5\nchecked: true\n\n" + made)

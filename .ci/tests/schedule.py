@@ -1,7 +1,6 @@
 #!/usr/bin/env python3
-"""Tests of tools/schedule: each algorithm is certified for many ranks, roots, segments and sizes, also in each
-segment; it has the messages, bytes and sums of its table; and a schedule with a damaged slot, dependency or tag is
-refused."""
+"""Tests of tools/schedule. Each algorithm is certified for many ranks, roots, segments and sizes, and in each segment.
+It has the messages, bytes and sums of its table. A schedule with a damaged slot, dependency or tag is refused."""
 from __future__ import annotations
 
 import os
@@ -35,7 +34,8 @@ def allowed(algorithm: Algorithm, ranks: int) -> bool:
 
 
 def wishes(algorithm: Algorithm) -> Iterator[Wish]:
-    """Ranks up to 20 and some more; all roots of few ranks; segments 1 to 8; nodes of several sizes; each size in turn."""
+    """Wishes with 1 to 20 ranks and some more, all roots of few ranks, 1 to 8 segments, several sizes of nodes, and
+    random sizes."""
     draw = random.Random(SEED)
     for ranks in (*range(1, 21), *LARGER):
         if not allowed(algorithm, ranks):
@@ -55,7 +55,7 @@ def words_of(algorithm: Algorithm, wish: Wish) -> list[str]:
 
 
 def segments_of(algorithm: Algorithm, wish: Wish) -> int:
-    """How many slots the vector is cut into."""
+    """The number of slots into which the vector is cut."""
     return len(algorithm.make(wish).sizes) if algorithm.kind() in ("bcast", "allreduce") else 1
 
 
@@ -65,7 +65,7 @@ def verdict(algorithm: Algorithm, wish: Wish, text: str) -> str:
 
 
 def fault_in(algorithm: Algorithm, wish: Wish, text: str) -> str | None:
-    """The first verdict on a segment that is not certified, or None."""
+    """The fault of the first segment that is not certified, or None."""
     segments = segmented.Segments(GOAL, algorithm.kind(), text, wish.root)
     if segments.fault:
         return segments.fault
@@ -74,7 +74,7 @@ def fault_in(algorithm: Algorithm, wish: Wish, text: str) -> str | None:
 
 class Certified(unittest.TestCase):
     def test_each_is_certified(self) -> None:
-        """So it ends, in every order and whichever messages are eager."""
+        """A certified schedule ends, in every order and whichever messages are eager."""
         for algorithm in ALGORITHMS:
             for wish in wishes(algorithm):
                 with self.subTest(f"{algorithm.name} {wish}"):
@@ -93,7 +93,7 @@ class Certified(unittest.TestCase):
                         with self.subTest(f"{algorithm.name} {wish}"):
                             self.assertIsNone(fault_in(algorithm, wish, "".join(algorithm.make(wish).text())))
 
-    def test_of_256_ranks_some_are_certified(self) -> None:
+    def test_some_are_certified_for_256_ranks(self) -> None:
         for algorithm in ALGORITHMS:
             if algorithm.name in ("bcast-binary", "allreduce-halving-doubling", "allgather-bruck", "alltoall-bruck", "gather-tree"):
                 wish = Wish(256, 1001)
@@ -107,7 +107,7 @@ class Certified(unittest.TestCase):
 
 
 def changed(text: str, line: int, new: str | None) -> str:
-    """The text with this line, by number, replaced, or left out where there is no new one."""
+    """The text with the line of this number replaced by `new`, or removed if `new` is None."""
     lines = text.split("\n")
     return "\n".join(lines[:line] + ([] if new is None else [new]) + lines[line + 1:])
 
@@ -117,7 +117,7 @@ def lines_with(text: str, form: str) -> list[int]:
 
 
 class Spoilt(unittest.TestCase):
-    """Changes at places that are drawn, in schedules of six ranks and of eight."""
+    """Changes at random places in schedules of six and of eight ranks."""
 
     def cases(self) -> Iterator[tuple[random.Random, Algorithm, Wish, str]]:
         draw = random.Random(SEED)
@@ -129,7 +129,8 @@ class Spoilt(unittest.TestCase):
                     yield draw, algorithm, wish, "".join(algorithm.make(wish).text())
 
     def test_a_note_with_another_slot_is_refused(self) -> None:
-        """The next slot. In a broadcast a piece that a rank has already may go anywhere but into another piece."""
+        """The note gets the next slot. In a broadcast, a rank may put a piece that it already has anywhere except into
+        another piece, so only slots of pieces are tried."""
         for draw, algorithm, wish, text in self.cases():
             pieces = segments_of(algorithm, wish) if algorithm.kind() == "bcast" else 1 << 16
             lines = [line for line in lines_with(text, "moves|adds") if int(text.split("\n")[line].split()[-1]) + 1 < pieces]
@@ -139,7 +140,7 @@ class Spoilt(unittest.TestCase):
                 with self.subTest(f"{algorithm.name} {wish}: line {line + 1} is {other}"):
                     self.assertIsNotNone(fault_in(algorithm, wish, changed(text, line, other)))
 
-    def test_each_need_but_those_of_steps_is_needed(self) -> None:
+    def test_each_dependency_except_those_of_steps_is_needed(self) -> None:
         for draw, algorithm, wish, text in self.cases():
             if algorithm.name != "alltoall-pairwise":
                 needs = lines_with(text, "requires")
@@ -155,8 +156,9 @@ class Spoilt(unittest.TestCase):
                     self.assertRegex(verdict(algorithm, wish, changed(text, line, other)), "^not certified: (unpaired|double)")
 
 
-# of P = 8, K = 2, N = 4 and so M = 2, n = 8000 and b = 1000 where the table says a formula: the messages, and their bytes
-TOLD = {
+# By algorithm, the number of messages and of all their bytes, which the formulas of the table give for P = 8, K = 2, N = 4,
+# so M = 2, n = 8000 and b = 1000.
+EXPECTED = {
     "bcast-chain": (7 * 2, 7 * 8000),
     "bcast-binary": (7 * 2, 7 * 8000),
     "bcast-scatter-allgather": (7 * 9, 7 * 8000 + 8000 // 2 * 3),
@@ -182,20 +184,20 @@ class Table(unittest.TestCase):
         algorithm = next(algorithm for algorithm in ALGORITHMS if algorithm.name == name)
         return [int(size) for size in re.findall(r": send (\d+)b", "".join(algorithm.make(wish).text()))]
 
-    def test_messages_and_bytes_are_as_told(self) -> None:
-        self.assertEqual(set(TOLD), {algorithm.name for algorithm in ALGORITHMS})
+    def test_messages_and_bytes_are_those_of_the_table(self) -> None:
+        self.assertEqual(set(EXPECTED), {algorithm.name for algorithm in ALGORITHMS})
         for algorithm in ALGORITHMS:
             wish = Wish(8, 8000 if algorithm.kind() in ("bcast", "allreduce") else 1000, node=4,
                         segments=2 if "segments" in algorithm.options else 1)
             sends = self.sends(algorithm.name, wish)
-            self.assertEqual((len(sends), sum(sends)), TOLD[algorithm.name], algorithm.name)
+            self.assertEqual((len(sends), sum(sends)), EXPECTED[algorithm.name], algorithm.name)
 
     def test_six_ranks_of_which_four_take_part(self) -> None:
         sends = self.sends("allreduce-halving-doubling", Wish(6, 4000))
         self.assertEqual((len(sends), sum(sends)), (2 * 4 * 2 + 2 * 2, 2 * 5 * 4000))
 
     def crossings(self, name: str, wish: Wish, node: int) -> tuple[int, int]:
-        """The bytes that go between nodes, and the largest message that does."""
+        """The bytes of all messages between nodes, and the size of the largest of them."""
         algorithm = next(algorithm for algorithm in ALGORITHMS if algorithm.name == name)
         sizes, source = [], 0
         for line in "".join(algorithm.make(wish).text()).splitlines():
@@ -205,9 +207,9 @@ class Table(unittest.TestCase):
                 sizes.append(int(words[2][:-1]))
         return sum(sizes), max(sizes)
 
-    def test_what_leaves_a_node(self) -> None:
-        """Where the largest messages go far, each rank sends three quarters of the vector to other nodes; where they stay near,
-        or the sums of a node are made inside it, three sixteenths."""
+    def test_bytes_between_nodes(self) -> None:
+        """In each half, a rank sends three quarters of the vector to other nodes if the largest messages go far. It
+        sends three sixteenths if they stay near, or if the sums of a node are made inside it."""
         self.assertEqual(self.crossings("allreduce-halving-doubling", Wish(16, 16000), 4), (2 * 12 * 16000, 8000))
         self.assertEqual(self.crossings("allreduce-halving-doubling-near", Wish(16, 16000), 4), (2 * 3 * 16000, 2000))
         self.assertEqual(self.crossings("allreduce-hierarchical", Wish(16, 16000, node=4), 4), (2 * 3 * 16000, 2000))
@@ -221,19 +223,19 @@ class Table(unittest.TestCase):
         text = "".join(algorithm.make(Wish(2, 1001, sum_ps=333)).text())
         self.assertEqual(re.findall(r": calc (\d+)", text), ["334"])
 
-    def test_more_than_a_schedule_may_have_is_a_fault(self) -> None:
+    def test_a_plan_over_the_limits_is_a_fault(self) -> None:
         for most, what in (("MOST_OPERATIONS", "operations"), ("MOST_NEEDS", "dependencies"), ("MOST_NOTES", "notes")):
             with mock.patch.object(plan, most, 5), self.assertRaisesRegex(command.Fault, f"^more than 5 {what}: "):
                 ALGORITHMS[0].make(Wish(9, 8, segments=2))
 
-    def test_too_much_is_a_fault_before_it_is_made(self) -> None:
+    def test_a_plan_that_is_too_large_is_refused_before_it_is_made(self) -> None:
         for name, wish, what in (("allreduce-ring", Wish(2048, 8), "1048576 operations"), ("allreduce-halving-doubling", Wish(1024, 8), "1048576 notes"),
                                  ("allgather-doubling", Wish(32768, 8), "67108864 slots in messages")):
             algorithm = next(algorithm for algorithm in ALGORITHMS if algorithm.name == name)
             with mock.patch.object(plan.Plan, "exchange", self.fail), self.assertRaisesRegex(command.Fault, f"^more than {what}: take fewer ranks"):
                 algorithm.make(wish)
 
-    def test_the_documents_have_it(self) -> None:
+    def test_the_document_has_the_table(self) -> None:
         with open(os.path.join(TOP, "docs", "COLLECTIVES.md"), encoding="utf-8") as file:
             self.assertIn(printed(), file.read())
 
@@ -245,7 +247,7 @@ class Words(unittest.TestCase):
     def test_the_list_is_the_table(self) -> None:
         self.assertEqual(self.ended("--list").stdout.strip(), printed())
 
-    def test_what_is_wrong_is_told_in_one_line(self) -> None:
+    def test_faults_are_one_line(self) -> None:
         for words, why in (
                 ("bcast-chain 4 8 --root 4", "--root 4 is not one of 4 ranks"),
                 ("bcast-chain 4 8 --node 2", "bcast-chain takes no --node"),

@@ -1,7 +1,7 @@
 #!/usr/bin/env python3
-"""Tests of tools/segments: correct segments are certified; each damaged one is reported with the slot numbers of the
-schedule, also one that gets data of another segment. With a damaged note, it finds all that a check of every slot
-finds."""
+"""Tests of tools/segments. Correct segments are certified. Each damaged one is reported in the slot numbers of the
+schedule, also if it gets data of another segment. With a damaged note, the tool finds all faults that a check of every
+slot finds."""
 from __future__ import annotations
 
 import os
@@ -31,8 +31,8 @@ def made(kind: str, ranks: int, *options: str) -> str:
 
 
 def side_by_side(text: str, count: int, width: int, spare: int) -> str:
-    """So many copies of a generated schedule in one, the slots below `width` of each in a block of its own, and the others
-    after all blocks. Each has tags of its own."""
+    """A schedule that does `count` copies of a generated schedule at once. The slots below `width` of each copy are a
+    block of their own; the `spare` other slots of each copy follow after all blocks. Each copy has its own tags."""
     blocks: dict[str, list[str]] = {}
     for copy in range(count):
         shift = f"_{copy}"
@@ -67,7 +67,7 @@ def canonical(text: str) -> str:
 
 
 class Exchange(unittest.TestCase):
-    def test_ranges_are_split_where_the_exchange_cuts_them(self) -> None:
+    def test_ranges_are_split_where_the_exchange_divides_them(self) -> None:
         text = "l1 moves 1 to 7\nl2 adds 5 to 2\nl1 moves 6 to 6\n"
         for block, width, wanted in (
                 (2, 2, "l1 moves 5 to 5\nl1 moves 2 to 3\nl1 moves 0 to 1\nl1 moves 6 to 7\nl2 adds 1 to 2\nl1 moves 6 to 6\n"),
@@ -78,7 +78,7 @@ class Exchange(unittest.TestCase):
                 self.assertEqual(said, wanted)
             self.assertEqual(slots(said), [segmented.exchange(slot, block, width) for slot in slots(text)])
 
-    def test_twice_is_nothing(self) -> None:
+    def test_an_exchange_done_twice_changes_nothing(self) -> None:
         text = canonical(side_by_side(made("gather", 5), 3, 5, 0))
         for block in range(3):
             twice = segmented.exchanged(segmented.exchanged(text, block, 5), block, 5)
@@ -86,14 +86,14 @@ class Exchange(unittest.TestCase):
 
 
 def slots(text: str) -> list[int]:
-    """All slots of the notes, in order."""
+    """All slots in the notes, in order."""
     found: list[int] = []
     for _, word, low, high in segmented.NOTE.findall(text):
         found += [int(low), int(high)] if word == "adds" else range(int(low), int(high) + 1)
     return found
 
 
-# each collective, its slots among P ranks, and the spare slots of its schedule
+# For each collective, its number of slots for a number of ranks, and the number of spare slots of its schedule.
 KINDS: dict[str, tuple[Callable[[int], int], int]] = {
     "bcast": (lambda ranks: 1, 0), "barrier": (lambda ranks: 1, 9), "allgather": (lambda ranks: ranks, 0),
     "allreduce": (lambda ranks: 1, 9), "alltoall": (lambda ranks: 2 * ranks, 0), "reduce": (lambda ranks: 1, 9),
@@ -103,7 +103,7 @@ KINDS: dict[str, tuple[Callable[[int], int], int]] = {
 
 
 def faults_of(kind: str, text: str, count: int, root: int = 0) -> str | list[str | None]:
-    """What is said of each segment, or of all of them."""
+    """The fault of each segment, or None; or a fault of all segments."""
     segments = segmented.Segments(GOAL, kind, canonical(text), root)
     if segments.fault:
         return segments.fault
@@ -125,7 +125,7 @@ class Segments(unittest.TestCase):
                     if ranks > 1:
                         self.assertEqual((segments.count(), segments.left_out(3)), (3, None))
 
-    def test_each_spoilt_one_is_found(self) -> None:
+    def test_each_damaged_segment_is_found(self) -> None:
         whole = "".join(bcast_chain(Wish(4, 100, segments=8)).text())
         for spoilt in range(1, 8):
             text = whole.replace(f"moves {spoilt} to {spoilt}", "moves 8 to 8")
@@ -133,28 +133,29 @@ class Segments(unittest.TestCase):
             wanted = [f"wrong 1 slot {spoilt}" if block == spoilt else None for block in range(8)]
             self.assertEqual(faults_of("bcast", text, 8), wanted)
 
-    def test_a_spoilt_block_of_slots_is_found(self) -> None:
+    def test_a_damaged_block_of_slots_is_found(self) -> None:
         text = side_by_side(made("allgather", 3), 2, 3, 0).replace("moves 4 to 4", "moves 9 to 9")
         self.assertEqual(faults_of("allgather", text, 2), [None, "wrong 0 slot 4"])
 
-    def test_a_race_is_told_once_in_the_numbers_of_the_schedule(self) -> None:
+    def test_a_race_is_reported_once_in_the_numbers_of_the_schedule(self) -> None:
         text = "".join(bcast_chain(Wish(3, 100, segments=3)).text()).replace("l4 requires l3\n", "")
         self.assertEqual(faults_of("bcast", text, 3), "race 1 2 and 1 3 slot 1")
 
-    def test_segments_that_no_note_touches_are_told_together(self) -> None:
+    def test_segments_that_no_note_touches_are_one_range(self) -> None:
         segments = segmented.Segments(GOAL, "bcast", canonical("".join(bcast_chain(Wish(3, 100, segments=2)).text())))
         said = [(list(blocks), fault) for blocks, fault in segments.verdicts(5)]
         self.assertEqual(said, [([0], None), ([1], None), ([2, 3, 4], "wrong 1 slot 2")])
 
-    def test_what_is_added_to_another_segment_is_found(self) -> None:
+    def test_data_of_another_segment_is_found(self) -> None:
         both = side_by_side(made("reduce", 2), 2, 1, 9)
         for mixed, faults in (("c adds 1 to 0", ["mixed 0 slot 0", None]), ("c adds 0 to 1", [None, "mixed 0 slot 1"])):
             last = "c: calc 0 c requires l2_0 c requires l2_1 " + mixed
             text = both.replace("rank 0 {", f"rank 0 {{ {last}", 1)
             self.assertEqual(faults_of("reduce", text, 2), faults)
 
-    def test_what_is_mixed_is_what_certify_finds_where_all_other_blocks_begin_filled(self) -> None:
-        """The values that are followed here against those that `certify` follows, of sums over segments that are drawn."""
+    def test_mixed_segments_are_those_that_certify_finds_with_filled_blocks(self) -> None:
+        """On schedules with random sums across segments: the tool follows data itself, and `certify` follows data of
+        other blocks if these are filled at the start."""
         draw = random.Random(SEED)
         found = 0
         for kind in ("reduce", "allgather", "alltoall", "scan"):
@@ -172,19 +173,21 @@ class Segments(unittest.TestCase):
                         found += theirs is not None
         self.assertGreater(found, 5)
 
-    def test_what_weighs_much_alone_is_not_weighed_together(self) -> None:
-        # three segments of a barrier of one rank that doubles each 23 times: each weighs 2^23, two would weigh 2^24
+    def test_weights_of_segments_are_not_added(self) -> None:
+        # (three segments of a barrier of one rank that doubles each value 23 times: each weighs 2^23, so two would weigh
+        # 2^24)
         doubled = "".join(f"l1 adds {slot} to {slot}\n" * 23 for slot in range(3))
         self.assertEqual(faults_of("barrier", f"num_ranks 1 rank 0 {{ l1: calc 0\n{doubled}}}", 3), [None] * 3)
 
-    def test_as_many_operations_as_certify_takes(self) -> None:
+    def test_the_limit_on_operations_is_that_of_certify(self) -> None:
         text = "num_ranks 1 rank 0 {{ {0} l: calc 0 l adds 0 to 0 l adds 1 to 1 }}"
         self.assertEqual(faults_of("barrier", text.format("calc 0 " * 2047), 2), [None, None])
         self.assertEqual(faults_of("barrier", text.format("calc 0 " * 2048), 2), "too large 0")
 
 
 def filled(text: str, blocks: list[int], width: int) -> str:
-    """The canonical text where each rank first copies what its first `width` slots hold into these blocks."""
+    """The canonical text, changed so that each rank first copies the contents of its first `width` slots to these
+    blocks."""
     notes = "".join(f"copy adds {slot} to {block * width + slot}\n" for block in blocks for slot in range(width))
 
     def begun(block: re.Match[str]) -> str:
@@ -195,7 +198,7 @@ def filled(text: str, blocks: list[int], width: int) -> str:
 
 
 def with_sums(draw: random.Random, text: str, slots: int) -> str:
-    """The text where one rank adds a slot to another after all else."""
+    """The canonical text, changed so that a random rank finally adds one random slot to another."""
     rank = draw.randrange(2)
     source, target = draw.sample(range(slots), 2)
 
@@ -208,17 +211,17 @@ def with_sums(draw: random.Random, text: str, slots: int) -> str:
 
 
 class Count(unittest.TestCase):
-    def test_it_is_that_of_the_pieces(self) -> None:
+    def test_the_count_is_that_of_the_pieces(self) -> None:
         for algorithm, wish, text in segmented_schedules():
             segments = segmented.Segments(GOAL, algorithm.kind(), text, wish.root)
             self.assertEqual((segments.count(), segments.left_out(segments.count())), (len(algorithm.make(wish).sizes), None))
 
-    def test_of_what_gen_makes_it_is_one(self) -> None:
+    def test_generated_schedules_have_one_segment(self) -> None:
         for kind in KINDS:
             segments = segmented.Segments(GOAL, kind, made(kind, 8))
             self.assertEqual((segments.count(), segments.left_out(1)), (1, None), kind)
 
-    def test_a_copy_that_is_sent_on_is_a_passing_slot(self) -> None:
+    def test_a_slot_that_only_passes_data_on_is_in_no_segment(self) -> None:
         text = ("num_ranks 2 rank 0 { c: calc 0 c adds 0 to 5 s: send 8b to 1 s moves 5 to 5 s requires c }"
                 "rank 1 { r: recv 8b from 0 r moves 7 to 7 c: calc 0 c requires r c adds 7 to 0 }")
         segments = segmented.Segments(GOAL, "bcast", canonical(text))
@@ -226,7 +229,7 @@ class Count(unittest.TestCase):
 
 
 def segmented_schedules() -> Iterator[tuple[Algorithm, Wish, str]]:
-    """Of each algorithm that cuts its vector, schedules of few ranks, with their wishes."""
+    """For each algorithm that cuts its vector, schedules of few ranks, with their wishes."""
     for algorithm in ALGORITHMS:
         if algorithm.kind() in ("bcast", "allreduce"):
             for ranks in (2, 3, 4):
@@ -236,8 +239,8 @@ def segmented_schedules() -> Iterator[tuple[Algorithm, Wish, str]]:
 
 
 def is_wrong(draw: random.Random, algorithm: Algorithm, wish: Wish, text: str) -> bool:
-    """Whether some slot does not end with what is wanted, or something has no end, where what can happen is drawn at random:
-    a check of every slot, for a collective that has one in each segment."""
+    """Whether a slot ends with wrong contents, or an operation does not end, in a random order of execution. It checks
+    every slot, for collectives that have one slot per segment."""
     ops = read_canonical(text.splitlines()).ops
     count = len(algorithm.make(wish).sizes)
     is_bcast = algorithm.kind() == "bcast"
@@ -276,8 +279,8 @@ def is_certified(kind: str, text: str, root: int) -> bool:
 
 
 class Spoilt(unittest.TestCase):
-    def test_what_a_check_of_every_slot_finds_is_found(self) -> None:
-        """Of each algorithm that cuts its vector, with each note in turn on other slots, as many and drawn at random."""
+    def test_all_faults_of_a_check_of_every_slot_are_found(self) -> None:
+        """For each algorithm that cuts its vector, each note in turn gets other slots at random, of the same number."""
         draw = random.Random(SEED)
         found = tried = 0
         for algorithm, wish, text in segmented_schedules():
@@ -318,18 +321,18 @@ class Words(unittest.TestCase):
         self.assertEqual(ended.returncode, 6)
         self.assertEqual(ended.stdout.splitlines()[2:], ["segment 2: not certified: wrong 0 slot 2", "not certified: 1 of 3 segments"])
 
-    def test_a_fault_of_all_is_one_line(self) -> None:
+    def test_a_fault_of_all_segments_is_one_line(self) -> None:
         text = "".join(bcast_chain(Wish(3, 100, segments=3)).text()).replace("l4 requires l3\n", "")
         ended = self.ended(text, "bcast", "FILE")
         self.assertEqual((ended.returncode, ended.stdout), (6, "not certified: race 1 2 and 1 3 slot 1\n"))
 
-    def test_a_slot_in_no_segment_is_told(self) -> None:
+    def test_a_slot_in_no_segment_is_reported(self) -> None:
         text = "".join(bcast_chain(Wish(2, 100, segments=2)).text()) + "\n"
         ended = self.ended(text.replace("moves 1 to 1", "moves 7 to 7", 1), "bcast", "FILE")
         self.assertEqual((ended.returncode, ended.stdout.splitlines()[1:]), (6, [
             "segment 1: not certified: wrong 1 slot 1", "not certified: in no segment is slot 7, which operation 1 of rank 0 moves"]))
 
-    def test_what_certify_does_not_judge_has_a_status_of_its_own(self) -> None:
+    def test_undecided_has_its_own_status(self) -> None:
         large = "num_ranks 1 rank 0 { " + "calc 0 " * 2049 + "}"
         ended = self.ended(large, "barrier", "FILE")
         self.assertEqual((ended.returncode, ended.stdout), (10, "undecided: too large 0\n"))
@@ -344,7 +347,7 @@ class Words(unittest.TestCase):
             ended = tool_calls.called("segments", "bcast", name, given=text)
             self.assertEqual((ended.returncode, ended.stdout.splitlines()[-1]), (0, "certified bcast ranks 3 segments 2"))
 
-    def test_what_is_wrong_is_told_in_one_line(self) -> None:
+    def test_faults_are_one_line(self) -> None:
         ring = "".join(bcast_chain(Wish(2, 100, segments=3)).text())
         for text, words, why in (
                 ("num_ranks 1 rank", "bcast FILE 2", "goal: refused: text: syntax at 16"),

@@ -1,5 +1,5 @@
 #!/usr/bin/env python3
-"""Tests of the parts that all tools share: calls and versions of the program, and errors in one line with status 2."""
+"""Tests of what all tools share: calls of the program, and errors as one line with status 2."""
 from __future__ import annotations
 
 import os
@@ -17,29 +17,29 @@ from common import command, program
 
 
 def nameless(text: str, *names: str) -> str:
-    """The text with FILE in place of each of the names, where it stands alone."""
+    """The text with each of the names replaced by FILE, except inside longer names."""
     for name in names:
         text = re.sub(rf"(?<![\w/.-]){re.escape(name)}(?![\w/-])", "FILE", text)
     return text
 
 
 class Calls(unittest.TestCase):
-    def test_a_text_is_read_from_standard_input(self) -> None:
+    def test_a_text_is_the_standard_input(self) -> None:
         answer = program.call(program.chosen(), ["sim", "/dev/stdin"], "num_ranks 1 rank 0 { calc 100 }")
         self.assertEqual((answer.status, answer.out.splitlines()[0]), (program.DONE, "ranks 1 ops 1 stuck 0 unread 0 finish 100"))
 
-    def test_a_refusal_is_a_fault_with_its_words(self) -> None:
+    def test_a_refusal_is_a_fault_with_its_message(self) -> None:
         answer = program.call(program.chosen(), ["sim", "/dev/stdin"], "num_ranks 1 rank 1 { }")
         with self.assertRaisesRegex(command.Fault, "^goal: refused: text: rank at 17$"):
             program.expect(answer, program.DONE, program.STUCK)
 
-    def test_a_program_that_is_not_there_is_a_fault(self) -> None:
+    def test_a_missing_program_is_a_fault(self) -> None:
         with self.assertRaises(command.Fault):
             program.call("/no/such/program", ["sim"])
 
 
 class Tools(unittest.TestCase):
-    """What holds of each tool: it has a help, and wrong words end with one line and status 2."""
+    """What holds for each tool: for example, it has a help, and wrong arguments give one line and status 2."""
 
     def names(self) -> list[str]:
         folder = os.path.join(TOP, "tools")
@@ -51,7 +51,8 @@ class Tools(unittest.TestCase):
                               text=True, check=False)
 
     def test_each_has_a_help_and_no_option_is_abbreviated(self) -> None:
-        """Of a long option of each tool, all but its last letter: all options of a tool are read alike."""
+        """Each tool is called with its longest option without the last letter. One option is enough, since all are read
+        alike."""
         for name in self.names():
             with self.subTest(name):
                 ended = self.ended(name, "--help")
@@ -62,7 +63,7 @@ class Tools(unittest.TestCase):
                 self.assertEqual((ended.returncode, ended.stdout, ended.stderr.count("\n")), (2, "", 1), option)
 
     def test_an_output_that_is_closed_or_full_is_one_line_and_status_2(self) -> None:
-        """Of each tool the help to an output that is closed, and what it writes to one that is full; of one tool both to both."""
+        """Each tool writes its help to a closed output, and its results to a full one. One tool writes both to both."""
         works, closed, full = self.works(), (">&-", "it is closed"), (">/dev/full", "No space left on device")
         for name in self.names():
             for words, outputs in ((["--help"], [closed, full][:1 + (name == "path")]), (works[name], [full, closed][:1 + (name == "path")])):
@@ -74,7 +75,7 @@ class Tools(unittest.TestCase):
                     self.assertNotIn("Traceback", ended.stderr)
 
     def test_standard_input_is_a_file_everywhere(self) -> None:
-        """A text by both of its names and, of a schedule, a compiled file by one."""
+        """A text is given as `-` and as /dev/stdin. The compiled file of a schedule is given only as `-`."""
         for name, words in self.works().items():
             for place, word in enumerate(words):
                 key, equals, path = word.rpartition("=")
@@ -97,7 +98,7 @@ class Tools(unittest.TestCase):
                             self.assertEqual(nameless(said, path, one), nameless(wanted.stdout, path, one), (name, given))
 
     def works(self) -> dict[str, list[str]]:
-        """For each tool words with which it writes something."""
+        """For each tool, arguments with which it writes something."""
         exchange = os.path.join(TOP, "examples", "exchange")
         return {"certify": ["bcast", exchange], "check": [exchange], "fold": [exchange, self.pair()], "locate": [exchange, "0", "0"], "machine": [os.path.join(TOP, "examples", "eight_nodes")],
                 "path": [exchange], "plot": [self.table(), "--x", "L"],
@@ -106,14 +107,14 @@ class Tools(unittest.TestCase):
                 "waits": [exchange]}
 
     def pair(self) -> str:
-        """A description of two ranks."""
+        """The path of a description of a machine with two ranks."""
         path = os.path.join(self.folder.name, "pair")
         with open(path, "w", encoding="utf-8") as file:
             file.write("class a L=5\nnodes 2 of 1\ninside a\nbetween a\n")
         return path
 
     def table(self) -> str:
-        """A table of two runs."""
+        """The path of a table of two runs."""
         path = os.path.join(self.folder.name, "table")
         with open(path, "w", encoding="utf-8") as file:
             file.write("L,finish,stuck\n1,5,0\n2,6,0\n")
@@ -123,10 +124,10 @@ class Tools(unittest.TestCase):
         self.folder = tempfile.TemporaryDirectory()
         self.addCleanup(self.folder.cleanup)
 
-    def test_each_tool_has_words_here(self) -> None:
+    def test_each_tool_has_arguments_here(self) -> None:
         self.assertEqual(sorted(self.works()), self.names())
 
-    def test_wrong_words_are_one_line_and_status_2(self) -> None:
+    def test_wrong_arguments_are_one_line_and_status_2(self) -> None:
         for name in self.names():
             with self.subTest(name):
                 ended = self.ended(name, "--no-such-option")

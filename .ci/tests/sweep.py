@@ -1,5 +1,5 @@
 #!/usr/bin/env python3
-"""Tests of tools/sweep: its ranges, its grid, its table compared with the output of `goal`, and its curves."""
+"""Tests of tools/sweep: its ranges, its grid, its table, which is compared with output of `goal`, and its curves."""
 from __future__ import annotations
 
 import os
@@ -30,17 +30,17 @@ def sweep(*words: str, text: str = "") -> subprocess.CompletedProcess[str]:
 def table(*words: str) -> list[list[str]]:
     """The lines of the table, as lists of fields."""
     done = sweep(*words)
-    assert (done.returncode, told(done)) == (0, []), done.stderr
+    assert (done.returncode, errors(done)) == (0, []), done.stderr
     return [line.split(",") for line in done.stdout.splitlines()]
 
 
-def told(done: subprocess.CompletedProcess[str]) -> list[str]:
-    """The lines on standard error, without the one that names what was not given."""
+def errors(done: subprocess.CompletedProcess[str]) -> list[str]:
+    """The lines on standard error, without the one that names the parameters that were not given."""
     return [line for line in done.stderr.splitlines() if not line.startswith("sweep: not given: ")]
 
 
 def rows(names: list[str], *words: str) -> list[list[str]]:
-    """These columns of the table, line by line."""
+    """The rows of the table, with only these columns."""
     lines = table(*words)
     return [[line[lines[0].index(name)] for name in names] for line in lines[1:]]
 
@@ -62,11 +62,11 @@ class Axes(unittest.TestCase):
         self.assertEqual(self.values("G", "0.010..0.100x2.5"), ["0.010", "0.025", "0.062"])
         self.assertEqual(self.values("O", "0..2+1"), ["0", "1", "2"])
 
-    def test_a_grid_is_in_the_order_of_its_words(self) -> None:
+    def test_a_grid_is_in_the_order_of_its_arguments(self) -> None:
         lines = table(f"schedule={EXCHANGE}", "L=1,2", "o=3,4")
         self.assertEqual([line[1:3] for line in lines[1:]], [["1", "3"], ["1", "4"], ["2", "3"], ["2", "4"]])
 
-    def test_an_option_is_empty_where_it_is_not_taken(self) -> None:
+    def test_an_option_is_empty_if_the_algorithm_does_not_take_it(self) -> None:
         lines = table("algorithm=bcast,bcast-chain", "ranks=4", "size=8", "segments=1,2")
         self.assertEqual([line[:4] for line in lines[1:]], [["bcast", "4", "8", ""], ["bcast-chain", "4", "8", "1"], ["bcast-chain", "4", "8", "2"]])
 
@@ -81,7 +81,7 @@ class Axes(unittest.TestCase):
         ):  # fmt: skip
             with self.subTest(words):
                 done = sweep(*words)
-                self.assertEqual((done.returncode, len(told(done))), (2, 1), done.stderr)
+                self.assertEqual((done.returncode, len(errors(done))), (2, 1), done.stderr)
 
 
 class Results(unittest.TestCase):
@@ -91,7 +91,7 @@ class Results(unittest.TestCase):
             [EXCHANGE, "2500", "1500", "1000", "6", "0", "65535", "11408", "0", "eager"]])
         self.assertEqual(rows(["finish", "stuck", "wait", "protocol"], f"schedule={EXCHANGE}", "--wait"), [["11408", "0", "9908", "eager"]])
 
-    def test_what_goal_says(self) -> None:
+    def test_results_are_those_of_goal(self) -> None:
         for size in ("8", "100000"):
             text = program.call(program.chosen(), ["gen", "reduce", "6", size, "--root", "2"]).out
             words = ["--G", "0", "--Gp", "80", "--L", "700"]
@@ -113,7 +113,8 @@ class Results(unittest.TestCase):
         self.assertEqual((done.returncode, done.stderr), (0, "sweep: each rank has a card of its own here; cards=1 lets the ranks of a node share one\n"))
 
     def test_cards_and_placements(self) -> None:
-        """Two nodes of two ranks, of which 0 and 1 send to 2 and 3: over one card the second message waits for the first."""
+        """On two nodes of two ranks, ranks 0 and 1 send to ranks 2 and 3. With one card, the second message waits for
+        the first."""
         with tempfile.TemporaryDirectory() as folder:
             names = [os.path.join(folder, name) for name in ("schedule", "cluster", "shared")]
             cluster = "class memory L=10 o=5 g=1 G=0\nclass cable L=1000 o=100 g=50 G=1\ninside memory\nbetween cable\nnodes 2 of 2\n"
@@ -130,19 +131,19 @@ class Results(unittest.TestCase):
             self.assertEqual(column("finish", words[0], f"machine={names[2]}"), ["3248"])
             self.assertEqual(column("finish", words[0], f"machine={names[2]}", "cards=own"), ["2199"])
 
-    def test_runs_that_are_refused_are_told_and_the_others_stand(self) -> None:
+    def test_refused_runs_are_reported_and_the_others_are_kept(self) -> None:
         done = sweep("algorithm=allreduce", "ranks=4..8+1", "size=8")
         self.assertEqual(done.returncode, 2)
         self.assertIn("3 of 5 runs failed, the first at algorithm=allreduce ranks=5 size=8: goal: refused: generator: power of two", done.stderr)
         self.assertEqual([line.endswith(",,") for line in done.stdout.splitlines()[1:]], [False, True, True, True, False])
 
-    def test_no_run_at_all_is_told_and_no_picture_is_drawn(self) -> None:
+    def test_without_any_run_no_picture_is_drawn(self) -> None:
         with tempfile.TemporaryDirectory() as folder:
             done = sweep("algorithm=allreduce", "ranks=5,6", "size=8", "--plot", os.path.join(folder, "picture"))
-            self.assertEqual((done.returncode, len(told(done)), os.listdir(folder)), (2, 1, []))
+            self.assertEqual((done.returncode, len(errors(done)), os.listdir(folder)), (2, 1, []))
         self.assertIn("2 of 2 runs failed, the first at algorithm=allreduce ranks=5 size=8: goal: ", done.stderr)
 
-    def test_how_far_it_is_on_a_terminal(self) -> None:
+    def test_progress_is_shown_on_a_terminal(self) -> None:
         ours, its = pty.openpty()
         words = [os.path.join(TOP, "tools", "sweep"), f"schedule={EXCHANGE}", "L=1,2"]
         done = subprocess.run(words, stdout=subprocess.DEVNULL, stderr=its, check=False)
@@ -157,7 +158,7 @@ class Results(unittest.TestCase):
 
 
 def is_ended(number: int) -> bool:
-    """Whether a process ends within ten seconds."""
+    """Whether the process with this number ends within ten seconds."""
     for _ in range(100):
         try:
             os.kill(number, 0)
@@ -168,7 +169,7 @@ def is_ended(number: int) -> bool:
 
 
 class Lasting(unittest.TestCase):
-    """What was done lasts, and nothing is left in the temporary folder."""
+    """Finished rows are kept, and nothing is left in the temporary folder."""
 
     WORDS = (f"schedule={EXCHANGE}", "L=1..4000+1")
 
@@ -179,14 +180,14 @@ class Lasting(unittest.TestCase):
         os.mkdir(self.folder)
 
     def begun(self, *words: str, **how: object) -> subprocess.Popen[str]:
-        """A sweep that has begun, which an interrupt reaches though a shell may have told this test to ignore it."""
+        """Starts a sweep. It can be interrupted, even if a shell made this test ignore interrupts."""
         call: Any = subprocess.Popen
         begun: subprocess.Popen[str] = call([os.path.join(TOP, "tools", "sweep"), *words], stderr=subprocess.PIPE, text=True,
                                             env={**os.environ, "TMPDIR": self.folder},
                                             preexec_fn=lambda: signal.signal(signal.SIGINT, signal.SIG_DFL), **how)
         return begun
 
-    def test_a_signal_leaves_the_rows_that_are_done(self) -> None:
+    def test_a_signal_keeps_the_finished_rows(self) -> None:
         for number, status in ((signal.SIGINT, 130), (signal.SIGTERM, 143)):
             with self.begun(*self.WORDS, stdout=subprocess.PIPE) as running:
                 assert running.stdout
@@ -198,8 +199,8 @@ class Lasting(unittest.TestCase):
             self.assertEqual([line.split(",")[1] for line in lines[1:]], [str(at) for at in range(1, len(lines))])
             self.assertTrue(all(line.endswith(",eager\n") for line in lines[1:]))
 
-    def test_a_signal_ends_what_is_being_run(self) -> None:
-        """The program is one that sleeps, and says who it is."""
+    def test_a_signal_ends_the_programs_that_run(self) -> None:
+        """The program is a fake one that records its process number and sleeps."""
         program_path, said = os.path.join(self.folder, "..", "sleeps"), os.path.join(self.folder, "..", "who")
         with open(program_path, "w", encoding="utf-8") as file:
             file.write(f"#!/bin/sh\necho $$ >>{said}\nexec sleep 600\n")
@@ -213,7 +214,7 @@ class Lasting(unittest.TestCase):
             self.assertTrue(all(is_ended(int(number)) for number in file))
         self.assertEqual(os.listdir(self.folder), [])
 
-    def test_a_reader_that_goes_and_a_full_disk(self) -> None:
+    def test_a_closed_pipe_and_a_full_disk(self) -> None:
         with self.begun(*self.WORDS, stdout=subprocess.PIPE) as running:
             assert running.stdout and running.stderr
             self.assertEqual(running.stdout.readline().split(",")[0], "schedule")
@@ -226,10 +227,10 @@ class Lasting(unittest.TestCase):
         self.assertIn("/dev/full: not a regular file", sweep(*self.WORDS, "--into", "/dev/full").stderr)
 
     def test_a_file_that_cannot_grow_keeps_its_whole_rows(self) -> None:
-        """A limit on the size of files stands for a full disk."""
+        """A limit on the size of files simulates a full disk."""
         call = f"ulimit -f 1; exec {os.path.join(TOP, 'tools', 'sweep')} schedule={EXCHANGE} L=1..40+1 --into {self.path} --jobs 1"
         done = subprocess.run(["bash", "-c", call], capture_output=True, text=True, check=False)
-        self.assertEqual((done.returncode, told(done)), (2, [f"sweep: {self.path}: File too large"]))
+        self.assertEqual((done.returncode, errors(done)), (2, [f"sweep: {self.path}: File too large"]))
         self.assertEqual(self.into("L=1..40+1").returncode, 0)
         self.assertEqual([line.split(",")[1] for line in self.read().splitlines()[1:]], [str(at) for at in range(1, 41)])
 
@@ -249,7 +250,7 @@ class Lasting(unittest.TestCase):
             with open(self.path, "w", encoding="utf-8") as file:
                 file.write(cut)
             self.assertEqual((self.into("L=1..6+1").returncode, self.read()), (0, whole))
-        # rows that are there are not run again
+        # (rows that exist are not run again)
         with open(self.path, "w", encoding="utf-8") as file:
             file.write("".join(lines[:2]).replace(",eager,", ",kept,"))
         self.into("L=1..6+1")
@@ -262,7 +263,7 @@ class Lasting(unittest.TestCase):
                            (["L=1"], "rows.csv:3: the grid has only 1 points"), (["L=1,2", "--wait"], "rows.csv:1: the columns are ")):
             done = self.into(*words)
             self.assertEqual((done.returncode, self.read()), (2, kept))
-            self.assertIn(why, told(done)[0])
+            self.assertIn(why, errors(done)[0])
         with open(self.path, "w", encoding="utf-8") as file:
             file.write(kept.replace(kept.rsplit(",", 1)[1].strip(), "0123456789ab"))
         self.assertIn("rows.csv:2: the program is 0123456789ab there, and ", self.into("L=1,2,3").stderr)
@@ -280,7 +281,7 @@ class Lasting(unittest.TestCase):
 
 
 class Parameters(unittest.TestCase):
-    def test_all_are_in_the_table_and_those_not_given_are_named(self) -> None:
+    def test_the_table_has_all_parameters_and_defaults_are_named(self) -> None:
         done = sweep("algorithm=bcast,allreduce-ring", "ranks=4", "size=8", "g=5")
         self.assertEqual(done.stdout.splitlines(), [
             "algorithm,ranks,size,g,root,segments,sum-ps,L,o,G,O,S,finish,stuck,protocol",
@@ -288,11 +289,11 @@ class Parameters(unittest.TestCase):
         self.assertEqual(done.stderr, "sweep: not given: root=0, segments=1, sum-ps=0 ps per byte (sums cost no time), L=2500 ns, o=1500 ns, "
                                       "G=6 ns per byte (1.3 Gbit/s), O=0 ns per byte, S=65535 bytes\n")
 
-    def test_what_is_given_is_not_named(self) -> None:
+    def test_given_parameters_are_not_named(self) -> None:
         done = sweep(f"schedule={EXCHANGE}", "L=1", "o=1", "g=1", "G=1", "O=1", "S=1")
         self.assertEqual((done.returncode, done.stderr), (0, ""))
 
-    def test_those_of_one_size_for_any_items_are_refused(self) -> None:
+    def test_algorithms_with_one_size_of_messages_are_refused(self) -> None:
         for name in ("gather", "scatter"):
             done = sweep(f"algorithm={name}", "ranks=4", "size=8")
             self.assertEqual((done.returncode, done.stdout), (2, ""))
@@ -308,10 +309,10 @@ class Parameters(unittest.TestCase):
 
 
 class Scaled(unittest.TestCase):
-    """Rates finer than a picosecond per byte."""
+    """Rates that are finer than a picosecond per byte."""
 
-    def test_it_is_exact(self) -> None:
-        """Against times that are ten times as long, run by hand, and against rates that need no scale."""
+    def test_scaled_times_are_exact(self) -> None:
+        """Compared with a run of a schedule whose times are ten times as long, and with rates that need no scale."""
         with open(EXCHANGE, encoding="utf-8") as file:
             text = file.read().replace("calc 100", "calc 1000").replace("calc 200", "calc 2000").replace("10b", "999b")
         words = ["--L", "25000", "--o", "15000", "--g", "10000", "--G", "0", "--Gp", "25"]
@@ -320,7 +321,7 @@ class Scaled(unittest.TestCase):
             file.write(text.replace("calc 1000", "calc 100").replace("calc 2000", "calc 200"))
             file.flush()
             done = sweep(f"schedule={file.name}", "G=0.0025,0.0000,0.001000")
-            self.assertEqual(told(done), ["sweep: times are taken 10 times, for rates finer than a picosecond per byte: bytes cost whole 1/10 ns"])
+            self.assertEqual(errors(done), ["sweep: times are taken 10 times, for rates finer than a picosecond per byte: bytes cost whole 1/10 ns"])
             lines = [line.split(",") for line in done.stdout.splitlines()[1:]]
             self.assertEqual([line[1] for line in lines], ["0.0025", "0", "0.001"])
             self.assertEqual(lines[0][7], f"{finish / 10:g}")
@@ -328,12 +329,12 @@ class Scaled(unittest.TestCase):
             self.assertEqual(column("finish", f"schedule={file.name}", "G=0.001"), [str(-(-int(float(lines[2][7]) * 10) // 10))])
 
     def results(self, *words: str) -> list[list[str]]:
-        """What the runs of a sweep come to, line by line."""
+        """The columns of the table from `finish` on, row by row."""
         lines = [line.split(",") for line in sweep(*words).stdout.splitlines()]
         return [line[lines[0].index("finish"):] for line in lines[1:]]
 
     def test_a_description_may_have_such_rates(self) -> None:
-        """One and a MACHINE, against the same parameters without machines."""
+        """A description and a MACHINE are compared with the same parameters without a machine."""
         with tempfile.TemporaryDirectory() as folder:
             fine, usual = (os.path.join(folder, name) for name in ("fine", "usual"))
             for path, rate in ((fine, "0.0025"), (usual, "0.080")):
@@ -359,7 +360,7 @@ class Scaled(unittest.TestCase):
             self.assertEqual((done.returncode, done.stdout), (2, ""))
             self.assertTrue(done.stderr.startswith(f"sweep: {why}"), done.stderr)
 
-    def test_a_calc_that_is_too_long_is_told(self) -> None:
+    def test_a_calc_that_is_too_long_is_reported(self) -> None:
         with tempfile.NamedTemporaryFile("w") as file:
             file.write(f"num_ranks 1 rank 0 {{ calc {2**48 - 1} }}")
             file.flush()
@@ -379,7 +380,7 @@ class Shares(unittest.TestCase):
         with open(self.cluster, "w", encoding="utf-8") as file:
             file.write(text + "\ncards 2 in turn\n")
 
-    def test_they_are_those_of_tools_path(self) -> None:
+    def test_shares_are_those_of_tools_path(self) -> None:
         with open(self.made, "w", encoding="utf-8") as file:
             words = "allreduce-two-level 128 1000 --node 16 --sum-ps 30".split()
             file.write(tool_calls.called("schedule", *words).stdout)
@@ -395,8 +396,8 @@ class Shares(unittest.TestCase):
             found = rows(["finish", *self.COLUMNS], *words, *of_sweep, "--shares")
             self.assertEqual(found, [[path.split()[9], *map(str, wanted.values())]])
 
-    def test_they_add_up(self) -> None:
-        """Also for rates finer than a picosecond, for what is stuck, and with other cards than those of the machine."""
+    def test_shares_add_up(self) -> None:
+        """Also for rates finer than a picosecond, for stuck runs, and with other cards than those of the machine."""
         examples = [os.path.join(TOP, "examples", name) for name in ("exchange", "first_come", "both_send_first", "waits")]
         for words in ([f"schedule={','.join(examples)}", "G=0.0025,6", "O=0,7"],
                       [f"machine={self.cluster}", "cards=own,1", "placement=block,cyclic", "algorithm=bcast", "ranks=128",
@@ -407,18 +408,18 @@ class Shares(unittest.TestCase):
             for line in lines[1:]:
                 self.assertEqual(sum(map(Decimal, line[first : first + 6])), Decimal(line[finish]))
 
-    def test_they_can_be_drawn(self) -> None:
+    def test_shares_can_be_drawn(self) -> None:
         with tempfile.TemporaryDirectory() as folder:
             path = os.path.join(folder, "picture")
             words = [f"schedule={EXCHANGE}", "L=1..3+1", "--y", "share_L", "--plot", path]
-            self.assertEqual(told(sweep(*words)), ["sweep: --y share_L needs --shares"])
+            self.assertEqual(errors(sweep(*words)), ["sweep: --y share_L needs --shares"])
             self.assertEqual((sweep(*words, "--shares").returncode, os.path.exists(path)), (0, True))
 
 
 class Crossings(unittest.TestCase):
     WORDS = ("ranks=16", "size=1K..1Mx32", "segments=8", "L=1500", "o=400", "g=300", "G=0.080", "--x", "size")
 
-    def test_neighbours_between_which_the_faster_one_changes(self) -> None:
+    def test_a_crossing_is_between_two_successive_sizes(self) -> None:
         done = sweep(*self.WORDS, "--cross", "bcast,bcast-chain")
         lines = [line.split(",") for line in done.stdout.splitlines()]
         columns = [lines[0].index(name) for name in ("size", "algorithm", "finish")]
@@ -433,21 +434,21 @@ class Crossings(unittest.TestCase):
         wanted = [column("finish", "ranks=16", f"size={low},{high}", f"algorithm={name}", *self.WORDS[2:-2]) for name in ("bcast", "bcast-chain")]
         self.assertEqual([[row[2] for row in found if row[1] == name] for name in ("bcast", "bcast-chain")], wanted)
 
-    def test_none_is_told(self) -> None:
+    def test_no_crossing_is_reported(self) -> None:
         done = sweep("ranks=4", "size=8,16", "--x", "size", "--cross", "bcast,bcast-chain")
-        self.assertEqual((done.returncode, len(done.stdout.splitlines()), told(done)),
+        self.assertEqual((done.returncode, len(done.stdout.splitlines()), errors(done)),
                          (0, 1, ["sweep: no crossing at these values: bcast is faster at size=8"]))
 
-    def test_wrong_words(self) -> None:
+    def test_wrong_arguments(self) -> None:
         for words in (["--cross", "bcast", "--x", "size"], ["--cross", "bcast,bcast", "--x", "size"], ["--cross", "bcast,bcast-chain"],
                       ["--cross", "bcast,bcast-chain", "--x", "ranks"], ["--cross", "bcast,bcast-chain", "--x", "size", "--into", "x"],
                       ["--cross", "bcast,none", "--x", "size"], ["--cross", "bcast,bcast-chain", "--x", "size", "algorithm=bcast"]):
             done = sweep("ranks=4", "size=8,16", *words)
-            self.assertEqual((done.returncode, done.stdout, len(told(done))), (2, "", 1), done.stderr)
+            self.assertEqual((done.returncode, done.stdout, len(errors(done))), (2, "", 1), done.stderr)
 
 
 class Jobs(unittest.TestCase):
-    """Commands that run points, and their rows put together."""
+    """Commands that run some points each, and gathering their rows."""
 
     WORDS = ("algorithm=bcast,bcast-chain", "ranks=4", "size=8..64x2", "segments=1,2")
 
@@ -469,7 +470,7 @@ class Jobs(unittest.TestCase):
             gathered = sweep(*self.WORDS, "--gather", *reversed(paths))
             self.assertEqual((gathered.returncode, gathered.stderr), (0, ""))
             self.assertEqual([line.rsplit(",", 1)[0] for line in gathered.stdout.splitlines()], whole)
-            # one is missing, and of another the last line is cut
+            # (a table is missing, and the last line of another is incomplete)
             with open(paths[2], "r+", encoding="utf-8") as file:
                 file.truncate(len(file.read()) - 3)
             partly = sweep(*self.WORDS, "--gather", paths[0], paths[2])
@@ -491,10 +492,10 @@ class Jobs(unittest.TestCase):
                 self.assertEqual((done.returncode, done.stdout), (2, ""))
                 self.assertIn(why, done.stderr)
 
-    def test_wrong_words(self) -> None:
+    def test_wrong_arguments(self) -> None:
         for words in (["--points", "0"], ["--points", "13"], ["--points", "3..2"], ["--points", "x"], ["--each", "2"], ["--list", "--points", "1"], ["--list", "--plot", "x"]):
             done = sweep(*self.WORDS, *words)
-            self.assertEqual((done.returncode, done.stdout, len(told(done))), (2, "", 1), done.stderr)
+            self.assertEqual((done.returncode, done.stdout, len(errors(done))), (2, "", 1), done.stderr)
 
 
 class Curves(unittest.TestCase):
@@ -502,7 +503,7 @@ class Curves(unittest.TestCase):
         with tempfile.TemporaryDirectory() as folder:
             path = os.path.join(folder, "curves.svg")
             done = sweep(*words, "--plot", path)
-            self.assertEqual((done.returncode, told(done)), (0, []))
+            self.assertEqual((done.returncode, errors(done)), (0, []))
             return xml.etree.ElementTree.parse(path).getroot()
 
     def texts(self, picture: xml.etree.ElementTree.Element) -> list[str]:
@@ -528,13 +529,13 @@ class Curves(unittest.TestCase):
         texts = self.texts(self.drawn(f"schedule={EXCHANGE}", "L=0..2000+500"))
         self.assertTrue({"0", "500", "1,000", "1,500", "2,000", "finish (µs)", "L (ns)"} <= set(texts), texts)
 
-    def test_what_is_stuck_has_a_cross(self) -> None:
+    def test_a_stuck_run_has_a_cross(self) -> None:
         hung = os.path.join(TOP, "examples", "both_send_first")
         self.assertEqual(self.texts(self.drawn(f"schedule={hung}", "S=50000..200000+50000")).count("both_send_first, S 50000: stuck"), 0)
         picture = self.drawn(f"schedule={hung}", "S=50000..200000+50000")
         self.assertIn("✕", ["".join(text.itertext())[-1] for text in picture.iter(SVG + "text")])
 
-    def test_all_within_the_picture(self) -> None:
+    def test_all_points_are_inside_the_picture(self) -> None:
         picture = self.drawn("algorithm=bcast,bcast-chain", "ranks=8", "size=1K..4Mx8", "segments=2,4")
         width, height = float(picture.attrib["width"]), float(picture.attrib["height"])
         for circle in picture.iter(SVG + "circle"):

@@ -1,5 +1,5 @@
 #!/usr/bin/env python3
-"""Tests of tools/timeline, and of what it and tools/trace derive from a run: what waits when, and what is stuck."""
+"""Tests of tools/timeline, and of what it and tools/trace derive from a run: waits, and stuck operations."""
 from __future__ import annotations
 
 import os
@@ -28,7 +28,7 @@ def goal(*words: str) -> str:
 
 
 def stories(name: str, ranks: range | None = None, **options: int) -> dict[Key, Story]:
-    """The stories of a run of an example with these options of goal."""
+    """The stories of a run of an example, with these options of `goal sim`."""
     path = os.path.join(EXAMPLES, name)
     words = [word for key, value in options.items() for word in (f"--{key}", str(value))]
     run = read_run(goal("sim", path, *words).splitlines(), ranks)
@@ -53,16 +53,16 @@ class Stories(unittest.TestCase):
                 lines = [line.split() for line in goal("waits", path).splitlines() if line.startswith("wait ")]
                 self.assertEqual(waited, {(int(rank), int(op)): int(wait) for _, rank, op, wait in lines})
 
-    def test_a_large_send_asks_and_hands_over(self) -> None:
+    def test_a_rendezvous_send_has_a_request_and_data(self) -> None:
         sent = stories("large")[0, 0]
         self.assertEqual((sent.busy, sent.waits), ([(0, 1500), (6500, 8000)], [(1500, 6500)]))
 
-    def test_what_is_stuck(self) -> None:
+    def test_stuck_operations(self) -> None:
         found = stories("both_send_first")
         self.assertEqual((found[0, 0].stuck_from, found[0, 0].never, found[0, 0].reason), (1500, False, "for partner 1 1"))
         self.assertTrue(found[0, 1].never)
 
-    def test_some_ranks_alone(self) -> None:
+    def test_only_some_ranks(self) -> None:
         self.assertEqual(set(stories("first_come", range(0, 1))), {(0, 0), (0, 1)})
 
     def test_a_run_of_other_parameters_is_refused(self) -> None:
@@ -92,7 +92,7 @@ class Reading(unittest.TestCase):
             with self.assertRaises(ValueError):
                 machine_of(f"classes 1 class 1 1 1 1 1 1 1 1 {numbers} ranks 1 0 pairs 0")
 
-    def test_no_run(self) -> None:
+    def test_a_text_that_is_no_run(self) -> None:
         for lines in ((), ["rank 0 ended 1 wait 0"], ["ranks 1 ops 1 stuck 0 unread 0 finish 1", "op 0"], ["ranks 1 ops 1 stuck 0 unread 0 finish " + 5000 * "9"]):
             with self.assertRaises(NoRun):
                 read_run(lines)
@@ -112,7 +112,7 @@ class Scales(unittest.TestCase):
 
 class Pictures(unittest.TestCase):
     def drawn(self, *words: str, text: str | None = None) -> xml.etree.ElementTree.Element:
-        """The picture, as its elements."""
+        """The picture as a tree of elements."""
         done = timeline(*words, text=text)
         self.assertEqual((done.returncode, done.stderr), (0, ""))
         return xml.etree.ElementTree.fromstring(done.stdout)
@@ -126,7 +126,7 @@ class Pictures(unittest.TestCase):
             self.assertIn(text, texts)
 
     def test_the_sides_of_nics(self) -> None:
-        """A rect for each hold of a side; none without them."""
+        """A picture has a rect for each span for which a side is held, or none with --no-nics."""
         name = os.path.join(EXAMPLES, "exchange")
         for option, count in (("--nics", 4), ("--no-nics", 0)):
             picture = self.drawn(name, option)
@@ -137,7 +137,7 @@ class Pictures(unittest.TestCase):
         self.assertEqual(len([it for it in picture.iter(SVG + "path") if it.get("stroke") == "#8b1a8b"]), 1)
         self.assertIn("what held up the last end", self.texts(picture))
 
-    def test_a_cloud_of_arrows_gives_way_to_the_path(self) -> None:
+    def test_with_many_messages_only_the_path_is_drawn(self) -> None:
         with tempfile.NamedTemporaryFile("w", suffix=".goal") as file:
             file.write(goal("gen", "alltoall", "16", "8"))
             file.flush()
@@ -147,7 +147,7 @@ class Pictures(unittest.TestCase):
         self.assertNotIn("message and its receive", self.texts(path))
         self.assertIn("4 of 16 ranks", " ".join(self.texts(some)))
 
-    def test_what_is_stuck_is_red(self) -> None:
+    def test_stuck_operations_are_red(self) -> None:
         picture = self.drawn(os.path.join(EXAMPLES, "both_send_first"))
         self.assertIn("never begins: 1", self.texts(picture))
         self.assertEqual(len([it for it in picture.iter(SVG + "rect") if it.get("stroke") == "#cc2233"]), 3)
@@ -165,7 +165,7 @@ class Pictures(unittest.TestCase):
     def test_a_schedule_from_a_pipe(self) -> None:
         self.assertIn("rank 2", self.texts(self.drawn("-", text=goal("gen", "bcast", "3", "8"))))
 
-    def test_nothing_stands_outside(self) -> None:
+    def test_all_texts_are_inside_the_picture(self) -> None:
         for words in (["exchange"], ["first_come"], ["alltoall_send_first"], ["alltoall_send_first", "--S", "100000"]):
             picture = self.drawn(os.path.join(EXAMPLES, words[0]), *words[1:])
             width, height = float(picture.attrib["width"]), float(picture.attrib["height"])
@@ -173,7 +173,7 @@ class Pictures(unittest.TestCase):
                 with self.subTest(words=words, text=text.text):
                     self.assertTrue(0 <= float(text.attrib["x"]) <= width and 0 <= float(text.attrib["y"]) <= height)
 
-    def test_large_runs_are_asked_for(self) -> None:
+    def test_a_large_run_is_refused_as_a_whole(self) -> None:
         with tempfile.NamedTemporaryFile("w", suffix=".goal") as file:
             file.write(goal("gen", "alltoall", "64", "8"))
             file.flush()
@@ -183,11 +183,11 @@ class Pictures(unittest.TestCase):
             picture = self.drawn(file.name, "--ranks", "0-3", "--to", "50000")
             self.assertLess(float(picture.attrib["height"]), 400)
 
-    def test_in_a_window_what_ends_there_is_enough(self) -> None:
+    def test_ends_in_a_window_can_exceed_the_limit(self) -> None:
         done = timeline(os.path.join(EXAMPLES, "exchange"), "--from", "1", "--limit", "2")
         self.assertEqual((done.returncode, done.stderr), (2, "timeline: 6 operations or more, and the limit is 2: choose some by --ranks, --from and --to, or raise --limit\n"))
 
-    def test_what_never_begins_counts(self) -> None:
+    def test_operations_that_never_begin_count(self) -> None:
         done = timeline(os.path.join(EXAMPLES, "both_send_first"), "--limit", "3")
         self.assertEqual((done.returncode, done.stdout), (2, ""))
         self.assertIn("4 operations, and the limit is 3", done.stderr)

@@ -1,6 +1,6 @@
 #!/usr/bin/env python3
-"""Tests of tools/trace: the JSON has the trace-event format, spans of a track do not overlap, and flows bind to
-spans."""
+"""Tests of tools/trace: the JSON has the trace-event format, the spans of a track do not overlap, and flows begin and
+end at spans."""
 from __future__ import annotations
 
 import json
@@ -35,7 +35,7 @@ def events(*words: str) -> Any:
 
 class Form(unittest.TestCase):
     def check(self, trace: Any) -> None:
-        """What Perfetto asks of a trace."""
+        """Checks the requirements of Perfetto."""
         for event in trace:
             self.assertLessEqual(FIELDS[event["ph"]], set(event))
             self.assertTrue(all(isinstance(event[key], int) for key in ("pid", "tid") if key in event))
@@ -92,7 +92,7 @@ class Content(unittest.TestCase):
         self.assertEqual(waits, [(0, "2 recv from 1"), (1, "0 recv from any")])
 
     def test_tracks_are_few(self) -> None:
-        """Of a rank with many waits: a cpu, two sides of its NIC and one for its waits."""
+        """A rank with many waits has four tracks: its cpu, the two sides of its NIC, and one for its waits."""
         with tempfile.NamedTemporaryFile("w", suffix=".goal") as file:
             file.write(program.call(program.chosen(), ["gen", "alltoall", "12", "1000"]).out)
             file.flush()
@@ -110,18 +110,18 @@ class Content(unittest.TestCase):
         trace = events(os.path.join(EXAMPLES, "exchange"))
         self.assertIn("b", [event["args"].get("label") for event in trace if event["ph"] == "X" and "args" in event])
 
-    def test_a_file_that_can_not_be_written_is_told_first(self) -> None:
+    def test_an_output_that_can_not_be_written_is_reported_first(self) -> None:
         done = tool_calls.called("trace", os.path.join(EXAMPLES, "exchange"), "-o", "/no/such/file", "--goal", "/no/such")
         self.assertEqual((done.returncode, done.stderr), (2, "trace: /no/such/file: No such file or directory\n"))
 
-    def test_what_a_span_shows_is_not_said_again(self) -> None:
+    def test_arguments_do_not_repeat_what_a_span_shows(self) -> None:
         trace = events(os.path.join(EXAMPLES, "large"))
         spans = [event for event in trace if event["ph"] == "X" and event.get("cat") == "send"]
         self.assertEqual([(event["name"].split(":")[1:], "args" in event) for event in spans], [([" request"], False), ([], True)])
         self.assertFalse({"start ns", "end ns", "tag", "calc ns"} & {name for event in trace for name in event.get("args", ())})
 
-    def test_it_is_small(self) -> None:
-        """So that 23,000 operations of 512 ranks take less than 10 MB."""
+    def test_a_trace_is_small(self) -> None:
+        """The limit is such that 23,000 operations of 512 ranks take less than 10 MB."""
         with tempfile.NamedTemporaryFile("w", suffix=".goal") as file:
             file.write(program.call(program.chosen(), ["gen", "allreduce", "64", "100000"]).out)
             file.flush()
@@ -129,12 +129,12 @@ class Content(unittest.TestCase):
         self.assertEqual(done.returncode, 0, done.stderr)
         self.assertLess(len(done.stdout), 430 * 64 * (6 + 6 + 6))
 
-    def test_what_is_stuck(self) -> None:
+    def test_stuck_operations(self) -> None:
         names = [event["name"] for event in events(os.path.join(EXAMPLES, "both_send_first"))]
         self.assertIn("stuck: 0 send to 1", names)
         self.assertIn("never begins: 1 recv from 1", names)
 
-    def test_some_ranks_alone(self) -> None:
+    def test_only_some_ranks(self) -> None:
         trace = events(os.path.join(EXAMPLES, "first_come"), "--ranks", "1-2")
         self.assertEqual({event["pid"] for event in trace}, {1, 2})
 

@@ -1,5 +1,5 @@
 #!/usr/bin/env python3
-"""Tests of .ci/unused on a small repository: what is reached, what is reported, and the list of exceptions."""
+"""Tests of .ci/unused on a small repository: what counts as used, what is reported, and the list of exceptions."""
 from __future__ import annotations
 
 import os
@@ -111,7 +111,7 @@ class Unused(unittest.TestCase):
             it.write(text)
 
     def keep(self, kept: str) -> None:
-        """A copy of the script with this list of what stays."""
+        """Makes a copy of the script with this list of exceptions."""
         with open(f"{TOP}/.ci/unused", encoding="utf-8") as it:
             text = it.read()
         text, count = re.subn(r"\nKEPT: (.*?) = \(.*?\)\n", rf"\nKEPT: \1 = ({kept})\n", text, flags=re.S)
@@ -126,8 +126,8 @@ class Unused(unittest.TestCase):
         answer = subprocess.run(["python3", f"{self.top}/.ci/unused"], capture_output=True, text=True, check=False)
         return answer.returncode, answer.stdout.splitlines()[:-1]
 
-    def test_all_is_reached(self) -> None:
-        """From main, a test, a law, an attribute, an answer and through a file that passes a lemma on."""
+    def test_all_is_used(self) -> None:
+        """By main, a test, a law, an attribute or an answer, or through a file that passes a lemma on."""
         self.assertEqual(self.called(), (0, []))
 
     def test_a_function_that_nothing_calls(self) -> None:
@@ -143,7 +143,7 @@ class Unused(unittest.TestCase):
         self.write(path, FILES[path] + "\nabbrev pub thrice : ℕ → ℕ\nthrice n = twice n + n\n")
         self.assertEqual(self.called(), (1, ["crates/low/specs/Twice.antt: thrice, line 7: nothing uses it"]))
 
-    def test_a_lemma_with_what_it_alone_cites(self) -> None:
+    def test_a_lemma_and_a_helper_that_only_it_cites(self) -> None:
         self.change("crates/low/proofs/twice/Answers.antt", "by_answer 0", "0")
         lemmas = [line.partition(",")[0] for line in self.called()[1]]
         self.assertEqual(lemmas, [f"crates/low/proofs/Lemmas.antt: {name}" for name in ("by_answer", "helper")])
@@ -152,12 +152,12 @@ class Unused(unittest.TestCase):
         self.change("crates/goal_prog/src/main.rt", "    ensures { passed_on }\n", "")
         self.assertEqual(self.called(), (1, ["crates/low/proofs/Lemmas.antt: passed_on, line 13: nothing uses it"]))
 
-    def test_what_is_kept_is_not_told(self) -> None:
+    def test_an_exception_is_not_reported(self) -> None:
         self.change("crates/low/proofs/twice/Answers.antt", "by_answer 0", "0")
         self.keep('("low/proofs/Lemmas.antt", "by_answer helper", "a reason"),')
         self.assertEqual(self.called(), (0, []))
 
-    def test_what_is_kept_without_need_is_told(self) -> None:
+    def test_a_needless_exception_is_reported(self) -> None:
         self.keep('("low/proofs/Lemmas.antt", "helper gone", "a reason"),')
         told = [f".ci/unused: KEPT lists low/proofs/Lemmas.antt: {name}, and needs not" for name in ("gone", "helper")]
         self.assertEqual(self.called(), (1, told))

@@ -1,5 +1,5 @@
 #!/usr/bin/env python3
-"""Tests of tools/waits: its lines are those of `goal waits` and `goal knots`, with equal and with different classes."""
+"""Tests of tools/waits: its lines are those of `goal waits` and `goal knots`, with parameters and on machines."""
 import os
 import random
 import subprocess
@@ -25,7 +25,7 @@ def waits(*words: str, text: str = "") -> "subprocess.CompletedProcess[str]":
 
 
 def machine(options: Dict[str, int], ranks: int) -> str:
-    """One class for all messages, and a node for each rank."""
+    """A machine with one class for all messages, and a node for each rank."""
     return f"classes 1 class {' '.join(str(options[name]) for name in DEFAULTS)} inside 0 default 0 ranks {ranks} {' '.join(map(str, range(ranks)))} pairs 0"
 
 
@@ -41,7 +41,7 @@ class Lines(unittest.TestCase):
             self.same(os.path.join(EXAMPLES, name), {})
 
     def test_drawn(self) -> None:
-        """With parameters, and on a machine whose classes are these."""
+        """With random parameters, and on a machine whose only class has them."""
         draw = random.Random(SEED)
         for number in range(ROUNDS):
             text, options = drawn_schedule(draw), drawn_parameters(draw)
@@ -54,7 +54,7 @@ class Lines(unittest.TestCase):
                 self.same("/dev/stdin", options, "--machine", file.name, text=text)
 
     def test_ranks_that_share_a_card(self) -> None:
-        """A rank for each rank of the schedule, though the run is that of nodes."""
+        """The report has a line for each rank of the schedule, though the run is one of nodes."""
         text = program.call(GOAL, ["gen", "alltoall", "8", "1000"]).out
         with tempfile.NamedTemporaryFile("w") as file:
             file.write("class a L=5\nnodes 2 of 4\ninside a\nbetween a\ncards 1\n")
