@@ -25,19 +25,20 @@ A row has these lines, in any order. An indented line continues the line before 
     do: COMMAND            a bash command to run before the call; it must succeed
     $ WORDS                the call: the words after the program's name, quoted as in a shell; \\xNN is a byte
     stdin: COMMAND         the standard input of the call: the output of this bash command
-    pieces                 one call for each way to cut the input in two pieces, and one call with single bytes
+    pieces                 makes a call for each way to cut the input in two, and a call with one byte at a time
     status N               the expected exit status (0)
     > LINE                 a line of the expected output; `> ...` matches any lines (no output)
     prints: COMMAND        the expected output is that of this bash command
-    checked: COMMAND       instead of both: this bash command must succeed, with the output as its standard input
+    checked: COMMAND       instead of `>` and `prints`: this bash command must succeed, with the output as its standard
+                           input
     ! LINE                 a line of the expected standard error (nothing)
-    wrote NAME: HEX        the call must leave a file with these bytes; `as OTHER`: with those of the file OTHER;
-                           `none`: no such file
-    kilobytes N            the limit of its address space, in KiB (none)
-    seconds N              the limit of its run time (60)
-    with KEY=VALUE ..      one row for each such line, with each {KEY} replaced; with N..M as a value, one per number
+    wrote NAME: HEX        after the call, the file must have these bytes. `as OTHER` instead of HEX: the bytes of the
+                           file OTHER. `none`: the file must not exist
+    kilobytes N            the limit of the call's address space, in KiB (none)
+    seconds N              the limit of the call's run time (60)
+    with KEY=VALUE ..      makes a row for each such line, with each {KEY} replaced; a value N..M makes a row per number
 
-A `file`, `bytes` or `make` before the first row is shared: each row of the file that names it has it.
+A `file`, `bytes` or `make` before the first row is shared: each row that names the file gets it.
 """
 from __future__ import annotations
 
@@ -56,7 +57,7 @@ class RowFault(Exception):
 
 @dataclass(frozen=True)
 class Made:
-    """A file that a row needs: how it is made (`file`, `bytes` or `make`), its name, and its text, bytes or command."""
+    """A file that a row needs: how it is made (`file`, `bytes` or `make`), its name, and the text, bytes or command."""
 
     how: str
     name: str
@@ -65,7 +66,7 @@ class Made:
 
 @dataclass(frozen=True)
 class Row:
-    """One call and what it must answer."""
+    """A call and the expected answer."""
 
     name: str
     place: str
@@ -86,7 +87,8 @@ class Row:
 
 
 def lines_of(path: Path) -> list[tuple[int, str]]:
-    """The lines of a file with their numbers, without comments and blank lines; an indented line is joined to the one before."""
+    """The lines of a file with their numbers, without comments and blank lines. Indented lines are joined to the line
+    before."""
     lines: list[tuple[int, str]] = []
     for number, line in enumerate(path.read_text(encoding="utf-8").splitlines(), 1):
         if not line.strip() or line.startswith("#"):
@@ -137,7 +139,7 @@ def with_line(row: Row, line: str) -> Row:
 
 
 def choices_of(withs: tuple[str, ...]) -> list[dict[str, str]]:
-    """For each row of a template, the values of its keys."""
+    """The values of the keys for each row that a template makes."""
     choices: list[dict[str, str]] = []
     for line in withs:
         lists: list[list[tuple[str, str]]] = []
@@ -151,7 +153,7 @@ def choices_of(withs: tuple[str, ...]) -> list[dict[str, str]]:
 
 
 def filled(row: Row, choice: dict[str, str]) -> Row:
-    """The row of a template for this choice."""
+    """The row that a template makes for these values of its keys."""
 
     def fill(text: str) -> str:
         for key, value in choice.items():
