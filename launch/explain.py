@@ -210,7 +210,7 @@ def reading_fault(files: Sequence[File]) -> Optional[str]:
             reasons = {errno.ENOENT: "is not there", errno.EACCES: "may not be read", errno.EISDIR: "is a folder", errno.ENOTDIR: "lies below a file"}
             if path == STANDARD_INPUT:
                 return "standard input is closed"
-            return f"{shown(name)} {reasons.get(why.errno or 0, f'can not be read: {why.strerror}')}"
+            return f"{shown(name)} {reasons.get(why.errno or 0, f'cannot be read: {why.strerror}')}"
         except ValueError:
             return f"{name!r} is no name of a file"
     return None
@@ -269,7 +269,7 @@ def refusal_fault(files: Sequence[File], said: str) -> Optional[str]:
     gone = next((file for file in files if is_read_once(file)), None)
     if gone:
         how = "came through a pipe" if stat.S_ISFIFO(os.stat(gone.path).st_mode) else "is a device"
-        return f"{shown(gone.name)} {how} and can not be read again: save it in a file, and the place of the fault is told"
+        return f"{shown(gone.name)} {how} and cannot be read again: save it in a file to see where the fault is"
     found = re.search(r"refused: (text|file|plan|machine|generator|budget)\b:? ?(.*)", said)
     if not found:
         return None

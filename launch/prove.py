@@ -233,7 +233,7 @@ def prove(rt: Kit) -> bool:
     libraries = program.below()
     log = Log(len(libraries) + 1)
     rt.rtlib.guarded()
-    # (in kits before 13f, checkouts can not share work)
+    # (in kits before 13f, checkouts cannot share work)
     if hasattr(rt, "share_work"):
         rt.share_work(True)
     locks = rt.rtlib.lock([*libraries, program])

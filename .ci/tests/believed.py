@@ -119,7 +119,7 @@ class Believed(unittest.TestCase):
         self.change(".ci/believed", '    "goal_blocks/Right": ', '    "goal_blocks/Walk": "all of it is reached",\n    "goal_blocks/Right": ')
         status, said = self.called()
         self.assertEqual(status, 1)
-        self.assertIn(".ci/believed: BY_ITSELF lists goal_blocks/Walk, and needs not", said)
+        self.assertIn(".ci/believed: BY_ITSELF lists goal_blocks/Walk, which is not needed", said)
 
     def test_a_definition_that_cites_a_constant_of_code_is_reported(self) -> None:
         path = "crates/goal_graph/specs/Order.antt"
@@ -137,7 +137,7 @@ class Believed(unittest.TestCase):
     def test_a_needless_exception_for_code_is_reported(self) -> None:
         begin = "OF_CODE: dict[str, str] = {"
         self.change(".ci/believed", begin, begin + '\n    "goal_graph/plan": "no reason",\n')
-        self.assertIn(".ci/believed: OF_CODE lists goal_graph/plan, and needs not", self.called()[1])
+        self.assertIn(".ci/believed: OF_CODE lists goal_graph/plan, which is not needed", self.called()[1])
 
     def test_a_name_that_is_not_in_the_sources_is_reported(self) -> None:
         self.change("docs/PROVED.md", "`HaveReturned`", "`HaveGone`")

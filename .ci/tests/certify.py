@@ -122,7 +122,7 @@ class Explained(unittest.TestCase):
                "rank 1 { s: send 8b to 0 s moves 0 to 0 r: recv 8b from 0 r moves 1 to 1 r requires s }"
         told = self.explained("barrier", text)
         self.assertIn("waits for its partner", told)
-        self.assertIn("and so round from", told)
+        self.assertIn("the cycle begins again at", told)
 
     def test_segments(self) -> None:
         told = self.explained("allreduce", made("allreduce-ring", "4", "4096").replace("l15 moves 3 to 3", "l15 moves 9 to 9"), "--segments")

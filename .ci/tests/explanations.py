@@ -133,8 +133,8 @@ class Files(unittest.TestCase):
 
     def test_a_pipe_cannot_be_read_again(self) -> None:
         status, _, lines = explained(["sim", "/dev/stdin"], input=b"num_ranks")
-        self.assertEqual((status, lines), (3, ["goal: refused: text: syntax at 9", "goal: /dev/stdin came through a pipe and can not be read again: "
-                                               "save it in a file, and the place of the fault is told"]))
+        self.assertEqual((status, lines), (3, ["goal: refused: text: syntax at 9", "goal: /dev/stdin came through a pipe and cannot be read again: "
+                                               "save it in a file to see where the fault is"]))
 
     def test_standard_input_that_is_a_file(self) -> None:
         with open(self.file(b"num_ranks 1\n rank"), "rb") as file:

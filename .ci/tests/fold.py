@@ -111,7 +111,7 @@ class Own(unittest.TestCase):
                 self.check(drawn_schedule(draw, ranks, True), drawn_machine(draw, ranks, True), f"seed {seed}", whole=False)
                 kept += 1
             except command.Fault as fault:
-                self.assertIn("can not be folded", str(fault))
+                self.assertIn("cannot be folded", str(fault))
         self.assertGreater(kept, 10)
 
     def test_reasons_name_the_ranks(self) -> None:
@@ -185,9 +185,9 @@ class Refused(unittest.TestCase):
         from_any = "num_ranks 4 rank 0 { send 1b to 2 } rank 1 { send 1b to 2 } rank 3 { send 1b to 2 } "
         for text, nodes, cards, why in (
                 (from_any + "rank 2 { recv 1b from any recv 1b from 1 }", "nodes 2 of 2", ONE,
-                 "operation 1 of rank 2, a receive from 1 with tag 0, can not be folded: another receive there takes from any"),
+                 "operation 1 of rank 2, a receive from 1 with tag 0, cannot be folded: another receive there takes from any"),
                 (from_any + "rank 2 { recv 1b from any }", "nodes 2 of 2", ONE,
-                 "operation 0 of rank 2, a receive from any, can not be folded: its message may come from its node or over a card"),
+                 "operation 0 of rank 2, a receive from any, cannot be folded: its message may come from its node or over a card"),
                 ("num_ranks 3", "nodes 2 of 2", ONE, "the machine has 4 ranks, and the schedule has 3"),
                 ("num_ranks 300 " + " ".join(f"rank {rank} {{ calc 1 }}" for rank in range(300)), "nodes 1 of 300", ONE,
                  "node 0 needs 300 cpus, and has at most 256"),

@@ -103,7 +103,7 @@ class Machines(unittest.TestCase):
                 ("cards 1\ncards 1", "-:2: `cards` is given twice"), ("cards own in turn", "-:1: 'own' is not a number of cards from 0 to 256"),
                 ("nodes 0 of 2", "-:1: write `nodes COUNT of SIZE`, both above 0"), ("nodes 300 of 300", "-:1: more than 65536 ranks"),
                 ("class a L=3 L=4", "-:1: L is given twice"), ("class a G=0.0000801", "-:1: G is 0.0000801"), ("class a L=1099511627775 G=0.0801", "-:1: L is 1099511627775: for a rate"),
-                ("class a G=0.0025 Op=5", "-:1: Op can not be given beside"), ("class a S=16X", "-:1: S is 16X, not a number of bytes, as"), ("class a X=1", "-:1: 'X=1' is not a parameter"),
+                ("class a G=0.0025 Op=5", "-:1: Op cannot be given beside"), ("class a S=16X", "-:1: S is 16X, not a number of bytes, as"), ("class a X=1", "-:1: 'X=1' is not a parameter"),
                 ("class a Gp=1000", "-:1: Gp is 1000, and at most 999"), ("class a G=0.1 Gp=3", "-:1: Gp is given twice"),
                 ("class L=3", "-:1: write `class NAME"), ("class a\nclass a", "-:2: the class a is given twice"),
                 ("inside a\ninside b", "-:2: `inside` is given twice"), ("node 0\nnode 1 0", "-:2: rank 0 is in two nodes"),

@@ -89,7 +89,7 @@ class Chains(unittest.TestCase):
         self.assertEqual(done.returncode, program.STUCK)
         lines = done.stdout.splitlines()
         self.assertIn("0 1 at 3:32 is r: recv 100000b from 1: needs 0 0", lines[1])
-        self.assertIn("and so round from 0 1", done.stdout)
+        self.assertIn("the cycle begins again at 0 1", done.stdout)
         self.assertEqual(path(os.path.join(EXAMPLES, "both_send_first")).returncode, program.STUCK)
 
     def test_faults_are_one_line(self) -> None:

@@ -159,7 +159,7 @@ class Unused(unittest.TestCase):
 
     def test_a_needless_exception_is_reported(self) -> None:
         self.keep('("low/proofs/Lemmas.antt", "helper gone", "a reason"),')
-        told = [f".ci/unused: KEPT lists low/proofs/Lemmas.antt: {name}, and needs not" for name in ("gone", "helper")]
+        told = [f".ci/unused: KEPT lists low/proofs/Lemmas.antt: {name}, which is not needed" for name in ("gone", "helper")]
         self.assertEqual(self.called(), (1, told))
 
 

@@ -44,7 +44,7 @@ class Parser(argparse.ArgumentParser):
     """A parser of arguments that raises a Fault if they are wrong. Options cannot be abbreviated."""
 
     def error(self, message: str) -> NoReturn:
-        raise Fault(f"{message} (--help tells more)")
+        raise Fault(f"{message} (see --help)")
 
     def format_help(self) -> str:
         """The help text. Installed tools are called goal-NAME and the installed program goal, and the text of an

@@ -47,7 +47,7 @@ class Crossing:
         for point, result in zip(points, self.runs.of(points)):
             if result.fault or result.stuck:
                 where = " ".join(f"{axis}={value}" for axis, value in point.items() if value != "")
-                raise Fault(f"--cross can not compare the algorithms: at {where}: {result.fault or f'{result.stuck} operations are stuck'}")
+                raise Fault(f"--cross cannot compare the algorithms: at {where}: {result.fault or f'{result.stuck} operations are stuck'}")
             results.append(result)
         self.found.update({x: (results[2 * at], results[2 * at + 1]) for at, x in enumerate(values)})
 

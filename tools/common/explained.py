@@ -83,7 +83,7 @@ class Explainer:
         text = block.sub(rf"\1l{then[1] + 1} requires l{first[1] + 1}\n\2", self.shown, count=1)
         root = ["--root", str(self.root)] if self.kind in program.ROOTED else []
         answer = program.call(self.goal, ["certify", self.kind, "/dev/stdin", *root], text)
-        return "it comes round" if answer.status == program.REFUSED else answer.out.strip()
+        return "that makes a cycle" if answer.status == program.REFUSED else answer.out.strip()
 
     def _of_slot(self, what: str, place: Tuple[int, int], segments: int) -> Iterator[str]:
         """What a slot holds at the end, and which items are missing, superfluous or from another segment."""
@@ -165,4 +165,4 @@ def waits_of(run: Run, key: Key, written: Callable[[Key], str]) -> Iterator[str]
         yield f"{written(key)} {'waits for its partner' if words[1] == 'partner' else 'needs'} {then[0]} {then[1]}"
         key = then
     if key in seen:
-        yield "and so round from {} {}".format(*key)
+        yield "the cycle begins again at {} {}".format(*key)

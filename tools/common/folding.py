@@ -154,7 +154,7 @@ class Fold:
             self._matching(rank).join(self.taken[pattern])
         for pattern, ((rank, number), op) in receives.items():
             if self.taken[pattern] and not self._matching(rank).is_kept(op, self.taken[pattern]):
-                raise Fault(f"operation {number} of rank {rank}, a receive from {op.peer} with tag {op.tag}, can not be folded: another "
+                raise Fault(f"operation {number} of rank {rank}, a receive from {op.peer} with tag {op.tag}, cannot be folded: another "
                             "receive there takes from any rank or with any tag, and its messages could not be told from those of "
                             "this one")
 
@@ -201,7 +201,7 @@ class Fold:
             return self.node_of[int(op.peer)] == here
         inside = {self.node_of[source] == here for source, _, _ in self.taken[key[0], op.peer, op.tag]}
         if len(inside) > 1:
-            raise Fault(f"operation {key[1]} of rank {key[0]}, a receive from any, can not be folded: its message may come from its node "
+            raise Fault(f"operation {key[1]} of rank {key[0]}, a receive from any, cannot be folded: its message may come from its node "
                         "or over a card")
         return True in inside
 

@@ -44,7 +44,7 @@ def scaled_options(name: str, text: str, scale: int) -> Dict[str, int]:
     if scale == 1 or name == "S":
         return options_of(name, text)
     if name in RATES.values():
-        raise ValueError(f"{name} can not be given beside a rate finer than a picosecond per byte: give {name[0]} as one number, as 0.0025")
+        raise ValueError(f"{name} cannot be given beside a rate finer than a picosecond per byte: give {name[0]} as one number, as 0.0025")
     if name in RATES and re.fullmatch(rf"\d{{1,20}}\.\d{{1,{MOST_DECIMALS}}}", text):
         picos = int(Decimal(text) * 1000 * scale)
         options = {name: picos // 1000, RATES[name]: picos % 1000}

@@ -24,7 +24,7 @@ class Story:
 
     `busy` has the spans for which it holds its cpu. A rendezvous send has two: first for its RTS, then for its data.
     `sides` has the spans for which it holds a side of its NIC: a send the sending side, a receive the receiving side.
-    `stuck_from` is the time from which a stuck operation that has begun can not go on. `never` says that it never
+    `stuck_from` is the time from which a stuck operation that has begun cannot go on. `never` says that it never
     begins. `bytes` is the size of the message.
     """
 
