@@ -8,19 +8,19 @@ use Rattle.goal_base.specs.DeviceCalls.{Writes, appended_to}
 use Rattle.goal_base.proofs.FilesLemmas.{get_inserted, appended_to_inserted}
 
 -- a prefix of a piece was appended, and then a prefix of what was left of it
-pub grows_more : (a b c : SinkState) (piece left : List ℕ) (n k : ℕ) → Grows a b (take n piece) → b.tells ≡ a.tells
+pub grows_by_joined_prefixes : (a b c : SinkState) (piece left : List ℕ) (n k : ℕ) → Grows a b (take n piece) → b.tells ≡ a.tells
     → left ≡ drop n piece → Grows b c (take k left) → Grows a c (take (n + k) piece)
-grows_more a b c piece left n k first same is more = record {
+grows_by_joined_prefixes a b c piece left n k first same is more = record {
   told = λ t. more.told (same ∙ t) ∙ ap (λ (l : List ℕ). l ++ take k left) (first.told t)
       ∙ append_assoc a.bytes (take n piece) (take k left)
       ∙ ap (λ (l : List ℕ). a.bytes ++ (take n piece ++ take k l)) is ∙ ap (λ (l : List ℕ). a.bytes ++ l) (sym (take-add n k piece));
 }
 
 -- a prefix of a file was written, and then a prefix of what was left of it
-pub holds_more : (a b c : HostState) (name bytes left : List ℕ) (n k : ℕ) → Holds a b name (take n bytes)
+pub holds_joined_prefixes : (a b c : HostState) (name bytes left : List ℕ) (n k : ℕ) → Holds a b name (take n bytes)
     → (a.tells ≡ true → b.output ≡ Some name) → b.tells ≡ a.tells → left ≡ drop n bytes → Writes b c (take k left)
     → Holds a c name (take (n + k) bytes)
-holds_more a b c name bytes left n k first output same is more = record {
+holds_joined_prefixes a b c name bytes left n k first output same is more = record {
   told = λ t. more.files (same ∙ t) ∙ ap (λ (o : Option (List ℕ)). appended_to o b.files (take k left)) (output t)
       ∙ ap (λ (f : Files). appended_to (Some name) f (take k left)) (first.told t)
       ∙ appended_to_inserted a.files name (take n bytes) (take k left)

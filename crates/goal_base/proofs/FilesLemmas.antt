@@ -24,35 +24,35 @@ Map = BTreeMap (String Global) (Vec ℕ Global)
 abbrev pub bytes_of : Vec ℕ Global → List ℕ
 bytes_of v = v.items
 
-mapped : (b : Bool) (v : Vec ℕ Global) (o : Option (Vec ℕ Global)) → cond b (Some v.items) (option_map bytes_of o) ≡ option_map bytes_of (cond b (Some v) o)
-mapped true v o = refl
-mapped false v o = refl
+bytes_of_cond : (b : Bool) (v : Vec ℕ Global) (o : Option (Vec ℕ Global)) → cond b (Some v.items) (option_map bytes_of o) ≡ option_map bytes_of (cond b (Some v) o)
+bytes_of_cond true v o = refl
+bytes_of_cond false v o = refl
 
 found : (q : List ℕ) (es : Entries) → find (slice_cmp nat_cmp) q (map (λ (e : String Global × Vec ℕ Global). (string_bytes e.0, e.1.items)) es)
     ≡ option_map bytes_of (lookup (is_at (λ (k : String Global). slice_cmp nat_cmp q (string_bytes k))) es)
 found q [] = refl
-found q (e ∷ es) = ap (cond (eq_by_cmp (slice_cmp nat_cmp) q (string_bytes e.0)) (Some e.1.items)) (found q es) ∙ mapped _ e.1 _
+found q (e ∷ es) = ap (cond (eq_by_cmp (slice_cmp nat_cmp) q (string_bytes e.0)) (Some e.1.items)) (found q es) ∙ bytes_of_cond _ e.1 _
 
 -- the file that a lookup by name finds
 pub get-files_of : (m : Map) (q : List ℕ) → get (files_of m.entries) q ≡ option_map bytes_of (get_by_text m q)
 unfolding files_of
 get-files_of m q = get-from_entries nat_list_cmp_total _ q ∙ found q m.entries
 
--- two maps in which every lookup gives the same
-pub same_files : (m n : Files) → ((q : List ℕ) → get m q ≡ get n q) → m ≡ n
-same_files m n = same_map nat_list_cmp_total (slice_cmp-IsAntisymmetric nat_cmp-IsAntisymmetric) m n
+-- two maps are equal if every lookup gives the same
+pub files_equal_by_lookups : (m n : Files) → ((q : List ℕ) → get m q ≡ get n q) → m ≡ n
+files_equal_by_lookups m n = same_map nat_list_cmp_total (slice_cmp-IsAntisymmetric nat_cmp-IsAntisymmetric) m n
 
 -- the comparisons of the two kinds of map agree on a name
-same_name : (name q : List ℕ) → bytes_eq name q ≡ eq_by_cmp (slice_cmp nat_cmp) q name
-same_name name q = sym (is_eq-slice_cmp name q) ∙ (eq_by_cmp_equiv nat_list_cmp_total).symm name q
+bytes_eq_agrees_with_comparison : (name q : List ℕ) → bytes_eq name q ≡ eq_by_cmp (slice_cmp nat_cmp) q name
+bytes_eq_agrees_with_comparison name q = sym (is_eq-slice_cmp name q) ∙ (eq_by_cmp_equiv nat_list_cmp_total).symm name q
 
 -- the map after one value changed
 pub files_of-set : (m n : Map) (name : List ℕ) (v : Vec ℕ Global) → UpdatesBy string_cmp (λ k. slice_cmp nat_cmp name (string_bytes k)) m n (Some v)
     → files_of n.entries ≡ insert (files_of m.entries) name v.items
-files_of-set m n name v updates = same_files _ _ (λ q.
+files_of-set m n name v updates = files_equal_by_lookups _ _ (λ q.
     get-files_of n q ∙ ap (option_map bytes_of) (btree_map_updates_text name m n (Some v) updates q)
-    ∙ sym (mapped (bytes_eq name q) v (get_by_text m q))
-    ∙ ap (λ (b : Bool). cond b (Some v.items) (option_map bytes_of (get_by_text m q))) (same_name name q)
+    ∙ sym (bytes_of_cond (bytes_eq name q) v (get_by_text m q))
+    ∙ ap (λ (b : Bool). cond b (Some v.items) (option_map bytes_of (get_by_text m q))) (bytes_eq_agrees_with_comparison name q)
     ∙ ap (cond (eq_by_cmp (slice_cmp nat_cmp) q name) (Some v.items)) (sym (get-files_of m q))
     ∙ sym (get-insert nat_list_cmp_total (files_of m.entries) name v.items q))
 
@@ -61,14 +61,14 @@ is_equal Less e = absurd (false≢true e)
 is_equal Equal e = refl
 is_equal Greater e = absurd (false≢true e)
 
-at_name : (m : Files) (name v q : List ℕ) → get m name ≡ Some v → (b : Bool) → eq_by_cmp (slice_cmp nat_cmp) q name ≡ b
+present_value_changes_no_lookup : (m : Files) (name v q : List ℕ) → get m name ≡ Some v → (b : Bool) → eq_by_cmp (slice_cmp nat_cmp) q name ≡ b
     → cond b (Some v) (get m q) ≡ get m q
-at_name m name v q is true e = sym is ∙ get_tied nat_list_cmp_total m q name (is_equal _ e)
-at_name m name v q is false e = refl
+present_value_changes_no_lookup m name v q is true e = sym is ∙ get_tied nat_list_cmp_total m q name (is_equal _ e)
+present_value_changes_no_lookup m name v q is false e = refl
 
 -- inserting the value that a name has already changes nothing
 pub insert_same : (m : Files) (name v : List ℕ) → get m name ≡ Some v → insert m name v ≡ m
-insert_same m name v is = same_files _ _ (λ q. get-insert nat_list_cmp_total m name v q ∙ at_name m name v q is _ refl)
+insert_same m name v is = files_equal_by_lookups _ _ (λ q. get-insert nat_list_cmp_total m name v q ∙ present_value_changes_no_lookup m name v q is _ refl)
 
 -- a lookup finds the value just inserted
 pub get_inserted : (m : Files) (name v : List ℕ) → get (insert m name v) name ≡ Some v
@@ -80,9 +80,9 @@ cond_twice : (b : Bool) (x y z : Option (List ℕ)) → cond b x (cond b y z) �
 cond_twice true x y z = refl
 cond_twice false x y z = refl
 
--- of two values inserted under one name the later stays
+-- of two values inserted under one name, the later one stays
 pub insert_twice : (m : Files) (name v w : List ℕ) → insert (insert m name v) name w ≡ insert m name w
-insert_twice m name v w = same_files _ _ (λ q.
+insert_twice m name v w = files_equal_by_lookups _ _ (λ q.
     get-insert nat_list_cmp_total (insert m name v) name w q
     ∙ ap (cond (eq_by_cmp (slice_cmp nat_cmp) q name) (Some w)) (get-insert nat_list_cmp_total m name v q)
     ∙ cond_twice (eq_by_cmp (slice_cmp nat_cmp) q name) (Some w) (Some v) (get m q)

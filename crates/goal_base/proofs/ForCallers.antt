@@ -4,21 +4,21 @@ use Rattle.goal_limits.specs.declared.limits.TheConstants.{MAX_INPUT}
 use Rattle.goal_base.specs.Device.{HostState, Later, KeepsFiles, SameReadCounts, SameRest, Rose}
 use Rattle.goal_base.specs.DeviceCalls.{Takes}
 
--- a line appended to lines in an array, of which the earlier ones may have gone to a text
-pub line_behind : (out now lines kept ended line : List ℕ) → now ++ kept ≡ out ++ lines → ended ≡ kept ++ line
+-- a line appended to lines in an array, whose earlier ones may already be written to a text
+pub line_appended_after_kept_lines : (out now lines kept ended line : List ℕ) → now ++ kept ≡ out ++ lines → ended ≡ kept ++ line
     → now ++ ended ≡ (out ++ lines) ++ line
-line_behind out now lines kept ended line moved more = rw (more, ← append_assoc now kept line, moved) refl
+line_appended_after_kept_lines out now lines kept ended line moved more = rw (more, ← append_assoc now kept line, moved) refl
 
--- bytes taken from the rest, and then more of it
-pub takes_more : (a b c : HostState) (xs ys : List ℕ) → Takes a b xs → b.tells ≡ a.tells
+-- bytes taken from the rest, in two steps
+pub takes_joined_bytes : (a b c : HostState) (xs ys : List ℕ) → Takes a b xs → b.tells ≡ a.tells
     → (b.tells ≡ true → b.rest ≡ ys ++ c.rest) → Takes a c (xs ++ ys)
-takes_more a b c xs ys first same more = record {
+takes_joined_bytes a b c xs ys first same more = record {
   told = λ t. first.told t ∙ ap (λ (l : List ℕ). xs ++ l) (more (same ∙ t)) ∙ sym (append_assoc xs ys c.rest);
 }
 
 -- bytes taken from the rest, which then stayed the same
-pub takes_same : (a b c : HostState) (xs : List ℕ) → Takes a b xs → b.tells ≡ a.tells → SameRest b c → Takes a c xs
-takes_same a b c xs first same more = record {
+pub takes_if_rest_unchanged : (a b c : HostState) (xs : List ℕ) → Takes a b xs → b.tells ≡ a.tells → SameRest b c → Takes a c xs
+takes_if_rest_unchanged a b c xs first same more = record {
   told = λ t. first.told t ∙ ap (λ (l : List ℕ). xs ++ l) (sym (more.told (same ∙ t)));
 }
 
@@ -28,8 +28,8 @@ too_long a b xs takes long t = omega (arith, ap length (takes.told t), length-ap
 
 -- properties of two successive calls of a host
 module _ (a b c : HostState) (later : Later a b) where
-  pub later_then : Later b c → Later a c
-  later_then then = record {
+  pub later_is_transitive : Later b c → Later a c
+  later_is_transitive then = record {
     tells = then.tells ∙ later.tells;
     stops = then.stops ∙ later.stops;
     read_count = omega arith;
@@ -38,8 +38,8 @@ module _ (a b c : HostState) (later : Later a b) where
     joined = λ joined. then.joined (later.joined joined);
   }
 
-  pub kept_then : KeepsFiles a b → KeepsFiles b c → KeepsFiles a c
-  kept_then kept then = record {
+  pub keeps_files_is_transitive : KeepsFiles a b → KeepsFiles b c → KeepsFiles a c
+  keeps_files_is_transitive kept then = record {
     files = record {
       files = λ t. then.files.files (later.tells ∙ t) ∙ kept.files.files t;
       output = λ t. then.files.output (later.tells ∙ t) ∙ kept.files.output t;
@@ -48,9 +48,9 @@ module _ (a b c : HostState) (later : Later a b) where
     write_count = then.write_count ∙ kept.write_count;
   }
 
-  pub rose_then : SameReadCounts a b → Rose b.stops b.read_count c.read_count → Rose a.stops a.read_count c.read_count
-  rose_then same rose = rw (later.stops, same.read_count) at rose
+  pub rose_after_same_read_counts : SameReadCounts a b → Rose b.stops b.read_count c.read_count → Rose a.stops a.read_count c.read_count
+  rose_after_same_read_counts same rose = rw (later.stops, same.read_count) at rose
 
 -- the counts after two successive calls
-pub counts_then : (a b c : HostState) → SameReadCounts a b → SameReadCounts b c → SameReadCounts a c
-counts_then a b c same then = record { read_count = then.read_count ∙ same.read_count; absent_count = then.absent_count ∙ same.absent_count }
+pub same_read_counts_is_transitive : (a b c : HostState) → SameReadCounts a b → SameReadCounts b c → SameReadCounts a c
+same_read_counts_is_transitive a b c same then = record { read_count = then.read_count ∙ same.read_count; absent_count = then.absent_count ∙ same.absent_count }

@@ -32,7 +32,7 @@ digits_of_32_bits n fits = length-decimal-le 10 n (omega arith) (omega arith) (o
 pub digits_of_64_bits : (n : ℕ) → n < 2 ^ 64 → length (decimal n) ≤ 20
 digits_of_64_bits n fits = length-decimal-le 20 n (omega arith) (omega arith) fits
 
--- a text written from one place to another, given where the bytes before it end
+-- the bytes up to the end of a written text, if the bytes before it are unchanged
 pub written_up_to : (old new text : List ℕ) (start at end : ℕ) → at ≤ length old → start + length text ≡ end → end ≡ at + length text
     → drop start new ≡ text ++ drop end old → take start new ≡ take start old
     → take end new ≡ take at old ++ text

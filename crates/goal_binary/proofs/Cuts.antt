@@ -10,10 +10,10 @@ use Rattle.goal_binary.specs.File.{written}
 use Rattle.goal_binary.specs.Fields.{Read, ◌>>=◌}
 use Rattle.goal_binary.specs.Meaning.{plans_at, meaning}
 use Rattle.goal_binary.specs.Laws.{IsSchedule, IsOfField}
-use Rattle.goal_binary.proofs.RanksAgain.{meaning_again}
+use Rattle.goal_binary.proofs.RanksAgain.{meaning_of_written_schedule}
 use Rattle.goal_binary.proofs.Follows.{Agree, IsPlaced, end_of, plans_follow}
 
--- the meaning of bytes of this length, if a prefix of them is read so
+-- the meaning of bytes of this length, given the plans read from a prefix
 abbrev whole_or_extra : (len : ℕ) (x : List Plan × ℕ) (b : Bool) → Result (List Plan) FileFault
 whole_or_extra len x b = cond b (Err (Extra x.1)) (Ok x.0)
 
@@ -25,16 +25,16 @@ unfolding meaning
 meaning_from bytes r is = ap (result_of_plans (length bytes)) is
 
 -- the plans of all bytes do not end before them
-not_early : (len n : ℕ) (plans : List Plan) (r : Read (List Plan)) → result_of_plans len r ≡ Ok plans → IsPlaced n end_of r → n < len → ⊥
-not_early len n plans (Ok x) means placed less =
+plans_end_no_earlier : (len n : ℕ) (plans : List Plan) (r : Read (List Plan)) → result_of_plans len r ≡ Ok plans → IsPlaced n end_of r → n < len → ⊥
+plans_end_no_earlier len n plans (Ok x) means placed less =
     let early : ltb x.1 len ≡ true = lt-ltb x.1 len (omega arith) in
     let e = rw early at means in
     absurd cc
-not_early len n plans (Err f) means placed less = absurd cc
+plans_end_no_earlier len n plans (Err f) means placed less = absurd cc
 
 -- plans after which more bytes follow
-first_extra : (len longer : ℕ) (plans : List Plan) (r : Read (List Plan)) → result_of_plans len r ≡ Ok plans → IsPlaced len end_of r → len < longer → result_of_plans longer r ≡ Err (Extra len)
-first_extra len longer plans (Ok x) means placed less = go (ltb x.1 len) refl means
+extra_after_complete_plans : (len longer : ℕ) (plans : List Plan) (r : Read (List Plan)) → result_of_plans len r ≡ Ok plans → IsPlaced len end_of r → len < longer → result_of_plans longer r ≡ Err (Extra len)
+extra_after_complete_plans len longer plans (Ok x) means placed less = go (ltb x.1 len) refl means
   where
     go : (b : Bool) → ltb x.1 len ≡ b → whole_or_extra len x b ≡ Ok plans → whole_or_extra longer x (ltb x.1 longer) ≡ Err (Extra len)
     go true is means = absurd cc
@@ -42,20 +42,20 @@ first_extra len longer plans (Ok x) means placed less = go (ltb x.1 len) refl me
         let same : x.1 ≡ len = omega (arith, ltb-false x.1 len is) in
         let early : ltb x.1 longer ≡ true = lt-ltb x.1 longer (omega arith) in
         rw (early, same) refl
-first_extra len longer plans (Err f) means placed less = absurd cc
+extra_after_complete_plans len longer plans (Err f) means placed less = absurd cc
 
--- the fault of a field is that of reading
-of_field : (len whole_file_is_read : ℕ) (fault : FileFault) (plans : List Plan) (r : Read (List Plan)) → result_of_plans len r ≡ Err fault → IsOfField fault → result_of_plans whole_file_is_read r ≡ Ok plans → ⊥
-of_field len all fault plans (Ok x) means field whole_file_is_read = go (ltb x.1 len) means
+-- where reading fails at a field, no number of bytes gives plans
+field_fault_excludes_plans : (len whole_file_is_read : ℕ) (fault : FileFault) (plans : List Plan) (r : Read (List Plan)) → result_of_plans len r ≡ Err fault → IsOfField fault → result_of_plans whole_file_is_read r ≡ Ok plans → ⊥
+field_fault_excludes_plans len all fault plans (Ok x) means field whole_file_is_read = go (ltb x.1 len) means
   where
     go : (b : Bool) → whole_or_extra len x b ≡ Err fault → ⊥
     go true e = let same : Extra x.1 ≡ fault = cc in subst IsOfField (sym same) field
     go false e = absurd cc
-of_field len all fault plans (Err f) means field whole_file_is_read = absurd cc
+field_fault_excludes_plans len all fault plans (Err f) means field whole_file_is_read = absurd cc
 
 module _ (l : Layout) (plans : List Plan) (schedule : IsSchedule plans) where
   whole_file_is_read : meaning (written l plans) ≡ Ok plans
-  whole_file_is_read = meaning_again l plans schedule.accepted schedule.widths
+  whole_file_is_read = meaning_of_written_schedule l plans schedule.accepted schedule.widths
 
   pub cut_is_short : (n : ℕ) → n < length (written l plans) → meaning (take n (written l plans)) ≡ Err (Short n)
   cut_is_short n less =
@@ -65,7 +65,7 @@ module _ (l : Layout) (plans : List Plan) (schedule : IsSchedule plans) where
       let agree = subst (λ (bytes : List ℕ). Agree (length front) end_of (plans_at front) (plans_at bytes)) joined (plans_follow front (drop n (written l plans))) in
       elim agree.is [
         | inl e ↦ meaning_from front (Err (Short (length front))) e ∙ ap (λ (k : ℕ). Err (Short k)) len
-        | inr same ↦ absurd (not_early (length (written l plans)) n plans (plans_at front) (sym (meaning_from (written l plans) (plans_at front) same.0) ∙ whole_file_is_read) (subst (λ (k : ℕ). IsPlaced k end_of (plans_at front)) len same.1) less)
+        | inr same ↦ absurd (plans_end_no_earlier (length (written l plans)) n plans (plans_at front) (sym (meaning_from (written l plans) (plans_at front) same.0) ∙ whole_file_is_read) (subst (λ (k : ℕ). IsPlaced k end_of (plans_at front)) len same.1) less)
       ]
 
   pub more_is_extra : (b : ℕ) (more : List ℕ) → meaning (written l plans ++ b ∷ more) ≡ Err (Extra (length (written l plans)))
@@ -75,7 +75,7 @@ module _ (l : Layout) (plans : List Plan) (schedule : IsSchedule plans) where
       elim agree.is [
         | inl e ↦ let short = sym (meaning_from (written l plans) (Err (Short (length (written l plans)))) e) ∙ whole_file_is_read in absurd cc
         | inr same ↦ meaning_from (written l plans ++ b ∷ more) (plans_at (written l plans)) same.0
-            ∙ first_extra (length (written l plans)) (length (written l plans ++ b ∷ more)) plans (plans_at (written l plans)) judged_so same.1 (omega (arith, length-append (written l plans) (b ∷ more)))
+            ∙ extra_after_complete_plans (length (written l plans)) (length (written l plans ++ b ∷ more)) plans (plans_at (written l plans)) judged_so same.1 (omega (arith, length-append (written l plans) (b ∷ more)))
       ]
 
   pub no_file_begins : (bytes more : List ℕ) (fault : FileFault) → meaning bytes ≡ Err fault → IsOfField fault → bytes ++ more ≡ written l plans → ⊥
@@ -86,5 +86,5 @@ module _ (l : Layout) (plans : List Plan) (schedule : IsSchedule plans) where
             let said = sym means ∙ meaning_from bytes (Err (Short (length bytes))) e in
             let same : fault ≡ Short (length bytes) = cc in
             subst IsOfField same field
-        | inr same ↦ of_field (length bytes) (length (written l plans)) fault plans (plans_at bytes) (sym (meaning_from bytes (plans_at bytes) refl) ∙ means) field (sym (meaning_from (written l plans) (plans_at bytes) same.0) ∙ whole_file_is_read)
+        | inr same ↦ field_fault_excludes_plans (length bytes) (length (written l plans)) fault plans (plans_at bytes) (sym (meaning_from bytes (plans_at bytes) refl) ∙ means) field (sym (meaning_from (written l plans) (plans_at bytes) same.0) ∙ whole_file_is_read)
       ]

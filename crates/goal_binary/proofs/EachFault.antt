@@ -18,19 +18,19 @@ no_fault : (plans : List Plan) (f : FileFault) → IsAccepted plans → IsFaultO
 no_fault plans (fault.Plan f) accepted is = IsAccepted-no_fault plans f accepted is
 no_fault plans _ accepted is = is
 
-is_memory : (f : FileFault) → (f ≡ fault.NoMemory) ⊎ (f ≢ fault.NoMemory)
-is_memory fault.NoMemory = inl refl
-is_memory (fault.Short at) = inr (λ e. cc)
-is_memory fault.Magic = inr (λ e. cc)
-is_memory (fault.Version found) = inr (λ e. cc)
-is_memory (fault.Field at) = inr (λ e. cc)
-is_memory (fault.Extra at) = inr (λ e. cc)
-is_memory (fault.Plan rule) = inr (λ e. cc)
+no_memory_or_other_fault : (f : FileFault) → (f ≡ fault.NoMemory) ⊎ (f ≢ fault.NoMemory)
+no_memory_or_other_fault fault.NoMemory = inl refl
+no_memory_or_other_fault (fault.Short at) = inr (λ e. cc)
+no_memory_or_other_fault fault.Magic = inr (λ e. cc)
+no_memory_or_other_fault (fault.Version found) = inr (λ e. cc)
+no_memory_or_other_fault (fault.Field at) = inr (λ e. cc)
+no_memory_or_other_fault (fault.Extra at) = inr (λ e. cc)
+no_memory_or_other_fault (fault.Plan rule) = inr (λ e. cc)
 
-pub each_fault : (bytes : List ℕ) (r : Result (List Plan) FileFault) → IfOk r (λ plans. meaning bytes ≡ Ok plans) → IfOk r (λ plans. IsAccepted plans)
+pub each_file_fault_is_reported : (bytes : List ℕ) (r : Result (List Plan) FileFault) → IfOk r (λ plans. meaning bytes ≡ Ok plans) → IfOk r (λ plans. IsAccepted plans)
     → IfErr r (λ f. f ≢ fault.NoMemory → IsFileFault bytes f) → (f : FileFault) → IsFileFault bytes f → IsErrOf r f ⊎ IsErrOf r fault.NoMemory
-each_fault bytes (Ok plans) means accepted told f is = absurd (no_fault plans f accepted (subst (λ (m : Result (List Plan) FileFault). IsFaultOf m f) means is))
-each_fault bytes (Err g) means accepted told f is = either (is_memory g)
+each_file_fault_is_reported bytes (Ok plans) means accepted told f is = absurd (no_fault plans f accepted (subst (λ (m : Result (List Plan) FileFault). IsFaultOf m f) means is))
+each_file_fault_is_reported bytes (Err g) means accepted told f is = either (no_memory_or_other_fault g)
   where
     either : (g ≡ fault.NoMemory) ⊎ (g ≢ fault.NoMemory) → (IsErrOf {T = List Plan} (Err g) f) ⊎ (IsErrOf {T = List Plan} (Err g) fault.NoMemory)
     either (inl e) = inr (ap Err e)

@@ -17,13 +17,13 @@ use Rattle.goal_binary.specs.Meaning.{plans_at, meaning}
 use Rattle.goal_binary.specs.Laws.{BeginAFile, IsFirstBadField, IsBehindFile, IsTrueOf}
 use Rattle.goal_binary.proofs.Steps.{IsBytes}
 use Rattle.goal_binary.proofs.FieldsTaken.{IsBytes-take}
-use Rattle.goal_binary.proofs.FieldsRead.{long_enough}
+use Rattle.goal_binary.proofs.FieldsRead.{length_bound_from_equal_prefix}
 use Rattle.goal_binary.proofs.RanksTaken.{records_taken}
-use Rattle.goal_binary.proofs.RanksAgain.{meaning_fits}
+use Rattle.goal_binary.proofs.RanksAgain.{meaning_of_written_plans}
 use Rattle.goal_binary.proofs.Readers.{Completed, Halts, ReadStop, take-shorter, take-front, IsBytes-append}
 use Rattle.goal_binary.proofs.RanksRead.{body, body_reads}
 use Rattle.goal_binary.proofs.Limits.{body_gives}
-use Rattle.goal_binary.proofs.Opening.{front_bytes, plans_is, IsOpened, IsClosed, opened_is, open_or_closed}
+use Rattle.goal_binary.proofs.Opening.{front_bytes, plans_at_is_opening_then_body, IsOpened, IsClosed, opening_of_opened_bytes, open_or_closed}
 
 -- the meaning of plans that end at a place
 abbrev whole_or_extra : ℕ → List Plan × ℕ → Result (List Plan) FileFault
@@ -32,8 +32,8 @@ whole_or_extra len x = cond (ltb x.1 len) (Err (fault.Extra x.1)) (Ok x.0)
 abbrev failed : FileFault → Result (List Plan) FileFault
 failed f = Err f
 
-err_is : (d f : FileFault) → failed d ≡ failed f → d ≡ f
-err_is d f e = cc
+failed_injective : (d f : FileFault) → failed d ≡ failed f → d ≡ f
+failed_injective d f e = cc
 
 ltb-true : (m n : ℕ) → ltb m n ≡ true → m < n
 ltb-true m n h = grind (arith, nat_tests)
@@ -47,10 +47,10 @@ unfolding meaning
 meaning_err bytes f e = ap (λ (r : Read (List Plan)). r >>= λ x. whole_or_extra (length bytes) x) e
 
 opened_plans : (l : Layout) (bytes : List ℕ) → IsOpened l bytes → plans_at bytes ≡ body l bytes 12
-opened_plans l bytes open_so = plans_is bytes ∙ ap (λ (r : Read Layout). r >>= λ layout. body layout.0 bytes layout.1) (opened_is l bytes open_so)
+opened_plans l bytes open_so = plans_at_is_opening_then_body bytes ∙ ap (λ (r : Read Layout). r >>= λ layout. body layout.0 bytes layout.1) (opening_of_opened_bytes l bytes open_so)
 
 closed_plans : (bytes : List ℕ) (f : FileFault) → opening_at bytes ≡ Err f → plans_at bytes ≡ Err f
-closed_plans bytes f e = plans_is bytes ∙ ap (λ (r : Read Layout). r >>= λ layout. body layout.0 bytes layout.1) e
+closed_plans bytes f e = plans_at_is_opening_then_body bytes ∙ ap (λ (r : Read Layout). r >>= λ layout. body layout.0 bytes layout.1) e
 
 ok_or_extra : (len n : ℕ) (plans found : List Plan) → whole_or_extra len (plans, n) ≡ Ok found → plans ≡ found
 ok_or_extra len n plans found e = go (ltb n len) e
@@ -61,13 +61,13 @@ ok_or_extra len n plans found e = go (ltb n len) e
 
 module _ (l : Layout) where
   -- bytes with the same prefix are opened too
-  opened_too : (bytes other : List ℕ) (n : ℕ) → 12 ≤ n → n ≤ length bytes → take n other ≡ take n bytes → IsOpened l bytes → IsOpened l other
-  opened_too bytes other n long within same open_so =
-      record { whole = omega (arith, long_enough n other bytes same within); front = take-shorter 12 n other bytes long same ∙ open_so.front }
+  opened_by_equal_prefix : (bytes other : List ℕ) (n : ℕ) → 12 ≤ n → n ≤ length bytes → take n other ≡ take n bytes → IsOpened l bytes → IsOpened l other
+  opened_by_equal_prefix bytes other n long within same open_so =
+      record { whole = omega (arith, length_bound_from_equal_prefix n other bytes same within); front = take-shorter 12 n other bytes long same ∙ open_so.front }
 
   -- they are the file of the plans
-  whole_is : (bytes : List ℕ) → IsBytes bytes → (plans : List Plan) → IsOpened l bytes → body l bytes 12 ≡ Ok (plans, length bytes) → bytes ≡ written l plans
-  whole_is bytes fits plans open_so e =
+  bytes_read_whole_are_file : (bytes : List ℕ) → IsBytes bytes → (plans : List Plan) → IsOpened l bytes → body l bytes 12 ≡ Ok (plans, length bytes) → bytes ≡ written l plans
+  bytes_read_whole_are_file bytes fits plans open_so e =
       records_taken bytes l fits 12 (plans, length bytes)
       (record { parts = sym (take-append-drop 12 bytes) ∙ ap (λ (front : List ℕ). front ++ drop 12 bytes) open_so.front }) e (drop_all (length bytes) bytes (omega arith))
 
@@ -93,9 +93,9 @@ module _ (l : Layout) where
   opened_begins_a_file front fits open_so c =
       let whole = front ++ c.tail in
       let same : take 12 whole ≡ take 12 front = take-append-le 12 front c.tail open_so.whole in
-      let opened = opened_too l front whole 12 (omega arith) open_so.whole same open_so in
+      let opened = opened_by_equal_prefix l front whole 12 (omega arith) open_so.whole same open_so in
       let all = IsBytes-append front c.tail fits c.fits in
-      record { plans = c.value; more = c.tail; have_file = have_file l whole all opened c.value (length whole) c.is; is = whole_is l whole all c.value opened c.is }
+      record { plans = c.value; more = c.tail; have_file = have_file l whole all opened c.value (length whole) c.is; is = bytes_read_whole_are_file l whole all c.value opened c.is }
 
   prefix_begins_a_file : (xs ys : List ℕ) → BeginAFile l (xs ++ ys) → BeginAFile l xs
   prefix_begins_a_file xs ys b = record { plans = b.plans; more = ys ++ b.more; have_file = b.have_file; is = sym (append_assoc xs ys b.more) ∙ b.is }
@@ -103,8 +103,8 @@ module _ (l : Layout) where
 front_fits : IsBytes (137 ∷ 71 ∷ 79 ∷ 65 ∷ 76 ∷ 13 ∷ 10 ∷ 26 ∷ 2 ∷ 0 ∷ 0 ∷ 0 ∷ [])
 front_fits i = grind arith
 
-front_begins : BeginAFile Packed (front_bytes Packed)
-front_begins = opened_begins_a_file Packed (front_bytes Packed) front_fits (record { whole = omega arith; front = refl }) ((body_reads Packed).starts (front_bytes Packed))
+packed_front_begins_a_file : BeginAFile Packed (front_bytes Packed)
+packed_front_begins_a_file = opened_begins_a_file Packed (front_bytes Packed) front_fits (record { whole = omega arith; front = refl }) ((body_reads Packed).starts (front_bytes Packed))
 
 module _ (bytes : List ℕ) (fits : IsBytes bytes) where
   closed_true : (f : FileFault) → IsClosed bytes f → IsTrueOf bytes f
@@ -117,7 +117,7 @@ module _ (bytes : List ℕ) (fits : IsBytes bytes) where
       is_width = (omega arith, omega arith);
       begins = omega arith;
       is_cut = omega arith;
-      before = prefix_begins_a_file Packed [] (front_bytes Packed) front_begins;
+      before = prefix_begins_a_file Packed [] (front_bytes Packed) packed_front_begins_a_file;
     }
     | inr magic ↦ record {
       length_is = why.0;
@@ -127,7 +127,7 @@ module _ (bytes : List ℕ) (fits : IsBytes bytes) where
       is_width = (omega arith, omega arith);
       begins = magic.1;
       is_cut = magic.2;
-      before = subst (BeginAFile Packed) (sym magic.0) (prefix_begins_a_file Packed MAGIC (spelled_u32 (version_of Packed)) front_begins);
+      before = subst (BeginAFile Packed) (sym magic.0) (prefix_begins_a_file Packed MAGIC (spelled_u32 (version_of Packed)) packed_front_begins_a_file);
     }
   ]
   closed_true fault.Magic why = why
@@ -143,15 +143,15 @@ module _ (bytes : List ℕ) (fits : IsBytes bytes) where
     no_file n f long within stopped b =
         let other = written l b.plans in
         let same : take n other ≡ take n bytes = ap (take n) (sym b.is) ∙ take-front n n bytes b.more (omega arith) within in
-        let read = opened_plans l other (opened_too l bytes other n long within same open_so) ∙ stopped other same in
-        let both = sym (meaning_err other f read) ∙ meaning_fits l b.plans b.have_file in
+        let read = opened_plans l other (opened_by_equal_prefix l bytes other n long within same open_so) ∙ stopped other same in
+        let both = sym (meaning_err other f read) ∙ meaning_of_written_plans l b.plans b.have_file in
         absurd cc
 
     stopped_true : (f : FileFault) (s : ReadStop l (body l) bytes 12 f) → Halts (body l) bytes 12 s.place s.width f → IsTrueOf bytes f
     stopped_true f s how = go f how
       where
         before : BeginAFile l (take s.place bytes)
-        before = opened_begins_a_file l (take s.place bytes) (IsBytes-take s.place bytes fits) (opened_too l bytes (take s.place bytes) s.place s.from s.within (take-take s.place s.place bytes (omega arith)) open_so) s.done
+        before = opened_begins_a_file l (take s.place bytes) (IsBytes-take s.place bytes fits) (opened_by_equal_prefix l bytes (take s.place bytes) s.place s.from s.within (take-take s.place s.place bytes (omega arith)) open_so) s.done
 
         go : (f : FileFault) → Halts (body l) bytes 12 s.place s.width f → IsTrueOf bytes f
         go (fault.Short n) how = record { length_is = how.0; layout = l; at = s.place; width = s.width; is_width = s.is_width; begins = omega (arith, how.0, s.within); is_cut = how.1; before = before }
@@ -170,16 +170,16 @@ module _ (bytes : List ℕ) (fits : IsBytes bytes) where
         let front = take n bytes in
         let len : length front ≡ n = omega (arith, length-take n bytes) in
         let same : take n front ≡ take n bytes = take-take n n bytes (omega arith) in
-        let opened = opened_too l bytes front n r.0 r.1 same open_so in
+        let opened = opened_by_equal_prefix l bytes front n r.0 r.1 same open_so in
         let read : body l front 12 ≡ Ok (plans, n) = (body_reads l).same bytes front 12 plans n open_so.whole e same in
         let whole : body l front 12 ≡ Ok (plans, length front) = read ∙ ap (λ (k : ℕ). Ok (plans, k)) (sym len) in
         let front_fit = IsBytes-take n bytes fits in
-        record { inside = inside; plans = plans; have_file = have_file l front front_fit opened plans n read; layout = l; is = whole_is l front front_fit plans opened whole }
+        record { inside = inside; plans = plans; have_file = have_file l front front_fit opened plans n read; layout = l; is = bytes_read_whole_are_file l front front_fit plans opened whole }
 
     opened_true : (f : FileFault) (r : Read (List Plan)) → body l bytes 12 ≡ r → meaning bytes ≡ Err f → IsTrueOf bytes f
     opened_true f (Err d) e means =
         let both = sym (meaning_err bytes d (opened_plans l bytes open_so ∙ e)) ∙ means in
-        let same : d ≡ f = err_is d f both in
+        let same : d ≡ f = failed_injective d f both in
         let s = (body_reads l).stops bytes 12 f open_so.whole (e ∙ ap Err same) in
         stopped_true f s s.how
     opened_true f (Ok x) e means = go (ltb x.1 (length bytes)) refl (sym (meaning_ok bytes x (opened_plans l bytes open_so ∙ e)) ∙ means)
@@ -187,7 +187,7 @@ module _ (bytes : List ℕ) (fits : IsBytes bytes) where
         go : (b : Bool) → ltb x.1 (length bytes) ≡ b → cond b (Err (fault.Extra x.1)) (Ok x.0) ≡ Err f → IsTrueOf bytes f
         go false is said = absurd cc
         go true is said =
-            let same : fault.Extra x.1 ≡ f = err_is (fault.Extra x.1) f said in
+            let same : fault.Extra x.1 ≡ f = failed_injective (fault.Extra x.1) f said in
             subst (λ (f : FileFault). IsTrueOf bytes f) same (extra_true x.0 x.1 e (ltb-true x.1 (length bytes) is))
 
   pub faults_are_true : (f : FileFault) → meaning bytes ≡ Err f → IsTrueOf bytes f
@@ -195,5 +195,5 @@ module _ (bytes : List ℕ) (fits : IsBytes bytes) where
     | inl opened ↦ opened_true opened.layout opened.is f (body opened.layout bytes 12) refl means
     | inr closed ↦
         let both = sym (meaning_err bytes closed.fault (closed_plans bytes closed.fault closed.is)) ∙ means in
-        subst (λ (f : FileFault). IsTrueOf bytes f) (err_is closed.fault f both) (closed_true closed.fault closed.why)
+        subst (λ (f : FileFault). IsTrueOf bytes f) (failed_injective closed.fault f both) (closed_true closed.fault closed.why)
   ]

@@ -34,24 +34,24 @@ any_number n = Unit {0}
 pub take_all : (n : ℕ) (xs : List ℕ) → length xs ≡ n → take n xs ≡ xs
 take_all n xs len = ap (take n) (sym (append-nil xs)) ∙ take_at xs [] n len
 
-pub short_is : (m n : ℕ) → ltb m n ≡ true → m < n
-short_is m n h = grind (arith, nat_tests)
+pub less_from_ltb : (m n : ℕ) → ltb m n ≡ true → m < n
+less_from_ltb m n h = grind (arith, nat_tests)
 
-pair_is : (x y a b : ℕ) → x ≡ y → a ≡ b → pair x a ≡ pair y b
-pair_is x y a b e f = cc
+pairs_equal_from_parts : (x y a b : ℕ) → x ≡ y → a ≡ b → pair x a ≡ pair y b
+pairs_equal_from_parts x y a b e f = cc
 
 abbrev pub fault_of : FileFault → Read ℕ
 fault_of f = Err f
 
-pub error_is : (d f : FileFault) → fault_of d ≡ fault_of f → d ≡ f
-error_is d f e = cc
+pub fault_of_injective : (d f : FileFault) → fault_of d ≡ fault_of f → d ≡ f
+fault_of_injective d f e = cc
 
--- what is between two places is the same in bytes that are the same up to the later place
+-- two lists with equal prefixes have the same field inside the prefix
 same_field_bytes : (at width : ℕ) (xs ys : List ℕ) → take (at + width) xs ≡ take (at + width) ys → take width (drop at xs) ≡ take width (drop at ys)
 same_field_bytes at width xs ys same = sym (drop-take at width xs) ∙ ap (drop at) same ∙ drop-take at width ys
 
-pub long_enough : (n : ℕ) (xs ys : List ℕ) → take n xs ≡ take n ys → n ≤ length ys → n ≤ length xs
-long_enough n xs ys same le = omega (arith, ap length same, length-take n xs, length-take n ys)
+pub length_bound_from_equal_prefix : (n : ℕ) (xs ys : List ℕ) → take n xs ≡ take n ys → n ≤ length ys → n ≤ length xs
+length_bound_from_equal_prefix n xs ys same le = omega (arith, ap length same, length-take n xs, length-take n ys)
 
 -- the field is whole and passes
 pub record Passes (width : ℕ) (value : List ℕ → ℕ) (test : ℕ → Bool) (bytes : List ℕ) (at : ℕ) (x : ℕ) (after : ℕ) : Type 0 where
@@ -110,16 +110,16 @@ module _ {V : ℕ → Type 0} (l : Layout) (width : ℕ) (value : List ℕ → �
 
       go : (short good : Bool) → ltb (length bytes - at) width ≡ short → test (value (take width (drop at bytes))) ≡ good
           → cond short (Err (Short (length bytes))) (allow good at (pair (value (take width (drop at bytes))) (at + width))) ≡ Err fault → ReadStop l (field width value test) bytes at fault
-      go true good is passed e = subst (λ (f : FileFault). ReadStop l (field width value test) bytes at f) (error_is (Short (length bytes)) fault e) (made (Short (length bytes)) (refl, omega (arith, short_is (length bytes - at) width is)))
+      go true good is passed e = subst (λ (f : FileFault). ReadStop l (field width value test) bytes at f) (fault_of_injective (Short (length bytes)) fault e) (made (Short (length bytes)) (refl, omega (arith, less_from_ltb (length bytes - at) width is)))
       go false true is passed e = absurd cc
       go false false is passed e =
           let room : at + width ≤ length bytes = omega (arith, ltb-false _ _ is, can.some) in
-          subst (λ (f : FileFault). ReadStop l (field width value test) bytes at f) (error_is (Field at) fault e)
+          subst (λ (f : FileFault). ReadStop l (field width value test) bytes at f) (fault_of_injective (Field at) fault e)
           (made (Field at) (
             refl,
             room,
             λ other same.
-                field_is other at (value (take width (drop at bytes))) (long_enough (at + width) other bytes same room) (ap value (same_field_bytes at width other bytes same))
+                field_is other at (value (take width (drop at bytes))) (length_bound_from_equal_prefix (at + width) other bytes same room) (ap value (same_field_bytes at width other bytes same))
                 ∙ ap (λ (b : Bool). allow b at (value (take width (drop at bytes)), at + width)) passed,
           ))
 
@@ -131,17 +131,17 @@ module _ {V : ℕ → Type 0} (l : Layout) (width : ℕ) (value : List ℕ → �
     same = λ bytes other at x after le e same.
         let p = passes_from width value test can.some bytes at x after e in
         let alike : take (at + width) other ≡ take (at + width) bytes = subst (λ (n : ℕ). take n other ≡ take n bytes) (sym p.after_is) same in
-        field_is other at (value (take width (drop at bytes))) (long_enough (at + width) other bytes alike p.room) (ap value (same_field_bytes at width other bytes alike))
+        field_is other at (value (take width (drop at bytes))) (length_bound_from_equal_prefix (at + width) other bytes alike p.room) (ap value (same_field_bytes at width other bytes alike))
         ∙ ap (λ (b : Bool). allow b at (value (take width (drop at bytes)), at + width)) p.passed
-        ∙ ap (λ (y : ℕ × ℕ). Ok y) (pair_is _ x _ after p.value_is p.after_is);
+        ∙ ap (λ (y : ℕ × ℕ). Ok y) (pairs_equal_from_parts _ x _ after p.value_is p.after_is);
     starts = λ front. field_completed (length front) front refl;
     stops = field_stops;
   }
 
 -- a test of what is read
-one_test : (short : Bool) (f : FileFault) (n : ℕ × ℕ) (test : ℕ → Bool) (at : ℕ) → (cond short (Err f) (Ok n) >>= λ x. allow (test x.0) at x) ≡ cond short (Err f) (allow (test n.0) at n)
-one_test true f n test at = refl
-one_test false f n test at = refl
+test_moves_into_cond : (short : Bool) (f : FileFault) (n : ℕ × ℕ) (test : ℕ → Bool) (at : ℕ) → (cond short (Err f) (Ok n) >>= λ x. allow (test x.0) at x) ≡ cond short (Err f) (allow (test n.0) at n)
+test_moves_into_cond true f n test at = refl
+test_moves_into_cond false f n test at = refl
 
 abbrev pub passes_always : ℕ → Bool
 passes_always n = true
@@ -164,9 +164,9 @@ zero_bytes n i =
       | inr le ↦ rw (get_or_past (replicate n none) i none (omega (arith, length-replicate n none))) (omega arith)
     ]
 
-pub byte_is : (bytes : List ℕ) (at : ℕ) → byte_at bytes at ≡ field 1 first_of passes_always bytes at
+pub byte_at_is_field : (bytes : List ℕ) (at : ℕ) → byte_at bytes at ≡ field 1 first_of passes_always bytes at
 unfolding byte_at field
-byte_is bytes at = elim (cases_lt at (length bytes)) [
+byte_at_is_field bytes at = elim (cases_lt at (length bytes)) [
   | inl inside ↦
       let there : slice_get bytes at ≡ Some (get_or bytes at 0) = slice_get-get_or bytes at 0 inside in
       let long : ltb (length bytes - at) 1 ≡ false = le-ltb _ _ (omega arith) in
@@ -178,85 +178,85 @@ byte_is bytes at = elim (cases_lt at (length bytes)) [
 ]
 
 -- zeros pass
-zeros_can : (l : Layout) (width : ℕ) (value : List ℕ → ℕ) (test : ℕ → Bool) → 0 < width → IsWidth l width → test (value (replicate width 0)) ≡ true → CanPass l width value test
-zeros_can l width value test some is_width passes =
+zeros_can_pass : (l : Layout) (width : ℕ) (value : List ℕ → ℕ) (test : ℕ → Bool) → 0 < width → IsWidth l width → test (value (replicate width 0)) ≡ true → CanPass l width value test
+zeros_can_pass l width value test some is_width passes =
     record { some = some; is_width = is_width; text = replicate width 0; len = length-replicate width 0; fits = zero_bytes width; passes = passes }
 
 -- a field of one byte is in both layouts
-is_one : (l : Layout) → IsWidth l 1
-is_one Fixed = inl refl
-is_one Packed = (omega arith, omega arith)
+one_byte_is_width : (l : Layout) → IsWidth l 1
+one_byte_is_width Fixed = inl refl
+one_byte_is_width Packed = (omega arith, omega arith)
 
 pub byte_reads : (l : Layout) → Reads l any_number byte_at
-byte_reads l = reads_as (field 1 first_of passes_always) byte_at byte_is (field_reads l 1 first_of passes_always (zeros_can l 1 first_of passes_always (omega arith) (is_one l) refl) (λ n passed. tt))
+byte_reads l = reads_as (field 1 first_of passes_always) byte_at byte_at_is_field (field_reads l 1 first_of passes_always (zeros_can_pass l 1 first_of passes_always (omega arith) (one_byte_is_width l) refl) (λ n passed. tt))
 
-pub u32_is : (bytes : List ℕ) (at : ℕ) → u32_at bytes at ≡ field 4 value_32 passes_always bytes at
+pub u32_at_is_field : (bytes : List ℕ) (at : ℕ) → u32_at bytes at ≡ field 4 value_32 passes_always bytes at
 unfolding field u32_at
-u32_is bytes at = refl
+u32_at_is_field bytes at = refl
 
 pub u32_reads : Reads Fixed any_number u32_at
-u32_reads = reads_as (field 4 value_32 passes_always) u32_at u32_is (field_reads Fixed 4 value_32 passes_always (zeros_can Fixed 4 value_32 passes_always (omega arith) (inr (inl refl)) refl) (λ n passed. tt))
+u32_reads = reads_as (field 4 value_32 passes_always) u32_at u32_at_is_field (field_reads Fixed 4 value_32 passes_always (zeros_can_pass Fixed 4 value_32 passes_always (omega arith) (inr (inl refl)) refl) (λ n passed. tt))
 
 abbrev pub up_to : ℕ → ℕ → Bool
 up_to most n = leb n most
 
-pub byte_test : (test : ℕ → Bool) (bytes : List ℕ) (at : ℕ) → (byte_at bytes at >>= λ x. allow (test x.0) at x) ≡ field 1 first_of test bytes at
+pub tested_byte_is_field : (test : ℕ → Bool) (bytes : List ℕ) (at : ℕ) → (byte_at bytes at >>= λ x. allow (test x.0) at x) ≡ field 1 first_of test bytes at
 unfolding field
-byte_test test bytes at =
-    ap (λ (r : Read ℕ). r >>= λ x. allow (test x.0) at x) (byte_is bytes at)
-    ∙ one_test (ltb (length bytes - at) 1) (Short (length bytes)) (pair (first_of (take 1 (drop at bytes))) (at + 1)) test at
+tested_byte_is_field test bytes at =
+    ap (λ (r : Read ℕ). r >>= λ x. allow (test x.0) at x) (byte_at_is_field bytes at)
+    ∙ test_moves_into_cond (ltb (length bytes - at) 1) (Short (length bytes)) (pair (first_of (take 1 (drop at bytes))) (at + 1)) test at
 
 pub byte_up_to_reads : (l : Layout) (most : ℕ) → Reads l (λ n. n ≤ most) (λ bytes at. byte_up_to bytes most at)
 unfolding byte_up_to
 byte_up_to_reads l most =
-    reads_as (field 1 first_of (up_to most)) (λ bytes at. byte_up_to bytes most at) (byte_test (up_to most))
-    (field_reads l 1 first_of (up_to most) (zeros_can l 1 first_of (up_to most) (omega arith) (is_one l) (le-leb 0 most (omega arith))) (λ n passed. leb-le n most passed))
+    reads_as (field 1 first_of (up_to most)) (λ bytes at. byte_up_to bytes most at) (tested_byte_is_field (up_to most))
+    (field_reads l 1 first_of (up_to most) (zeros_can_pass l 1 first_of (up_to most) (omega arith) (one_byte_is_width l) (le-leb 0 most (omega arith))) (λ n passed. leb-le n most passed))
 
-one_byte : IsBytes (1 ∷ [])
-one_byte i = grind arith
+byte_1_is_bytes : IsBytes (1 ∷ [])
+byte_1_is_bytes i = grind arith
 
 -- a byte that is not 0
 pub some_byte_reads : (l : Layout) → Reads l any_number some_byte_at
 unfolding some_byte_at
 some_byte_reads l =
-    reads_as (field 1 first_of (ltb 0)) some_byte_at (byte_test (ltb 0))
-    (field_reads l 1 first_of (ltb 0) (record { some = omega arith; is_width = is_one l; text = 1 ∷ []; len = refl; fits = one_byte; passes = refl }) (λ n passed. tt))
+    reads_as (field 1 first_of (ltb 0)) some_byte_at (tested_byte_is_field (ltb 0))
+    (field_reads l 1 first_of (ltb 0) (record { some = omega arith; is_width = one_byte_is_width l; text = 1 ∷ []; len = refl; fits = byte_1_is_bytes; passes = refl }) (λ n passed. tt))
 
 -- a byte that passes a test which 0 passes
 pub byte_tested_reads : (l : Layout) (test : ℕ → Bool) → test 0 ≡ true → Reads l any_number (λ bytes at. byte_at bytes at >>= λ x. allow (test x.0) at x)
 byte_tested_reads l test zero_passes =
-    reads_as (field 1 first_of test) (λ bytes at. byte_at bytes at >>= λ x. allow (test x.0) at x) (byte_test test)
-    (field_reads l 1 first_of test (zeros_can l 1 first_of test (omega arith) (is_one l) zero_passes) (λ n passed. tt))
+    reads_as (field 1 first_of test) (λ bytes at. byte_at bytes at >>= λ x. allow (test x.0) at x) (tested_byte_is_field test)
+    (field_reads l 1 first_of test (zeros_can_pass l 1 first_of test (omega arith) (one_byte_is_width l) zero_passes) (λ n passed. tt))
 
-pub u32_test : (test : ℕ → Bool) (bytes : List ℕ) (at : ℕ) → (u32_at bytes at >>= λ x. allow (test x.0) at x) ≡ field 4 value_32 test bytes at
+pub tested_u32_is_field : (test : ℕ → Bool) (bytes : List ℕ) (at : ℕ) → (u32_at bytes at >>= λ x. allow (test x.0) at x) ≡ field 4 value_32 test bytes at
 unfolding field u32_at
-u32_test test bytes at = one_test (ltb (length bytes - at) 4) (Short (length bytes)) (pair (value_32 (take 4 (drop at bytes))) (at + 4)) test at
+tested_u32_is_field test bytes at = test_moves_into_cond (ltb (length bytes - at) 4) (Short (length bytes)) (pair (value_32 (take 4 (drop at bytes))) (at + 4)) test at
 
-one_number : IsBytes (1 ∷ 0 ∷ 0 ∷ 0 ∷ [])
-one_number i = grind arith
+word_1_is_bytes : IsBytes (1 ∷ 0 ∷ 0 ∷ 0 ∷ [])
+word_1_is_bytes i = grind arith
 
-pub u64_test : (test : ℕ → Bool) (bytes : List ℕ) (at : ℕ) → (u64_at bytes at >>= λ x. allow (test x.0) at x) ≡ field 8 value_64 test bytes at
+pub tested_u64_is_field : (test : ℕ → Bool) (bytes : List ℕ) (at : ℕ) → (u64_at bytes at >>= λ x. allow (test x.0) at x) ≡ field 8 value_64 test bytes at
 unfolding field u64_at
-u64_test test bytes at = one_test (ltb (length bytes - at) 8) (Short (length bytes)) (pair (value_64 (take 8 (drop at bytes))) (at + 8)) test at
+tested_u64_is_field test bytes at = test_moves_into_cond (ltb (length bytes - at) 8) (Short (length bytes)) (pair (value_64 (take 8 (drop at bytes))) (at + 8)) test at
 
 pub u32_up_to_reads : (most : ℕ) → Reads Fixed (λ n. n ≤ most) (λ bytes at. u32_up_to bytes most at)
 unfolding u32_up_to
 u32_up_to_reads most =
-    reads_as (field 4 value_32 (up_to most)) (λ bytes at. u32_up_to bytes most at) (u32_test (up_to most))
-    (field_reads Fixed 4 value_32 (up_to most) (zeros_can Fixed 4 value_32 (up_to most) (omega arith) (inr (inl refl)) (le-leb 0 most (omega arith))) (λ n passed. leb-le n most passed))
+    reads_as (field 4 value_32 (up_to most)) (λ bytes at. u32_up_to bytes most at) (tested_u32_is_field (up_to most))
+    (field_reads Fixed 4 value_32 (up_to most) (zeros_can_pass Fixed 4 value_32 (up_to most) (omega arith) (inr (inl refl)) (le-leb 0 most (omega arith))) (λ n passed. leb-le n most passed))
 
 pub u64_up_to_reads : (most : ℕ) → Reads Fixed (λ n. n ≤ most) (λ bytes at. u64_up_to bytes most at)
 unfolding u64_up_to
 u64_up_to_reads most =
-    reads_as (field 8 value_64 (up_to most)) (λ bytes at. u64_up_to bytes most at) (u64_test (up_to most))
-    (field_reads Fixed 8 value_64 (up_to most) (zeros_can Fixed 8 value_64 (up_to most) (omega arith) (inr (inr refl)) (le-leb 0 most (omega arith))) (λ n passed. leb-le n most passed))
+    reads_as (field 8 value_64 (up_to most)) (λ bytes at. u64_up_to bytes most at) (tested_u64_is_field (up_to most))
+    (field_reads Fixed 8 value_64 (up_to most) (zeros_can_pass Fixed 8 value_64 (up_to most) (omega arith) (inr (inr refl)) (le-leb 0 most (omega arith))) (λ n passed. leb-le n most passed))
 
 -- a number of four bytes that passes a test, which 0 or 1 passes
 pub u32_tested_reads : {V : ℕ → Type 0} (test : ℕ → Bool) → ((n : ℕ) → test n ≡ true → V n) → (test 0 ≡ true) ⊎ (test 1 ≡ true)
     → Reads Fixed V (λ bytes at. u32_at bytes at >>= λ x. allow (test x.0) at x)
 u32_tested_reads test valid start =
-    reads_as (field 4 value_32 test) (λ bytes at. u32_at bytes at >>= λ x. allow (test x.0) at x) (u32_test test) (field_reads Fixed 4 value_32 test (can start) valid)
+    reads_as (field 4 value_32 test) (λ bytes at. u32_at bytes at >>= λ x. allow (test x.0) at x) (tested_u32_is_field test) (field_reads Fixed 4 value_32 test (can start) valid)
   where
     can : (test 0 ≡ true) ⊎ (test 1 ≡ true) → CanPass Fixed 4 value_32 test
-    can (inl zero_passes) = zeros_can Fixed 4 value_32 test (omega arith) (inr (inl refl)) zero_passes
-    can (inr one_passes) = record { some = omega arith; is_width = inr (inl refl); text = 1 ∷ 0 ∷ 0 ∷ 0 ∷ []; len = refl; fits = one_number; passes = one_passes }
+    can (inl zero_passes) = zeros_can_pass Fixed 4 value_32 test (omega arith) (inr (inl refl)) zero_passes
+    can (inr one_passes) = record { some = omega arith; is_width = inr (inl refl); text = 1 ∷ 0 ∷ 0 ∷ 0 ∷ []; len = refl; fits = word_1_is_bytes; passes = one_passes }

@@ -97,7 +97,7 @@ module _ (bytes : List ℕ) where
   unfolding u64_up_to
   u64_up_to_ok most at x e = up_to_ok (u64_at bytes at) most at x e
 
-  -- the magic number is at the front
+  -- bytes whose magic number is read begin with it
   pub magic_taken : (after : ℕ) → magic_at bytes ≡ Ok after → Takes bytes 0 MAGIC after
   unfolding magic_at
   magic_taken after e = go (ltb (length bytes) 8) (bytes_eq MAGIC (take 8 bytes)) (bytes_eq-Decides MAGIC (take 8 bytes)) e

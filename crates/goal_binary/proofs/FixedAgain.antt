@@ -23,16 +23,16 @@ use Rattle.goal_binary.proofs.FixedTaken.{AreFields, made_op}
 use Rattle.goal_binary.proofs.FieldsAgain.{IsReadAs, byte_again, u32_again, byte_up_to_again, u32_up_to_again, u64_up_to_again}
 
 -- the fields of an operation make it again
-pub kind_again : (k : Kind) → kind_of (form_of (kind_code k) (flags_of k)) (peer_of k) (tag_of k) (size_of k) ≡ k
-kind_again (Calc nanos) = refl
-kind_again (Send bytes to tag) = refl
-kind_again (Recv bytes None None) = refl
-kind_again (Recv bytes None (Some tag)) = refl
-kind_again (Recv bytes (Some from) None) = refl
-kind_again (Recv bytes (Some from) (Some tag)) = refl
+pub kind_from_own_fields : (k : Kind) → kind_of (form_of (kind_code k) (flags_of k)) (peer_of k) (tag_of k) (size_of k) ≡ k
+kind_from_own_fields (Calc nanos) = refl
+kind_from_own_fields (Send bytes to tag) = refl
+kind_from_own_fields (Recv bytes None None) = refl
+kind_from_own_fields (Recv bytes None (Some tag)) = refl
+kind_from_own_fields (Recv bytes (Some from) None) = refl
+kind_from_own_fields (Recv bytes (Some from) (Some tag)) = refl
 
-pub made_op-again : (o : Op) → made_op (kind_code o.kind) (flags_of o.kind) o.cpu o.nic (peer_of o.kind) (tag_of o.kind) (size_of o.kind) ≡ o
-made_op-again o = ap (λ (k : Kind). record { kind = k; cpu = o.cpu; nic = o.nic }) (kind_again o.kind)
+pub made_op-own_fields : (o : Op) → made_op (kind_code o.kind) (flags_of o.kind) o.cpu o.nic (peer_of o.kind) (tag_of o.kind) (size_of o.kind) ≡ o
+made_op-own_fields o = ap (λ (k : Kind). record { kind = k; cpu = o.cpu; nic = o.nic }) (kind_from_own_fields o.kind)
 
 -- a file can have the fields of an operation
 pub record AreFitting (kind flags nic peer tag size : ℕ) : Type 0 where
@@ -42,13 +42,13 @@ pub record AreFitting (kind flags nic peer tag size : ℕ) : Type 0 where
   pub tag_width : tag < 2 ^ 32
   pub size_width : size < 2 ^ 64
 
-is_zero-eqb : (n : ℕ) → eqb n 0 ≡ true → n ≤ 0
-is_zero-eqb n h = grind (arith, nat_tests)
+le_zero_from_eqb : (n : ℕ) → eqb n 0 ≡ true → n ≤ 0
+le_zero_from_eqb n h = grind (arith, nat_tests)
 
 pub kind_fits : (k : Kind) (nic : ℕ) → IsKindInWidth k → nic < 2 ^ 8 → value_fits k nic ≡ true → AreFitting (kind_code k) (flags_of k) nic (peer_of k) (tag_of k) (size_of k)
 kind_fits (Calc nanos) nic width nic_width value =
     let nanos_fit = leb-le nanos MAX_NANOS (and_left (leb nanos MAX_NANOS) (eqb nic 0) value) in
-    let none = is_zero-eqb nic (and_right (leb nanos MAX_NANOS) (eqb nic 0) value) in
+    let none = le_zero_from_eqb nic (and_right (leb nanos MAX_NANOS) (eqb nic 0) value) in
     record {
       fields = record { kind_fits = omega arith; flags_fit = omega arith; nic_fits = none; peer_fits = omega arith; tag_fits = omega arith };
       size_fits = nanos_fit;
@@ -101,9 +101,9 @@ kind_fits (Recv bytes (Some from) (Some tag)) nic width nic_width value =
       size_width = width.0;
     }
 
-pub when_again : (w : When) → when_of (when_code w) ≡ w
-when_again AfterEnd = refl
-when_again AfterStart = refl
+pub when_of-when_code : (w : When) → when_of (when_code w) ≡ w
+when_of-when_code AfterEnd = refl
+when_of-when_code AfterStart = refl
 
 pub when_code-le : (w : When) → when_code w ≤ 1
 when_code-le AfterEnd = omega arith
@@ -117,15 +117,15 @@ module _ (bytes : List ℕ) where
       let f = byte_up_to_again bytes (most_flags kind) k.place flags rest flags_fit k.rest_is in
       record { place = f.place; is = rw (k.is, f.is) refl; rest_is = f.rest_is }
 
-  op_steps : (at : ℕ) (form : OpForm × ℕ) (cpu nic peer tag unused size : ℕ × ℕ) → form_at bytes at ≡ Ok form → byte_at bytes form.1 ≡ Ok cpu → byte_up_to bytes (most_nic form.0) cpu.1 ≡ Ok nic
+  fixed_op_from_fields : (at : ℕ) (form : OpForm × ℕ) (cpu nic peer tag unused size : ℕ × ℕ) → form_at bytes at ≡ Ok form → byte_at bytes form.1 ≡ Ok cpu → byte_up_to bytes (most_nic form.0) cpu.1 ≡ Ok nic
       → u32_up_to bytes (most_peer form.0) nic.1 ≡ Ok peer → u32_up_to bytes (most_tag form.0) peer.1 ≡ Ok tag → u32_up_to bytes 0 tag.1 ≡ Ok unused → u64_up_to bytes (most_size form.0) unused.1 ≡ Ok size
       → fixed_op_at bytes at ≡ Ok (record { kind = kind_of form.0 peer.0 tag.0 size.0; cpu = cpu.0; nic = nic.0 }, size.1)
   unfolding fixed_op_at
-  op_steps at form cpu nic peer tag unused size a b c d e f g = rw (a, b, c, d, e, f, g) refl
+  fixed_op_from_fields at form cpu nic peer tag unused size a b c d e f g = rw (a, b, c, d, e, f, g) refl
 
-  made_again : (at kind flags cpu nic peer tag size : ℕ) (rest : List ℕ) → AreFitting kind flags nic peer tag size → drop at bytes ≡ op_bytes kind flags cpu nic peer tag size ++ rest
+  op_bytes_read_back : (at kind flags cpu nic peer tag size : ℕ) (rest : List ℕ) → AreFitting kind flags nic peer tag size → drop at bytes ≡ op_bytes kind flags cpu nic peer tag size ++ rest
       → IsReadAs bytes (fixed_op_at bytes at) (made_op kind flags cpu nic peer tag size) rest
-  made_again at kind flags cpu nic peer tag size rest fits h =
+  op_bytes_read_back at kind flags cpu nic peer tag size rest fits h =
       let form = form_of kind flags in
       let a = form_again at kind flags (cpu ∷ nic ∷ (spelled_u32 peer ++ (spelled_u32 tag ++ (spelled_u32 0 ++ (spelled_u64 size ++ rest))))) fits.fields.kind_fits fits.fields.flags_fit h in
       let b = byte_again bytes a.place cpu (nic ∷ (spelled_u32 peer ++ (spelled_u32 tag ++ (spelled_u32 0 ++ (spelled_u64 size ++ rest))))) a.rest_is in
@@ -136,20 +136,20 @@ module _ (bytes : List ℕ) where
       let s = u64_up_to_again bytes (most_size form) z.place size rest fits.size_width fits.size_fits z.rest_is in
       record {
         place = s.place;
-        is = op_steps at (form, a.place) (cpu, b.place) (nic, c.place) (peer, d.place) (tag, g.place) (0, z.place) (size, s.place) a.is b.is c.is d.is g.is z.is s.is;
+        is = fixed_op_from_fields at (form, a.place) (cpu, b.place) (nic, c.place) (peer, d.place) (tag, g.place) (0, z.place) (size, s.place) a.is b.is c.is d.is g.is z.is s.is;
         rest_is = s.rest_is;
       }
 
   pub fixed_op_again : (o : Op) (at : ℕ) (rest : List ℕ) → OpFits o → drop at bytes ≡ fixed_op o ++ rest → IsReadAs bytes (fixed_op_at bytes at) o rest
   unfolding fixed_op
   fixed_op_again o at rest fits h =
-      subst (λ (x : Op). IsReadAs bytes (fixed_op_at bytes at) x rest) (made_op-again o)
-      (made_again at (kind_code o.kind) (flags_of o.kind) o.cpu o.nic (peer_of o.kind) (tag_of o.kind) (size_of o.kind) rest (kind_fits o.kind o.nic fits.width.kind fits.width.nic fits.value) h)
+      subst (λ (x : Op). IsReadAs bytes (fixed_op_at bytes at) x rest) (made_op-own_fields o)
+      (op_bytes_read_back at (kind_code o.kind) (flags_of o.kind) o.cpu o.nic (peer_of o.kind) (tag_of o.kind) (size_of o.kind) rest (kind_fits o.kind o.nic fits.width.kind fits.width.nic fits.value) h)
 
-  dep_steps : (at : ℕ) (later earlier when : ℕ × ℕ) → u32_at bytes at ≡ Ok later → u32_at bytes later.1 ≡ Ok earlier → u32_up_to bytes 1 earlier.1 ≡ Ok when
+  fixed_dep_from_fields : (at : ℕ) (later earlier when : ℕ × ℕ) → u32_at bytes at ≡ Ok later → u32_at bytes later.1 ≡ Ok earlier → u32_up_to bytes 1 earlier.1 ≡ Ok when
       → fixed_dep_at bytes at ≡ Ok (record { later = later.0; earlier = earlier.0; when = when_of when.0 }, when.1)
   unfolding fixed_dep_at
-  dep_steps at later earlier when a b c = rw (a, b, c) refl
+  fixed_dep_from_fields at later earlier when a b c = rw (a, b, c) refl
 
   pub fixed_dep_again : (d : Dep) (at : ℕ) (rest : List ℕ) → DepFits d → drop at bytes ≡ fixed_dep d ++ rest → IsReadAs bytes (fixed_dep_at bytes at) d rest
   unfolding fixed_dep
@@ -160,14 +160,14 @@ module _ (bytes : List ℕ) where
       let c = u32_up_to_again bytes 1 b.place (when_code d.when) rest (omega (arith, w)) w b.rest_is in
       record {
         place = c.place;
-        is = dep_steps at (d.later, a.place) (d.earlier, b.place) (when_code d.when, c.place) a.is b.is c.is ∙ ap (λ (w : When). Ok (record { later = d.later; earlier = d.earlier; when = w }, c.place)) (when_again d.when);
+        is = fixed_dep_from_fields at (d.later, a.place) (d.earlier, b.place) (when_code d.when, c.place) a.is b.is c.is ∙ ap (λ (w : When). Ok (record { later = d.later; earlier = d.earlier; when = w }, c.place)) (when_of-when_code d.when);
         rest_is = c.rest_is;
       }
 
-  note_steps : (at : ℕ) (kind op first second : ℕ × ℕ) → u32_up_to bytes 1 at ≡ Ok kind → u32_at bytes kind.1 ≡ Ok op → u32_at bytes op.1 ≡ Ok first → u32_at bytes first.1 ≡ Ok second
+  fixed_note_from_fields : (at : ℕ) (kind op first second : ℕ × ℕ) → u32_up_to bytes 1 at ≡ Ok kind → u32_at bytes kind.1 ≡ Ok op → u32_at bytes op.1 ≡ Ok first → u32_at bytes first.1 ≡ Ok second
       → fixed_note_at bytes at ≡ Ok (note_of kind.0 op.0 first.0 second.0, second.1)
   unfolding fixed_note_at
-  note_steps at kind op first second a b c d = rw (a, b, c, d) refl
+  fixed_note_from_fields at kind op first second a b c d = rw (a, b, c, d) refl
 
   pub fixed_note_again : (n : Note) (at : ℕ) (rest : List ℕ) → IsNoteInWidth n → drop at bytes ≡ fixed_note n ++ rest → IsReadAs bytes (fixed_note_at bytes at) n rest
   unfolding fixed_note
@@ -176,10 +176,10 @@ module _ (bytes : List ℕ) where
       let a = u32_again bytes k.place op (spelled_u32 lo ++ (spelled_u32 hi ++ rest)) fits.0 k.rest_is in
       let b = u32_again bytes a.place lo (spelled_u32 hi ++ rest) fits.1 a.rest_is in
       let c = u32_again bytes b.place hi rest fits.2 b.rest_is in
-      record { place = c.place; is = note_steps at (0, k.place) (op, a.place) (lo, b.place) (hi, c.place) k.is a.is b.is c.is; rest_is = c.rest_is }
+      record { place = c.place; is = fixed_note_from_fields at (0, k.place) (op, a.place) (lo, b.place) (hi, c.place) k.is a.is b.is c.is; rest_is = c.rest_is }
   fixed_note_again (Adds op from to) at rest fits h =
       let k = u32_up_to_again bytes 1 at 1 (spelled_u32 op ++ (spelled_u32 from ++ (spelled_u32 to ++ rest))) (omega arith) (omega arith) h in
       let a = u32_again bytes k.place op (spelled_u32 from ++ (spelled_u32 to ++ rest)) fits.0 k.rest_is in
       let b = u32_again bytes a.place from (spelled_u32 to ++ rest) fits.1 a.rest_is in
       let c = u32_again bytes b.place to rest fits.2 b.rest_is in
-      record { place = c.place; is = note_steps at (1, k.place) (op, a.place) (from, b.place) (to, c.place) k.is a.is b.is c.is; rest_is = c.rest_is }
+      record { place = c.place; is = fixed_note_from_fields at (1, k.place) (op, a.place) (from, b.place) (to, c.place) k.is a.is b.is c.is; rest_is = c.rest_is }

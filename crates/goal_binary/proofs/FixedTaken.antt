@@ -21,18 +21,18 @@ pub record AreFields (kind flags nic peer tag : ℕ) : Type 0 where
 abbrev pub made_op : (kind flags cpu nic peer tag size : ℕ) → Op
 made_op kind flags cpu nic peer tag size = record { kind = kind_of (form_of kind flags) peer tag size; cpu = cpu; nic = nic }
 
-is_zero : (n : ℕ) → n ≤ 0 → n ≡ 0
-is_zero n h = omega arith
+zero_from_le_zero : (n : ℕ) → n ≤ 0 → n ≡ 0
+zero_from_le_zero n h = omega arith
 
 pub made_op-spelled : (kind flags cpu nic peer tag size : ℕ) → AreFields kind flags nic peer tag → fixed_op (made_op kind flags cpu nic peer tag size) ≡ op_bytes kind flags cpu nic peer tag size
 unfolding fixed_op
 made_op-spelled zero flags cpu nic peer tag size h =
-    rw (is_zero flags h.flags_fit, is_zero peer h.peer_fits, is_zero tag h.tag_fits) refl
-made_op-spelled (suc zero) flags cpu nic peer tag size h = rw (is_zero flags h.flags_fit) refl
+    rw (zero_from_le_zero flags h.flags_fit, zero_from_le_zero peer h.peer_fits, zero_from_le_zero tag h.tag_fits) refl
+made_op-spelled (suc zero) flags cpu nic peer tag size h = rw (zero_from_le_zero flags h.flags_fit) refl
 made_op-spelled (suc (suc zero)) zero cpu nic peer tag size h = refl
-made_op-spelled (suc (suc zero)) (suc zero) cpu nic peer tag size h = rw (is_zero peer h.peer_fits) refl
-made_op-spelled (suc (suc zero)) (suc (suc zero)) cpu nic peer tag size h = rw (is_zero tag h.tag_fits) refl
-made_op-spelled (suc (suc zero)) (suc (suc (suc zero))) cpu nic peer tag size h = rw (is_zero peer h.peer_fits, is_zero tag h.tag_fits) refl
+made_op-spelled (suc (suc zero)) (suc zero) cpu nic peer tag size h = rw (zero_from_le_zero peer h.peer_fits) refl
+made_op-spelled (suc (suc zero)) (suc (suc zero)) cpu nic peer tag size h = rw (zero_from_le_zero tag h.tag_fits) refl
+made_op-spelled (suc (suc zero)) (suc (suc (suc zero))) cpu nic peer tag size h = rw (zero_from_le_zero peer h.peer_fits, zero_from_le_zero tag h.tag_fits) refl
 made_op-spelled (suc (suc zero)) (suc (suc (suc (suc f)))) cpu nic peer tag size h = absurd (omega (arith, h.flags_fit))
 made_op-spelled (suc (suc (suc k))) flags cpu nic peer tag size h = absurd (omega (arith, h.kind_fits))
 
@@ -119,7 +119,7 @@ module _ (bytes : List ℕ) where
 
     -- a field that has to be 0
     none_taken : (at n after : ℕ) → Takes bytes at (spelled_u32 n) after × (n ≤ 0) → Takes bytes at (spelled_u32 0) after
-    none_taken at n after t = subst (λ (m : ℕ). Takes bytes at (spelled_u32 m) after) (is_zero n t.1) t.0
+    none_taken at n after t = subst (λ (m : ℕ). Takes bytes at (spelled_u32 m) after) (zero_from_le_zero n t.1) t.0
 
     -- an operation of that form, whose other fields are within its limits
     formed : (at cpu_at nic_at peer_at tag_at unused_at size_at after : ℕ) (form : OpForm) (cpu nic peer tag size : ℕ) → FormTaken at form cpu_at → nic ≤ most_nic form → peer ≤ most_peer form → tag ≤ most_tag form → Takes bytes cpu_at (cpu ∷ []) nic_at → Takes bytes nic_at (nic ∷ []) peer_at → Takes bytes peer_at (spelled_u32 peer) tag_at → Takes bytes tag_at (spelled_u32 tag) unused_at → Takes bytes unused_at (spelled_u32 0) size_at → Takes bytes size_at (spelled_u64 size) after → Takes bytes at (fixed_op (record { kind = kind_of form peer tag size; cpu = cpu; nic = nic })) after

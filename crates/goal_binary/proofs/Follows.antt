@@ -33,8 +33,8 @@ end_of x = x.1
 abbrev pub identity : ℕ → ℕ
 identity n = n
 
-same_err : (A B : Type 0) (f g : FileFault) → failed A f ≡ failed A g → failed B f ≡ failed B g
-same_err A B f g e = cc
+same_fault_at_other_type : (A B : Type 0) (f g : FileFault) → failed A f ≡ failed A g → failed B f ≡ failed B g
+same_fault_at_other_type A B f g e = cc
 
 module _ (len : ℕ) where
   pub agree_then : {A B : Type 0} (place : A → ℕ) (later : B → ℕ) (cut whole : Result A FileFault) (f g : A → Result B FileFault) → Agree len place cut whole
@@ -47,7 +47,7 @@ module _ (len : ℕ) where
   agree_then {A = A} {B = B} place later (Err d) whole f g first each = go first.is
     where
       go : (failed A d ≡ failed A (Short len)) ⊎ ((whole ≡ failed A d) × Unit {0}) → Agree len later (Err d) (whole >>= g)
-      go (inl e) = record { is = inl (same_err A B d (Short len) e) }
+      go (inl e) = record { is = inl (same_fault_at_other_type A B d (Short len) e) }
       go (inr same) = record { is = inr (ap (λ r. r >>= g) same.0, tt) }
 
   pub agree_ok : {A : Type 0} (place : A → ℕ) (x : A) → place x ≤ len → Agree len place (Ok x) (Ok x)

@@ -61,7 +61,7 @@ fixed_note_reads =
     then_reads u32_reads (λ second _.
     give_reads (note_of kind op first second) tt)))))
 
--- the same in version 2
+-- the readers of the packed layout (version 2)
 head_reads : Reads Packed anything head_at
 unfolding head_at head_byte_at then give
 head_reads =

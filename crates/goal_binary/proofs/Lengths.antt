@@ -22,8 +22,8 @@ use Rattle.goal_binary.specs.File.{spelled_u32, packed, peer_in, tag_in, size_of
 use Rattle.goal_binary.specs.Laws.{old_length}
 use Rattle.goal_binary.proofs.Groups.{fits_3, fits_4, fits_5, fits_10, length-groups}
 use Rattle.goal_binary.proofs.FixedAgain.{kind_fits, when_code-le}
-use Rattle.goal_binary.proofs.PackedItems.{is_some, packed_if, byte_is}
-use Rattle.goal_binary.proofs.PackedAgain.{peer_is, tag_is}
+use Rattle.goal_binary.proofs.PackedItems.{is_some, packed_if, byte_unless_zero_by_test}
+use Rattle.goal_binary.proofs.PackedAgain.{packed_peer_by_form, packed_tag_by_form}
 
 -- items that each have this number of bytes
 length-items : {A : Type 0} (spelled : A → List ℕ) (size : ℕ) → ((x : A) → length (spelled x) ≡ size) → (xs : List A) → length (flat_map spelled xs) ≡ size * length xs
@@ -100,19 +100,19 @@ length-items-le spelled size P each (x ∷ xs) all =
     let others = length-items-le spelled size P each xs all.1 in
     rw (flat_map-cons spelled x xs, length-append (spelled x) (flat_map spelled xs)) (omega (arith, first, others))
 
-length-byte : (n : ℕ) → length (byte_unless_zero n) ≤ 1
-length-byte n = rw (byte_is n) (go (is_some n))
+length-byte_unless_zero : (n : ℕ) → length (byte_unless_zero n) ≤ 1
+length-byte_unless_zero n = rw (byte_unless_zero_by_test n) (go (is_some n))
   where
     go : (b : Bool) → length (cond b (n ∷ []) []) ≤ 1
     go true = omega arith
     go false = omega arith
 
-length-if : (b : Bool) (n : ℕ) → n < 2 ^ 32 → length (packed_if b n) ≤ 5
-length-if true n lt = length-groups 5 10 n (fits_5 n (omega (arith, lt)))
-length-if false n lt = omega arith
+length-packed_if : (b : Bool) (n : ℕ) → n < 2 ^ 32 → length (packed_if b n) ≤ 5
+length-packed_if true n lt = length-groups 5 10 n (fits_5 n (omega (arith, lt)))
+length-packed_if false n lt = omega arith
 
-length-32 : (n : ℕ) → n < 2 ^ 32 → length (packed n) ≤ 5
-length-32 n lt = length-groups 5 10 n (fits_5 n (omega (arith, lt)))
+length-packed_u32 : (n : ℕ) → n < 2 ^ 32 → length (packed n) ≤ 5
+length-packed_u32 n lt = length-groups 5 10 n (fits_5 n (omega (arith, lt)))
 
 packed-op-le : (o : Op) → OpFits o → length (spelled_op Packed o) ≤ 24
 unfolding spelled_op packed_op
@@ -125,8 +125,8 @@ packed-op-le o fits =
     let peer = packed_if_some (peer_in k) in
     let tag = packed_if_some (tag_in k) in
     let size = packed (size_of k) in
-    let peer_le : length peer ≤ 5 = rw (peer_is k) (length-if _ (peer_of k) all.peer_width) in
-    let tag_le : length tag ≤ 5 = rw (tag_is k) (length-if _ (tag_of k) all.tag_width) in
+    let peer_le : length peer ≤ 5 = rw (packed_peer_by_form k) (length-packed_if _ (peer_of k) all.peer_width) in
+    let tag_le : length tag ≤ 5 = rw (packed_tag_by_form k) (length-packed_if _ (tag_of k) all.tag_width) in
     omega (
       arith,
       length-append (head ++ cpu ++ nic ++ peer ++ tag) size,
@@ -134,8 +134,8 @@ packed-op-le o fits =
       length-append (head ++ cpu ++ nic) peer,
       length-append (head ++ cpu) nic,
       length-append head cpu,
-      length-byte o.cpu,
-      length-byte o.nic,
+      length-byte_unless_zero o.cpu,
+      length-byte_unless_zero o.nic,
       peer_le,
       tag_le,
       length-groups 10 10 (size_of k) (fits_10 (size_of k) all.size_width),
@@ -146,24 +146,24 @@ unfolding spelled_dep packed_dep
 packed-dep-le d fits =
     let number = 2 * d.earlier + when_code d.when in
     let w = when_code-le d.when in
-    omega (arith, length-append (packed d.later) (packed number), length-32 d.later fits.later, length-groups 5 10 number (fits_5 number (omega (arith, w, fits.earlier))))
+    omega (arith, length-append (packed d.later) (packed number), length-packed_u32 d.later fits.later, length-groups 5 10 number (fits_5 number (omega (arith, w, fits.earlier))))
 
-slots-le : (kind op first second : ℕ) → op < 2 ^ 32 → first < 2 ^ 32 → second < 2 ^ 32 → length ((kind ∷ []) ++ packed op ++ packed first ++ packed second) ≤ 16
-slots-le kind op first second a b c =
+packed_note_slots-le : (kind op first second : ℕ) → op < 2 ^ 32 → first < 2 ^ 32 → second < 2 ^ 32 → length ((kind ∷ []) ++ packed op ++ packed first ++ packed second) ≤ 16
+packed_note_slots-le kind op first second a b c =
     omega (
       arith,
       length-append ((kind ∷ []) ++ packed op ++ packed first) (packed second),
       length-append ((kind ∷ []) ++ packed op) (packed first),
       length-append (kind ∷ []) (packed op),
-      length-32 op a,
-      length-32 first b,
-      length-32 second c,
+      length-packed_u32 op a,
+      length-packed_u32 first b,
+      length-packed_u32 second c,
     )
 
 packed-note-le : (n : Note) → IsNoteInWidth n → length (spelled_note Packed n) ≤ 16
 unfolding spelled_note packed_note
-packed-note-le (Moves op lo hi) fits = slots-le 0 op lo hi fits.0 fits.1 fits.2
-packed-note-le (Adds op from to) fits = slots-le 1 op from to fits.0 fits.1 fits.2
+packed-note-le (Moves op lo hi) fits = packed_note_slots-le 0 op lo hi fits.0 fits.1 fits.2
+packed-note-le (Adds op from to) fits = packed_note_slots-le 1 op from to fits.0 fits.1 fits.2
 
 packed-counts-le : (p : Plan) → length p.ops ≤ MAX_OPS → length p.deps ≤ MAX_DEPS → length p.notes ≤ MAX_NOTES → length (spelled_counts Packed p) ≤ 12
 unfolding spelled_counts spelled_count

@@ -20,13 +20,13 @@ use Rattle.goal_binary.specs.Reading.{form_of, most_nic, most_peer, most_tag, mo
 use Rattle.goal_binary.proofs.Steps.{IsBytes, bind_ok, ok_injective}
 use Rattle.goal_binary.proofs.FieldsTaken.{IsBytes-drop, IsBytes-take, leb-le}
 use Rattle.goal_binary.proofs.Readers.{Reader, then, give, field}
-use Rattle.goal_binary.proofs.FieldsRead.{passes_from, first_of, value_32, value_64, passes_always, up_to, byte_is, byte_test, short_is, u32_is, u32_test, u64_test}
+use Rattle.goal_binary.proofs.FieldsRead.{passes_from, first_of, value_32, value_64, passes_always, up_to, byte_at_is_field, tested_byte_is_field, less_from_ltb, u32_at_is_field, tested_u32_is_field, tested_u64_is_field}
 use Rattle.goal_binary.proofs.NumbersTaken.{packed_up_to_ok}
-use Rattle.goal_binary.proofs.PackedItems.{IsHead, head_is}
+use Rattle.goal_binary.proofs.PackedItems.{IsHead, is_head_sound}
 use Rattle.goal_binary.proofs.ItemsRead.{made_op, made_dep, halved_dep}
-use Rattle.goal_binary.proofs.RanksRead.{made_plan, list_of, body, body_is}
+use Rattle.goal_binary.proofs.RanksRead.{made_plan, list_of, body, records_are_count_then_ranks}
 
--- what a reader gives of bytes is so
+-- each value that the reader returns satisfies V
 pub record Gives {A : Type 0} (V : A → Type 0) (P : Reader A) : Type 0 where
   pub valid : (bytes : List ℕ) → IsBytes bytes → (at : ℕ) (x : A) (after : ℕ) → P bytes at ≡ Ok (x, after) → V x
 
@@ -41,9 +41,9 @@ gives_then {P = P} {Q = Q} first second = record {
       (second a.0.0 (first.valid bytes fits at a.0.0 a.0.1 a.1)).valid bytes fits a.0.1 y end a.2;
 }
 
-gives_it : {A : Type 0} {V : A → Type 0} (x : A) → V x → Gives V (give x)
+give_gives : {A : Type 0} {V : A → Type 0} (x : A) → V x → Gives V (give x)
 unfolding give
-gives_it {A = A} {V = V} x v = record { valid = λ bytes fits at y after e. subst V (ap (λ (p : A × ℕ). p.0) (ok_injective (x, at) (y, after) e)) v }
+give_gives {A = A} {V = V} x v = record { valid = λ bytes fits at y after e. subst V (ap (λ (p : A × ℕ). p.0) (ok_injective (x, at) (y, after) e)) v }
 
 gives_as : {A : Type 0} {V : A → Type 0} (P R : Reader A) → ((bytes : List ℕ) (at : ℕ) → R bytes at ≡ P bytes at) → Gives V P → Gives V R
 gives_as P R is gives = record { valid = λ bytes fits at x after e. gives.valid bytes fits at x after (sym (is bytes at) ∙ e) }
@@ -64,10 +64,10 @@ value_64-lt : (text : List ℕ) → IsBytes text → value_64 text < 2 ^ 64
 value_64-lt text fits = omega (arith, fits 0, fits 1, fits 2, fits 3, fits 4, fits 5, fits 6, fits 7)
 
 byte_gives : Gives (λ n. n < 2 ^ 8) byte_at
-byte_gives = gives_as (field 1 first_of passes_always) byte_at byte_is (field_gives 1 first_of passes_always (omega arith) (λ text len fits passed. omega (arith, fits 0)))
+byte_gives = gives_as (field 1 first_of passes_always) byte_at byte_at_is_field (field_gives 1 first_of passes_always (omega arith) (λ text len fits passed. omega (arith, fits 0)))
 
 u32_gives : Gives (λ n. n < 2 ^ 32) u32_at
-u32_gives = gives_as (field 4 value_32 passes_always) u32_at u32_is (field_gives 4 value_32 passes_always (omega arith) (λ text len fits passed. value_32-lt text fits))
+u32_gives = gives_as (field 4 value_32 passes_always) u32_at u32_at_is_field (field_gives 4 value_32 passes_always (omega arith) (λ text len fits passed. value_32-lt text fits))
 
 -- a number of this number of bits that is at most the limit
 record IsUpTo (most bits n : ℕ) : Type 0 where
@@ -77,19 +77,19 @@ record IsUpTo (most bits n : ℕ) : Type 0 where
 byte_up_to_gives : (most : ℕ) → Gives (IsUpTo most 8) (λ bytes at. byte_up_to bytes most at)
 unfolding byte_up_to
 byte_up_to_gives most =
-    gives_as (field 1 first_of (up_to most)) (λ bytes at. byte_up_to bytes most at) (byte_test (up_to most))
+    gives_as (field 1 first_of (up_to most)) (λ bytes at. byte_up_to bytes most at) (tested_byte_is_field (up_to most))
     (field_gives 1 first_of (up_to most) (omega arith) (λ text len fits passed. record { below = leb-le (first_of text) most passed; width = omega (arith, fits 0) }))
 
 u32_up_to_gives : (most : ℕ) → Gives (IsUpTo most 32) (λ bytes at. u32_up_to bytes most at)
 unfolding u32_up_to
 u32_up_to_gives most =
-    gives_as (field 4 value_32 (up_to most)) (λ bytes at. u32_up_to bytes most at) (u32_test (up_to most))
+    gives_as (field 4 value_32 (up_to most)) (λ bytes at. u32_up_to bytes most at) (tested_u32_is_field (up_to most))
     (field_gives 4 value_32 (up_to most) (omega arith) (λ text len fits passed. record { below = leb-le (value_32 text) most passed; width = value_32-lt text fits }))
 
 u64_up_to_gives : (most : ℕ) → Gives (IsUpTo most 64) (λ bytes at. u64_up_to bytes most at)
 unfolding u64_up_to
 u64_up_to_gives most =
-    gives_as (field 8 value_64 (up_to most)) (λ bytes at. u64_up_to bytes most at) (u64_test (up_to most))
+    gives_as (field 8 value_64 (up_to most)) (λ bytes at. u64_up_to bytes most at) (tested_u64_is_field (up_to most))
     (field_gives 8 value_64 (up_to most) (omega arith) (λ text len fits passed. record { below = leb-le (value_64 text) most passed; width = value_64-lt text fits }))
 
 eqb-zero : (n : ℕ) → n ≤ 0 → eqb n 0 ≡ true
@@ -98,12 +98,12 @@ eqb-zero n h = grind (arith, nat_tests)
 abbrev some_of : ℕ → Option ℕ
 some_of n = Some n
 
-some_is : (n v : ℕ) → some_of n ≡ some_of v → n ≡ v
-some_is n v e = cc
+some_number_injective : (n v : ℕ) → some_of n ≡ some_of v → n ≡ v
+some_number_injective n v e = cc
 
-unless_below : (any : Bool) (n bound v : ℕ) → n < bound → cond any None (some_of n) ≡ Some v → v < bound
-unless_below true n bound v lt e = absurd cc
-unless_below false n bound v lt e = omega (arith, lt, some_is n v e)
+value_below_bound_unless_any : (any : Bool) (n bound v : ℕ) → n < bound → cond any None (some_of n) ≡ Some v → v < bound
+value_below_bound_unless_any true n bound v lt e = absurd cc
+value_below_bound_unless_any false n bound v lt e = omega (arith, lt, some_number_injective n v e)
 
 -- numbers that an operation of this form may have
 record AreNumbers (f : OpForm) (peer tag size cpu nic : ℕ) : Type 0 where
@@ -126,7 +126,7 @@ op_fits form.Send peer tag size cpu nic a = record {
   value = le-leb size MAX_BYTES a.size_below;
 }
 op_fits (form.Recv any_source any_tag) peer tag size cpu nic a = record {
-  width = record { kind = (a.size_width, λ v e. unless_below any_source peer (2 ^ 32) v a.peer_width e, λ v e. unless_below any_tag tag (2 ^ 32) v a.tag_width e); cpu = a.cpu_width; nic = a.nic_width };
+  width = record { kind = (a.size_width, λ v e. value_below_bound_unless_any any_source peer (2 ^ 32) v a.peer_width e, λ v e. value_below_bound_unless_any any_tag tag (2 ^ 32) v a.tag_width e); cpu = a.cpu_width; nic = a.nic_width };
   value = le-leb size MAX_BYTES a.size_below;
 }
 
@@ -141,7 +141,7 @@ fixed_op_gives =
     gives_then (u32_up_to_gives (most_tag f)) (λ tag t.
     gives_then (u32_up_to_gives 0) (λ unused u.
     gives_then (u64_up_to_gives (most_size f)) (λ size s.
-    gives_it {V = OpFits} (made_op f peer tag size cpu nic) (op_fits f peer tag size cpu nic
+    give_gives {V = OpFits} (made_op f peer tag size cpu nic) (op_fits f peer tag size cpu nic
     (record { nic_below = n.below; nic_width = n.width; cpu_width = c; peer_width = p.width; tag_width = t.width; size_below = s.below; size_width = s.width }))))))))))
 
 fixed_dep_gives : Gives DepFits fixed_dep_at
@@ -151,7 +151,7 @@ fixed_dep_gives =
     (gives_then u32_gives (λ later l.
     gives_then u32_gives (λ earlier e.
     gives_then (u32_up_to_gives 1) (λ when w.
-    gives_it {V = DepFits} (made_dep later earlier when) (record { later = l; earlier = e })))))
+    give_gives {V = DepFits} (made_dep later earlier when) (record { later = l; earlier = e })))))
 
 note_fits : (kind op first second : ℕ) → op < 2 ^ 32 → first < 2 ^ 32 → second < 2 ^ 32 → IsNoteInWidth (note_of kind op first second)
 note_fits zero op first second a b c = (a, b, c)
@@ -165,23 +165,23 @@ fixed_note_gives =
     gives_then u32_gives (λ op a.
     gives_then u32_gives (λ first b.
     gives_then u32_gives (λ second c.
-    gives_it {V = IsNoteInWidth} (note_of kind op first second) (note_fits kind op first second a b c))))))
+    give_gives {V = IsNoteInWidth} (note_of kind op first second) (note_fits kind op first second a b c))))))
 
 -- a number that is 0 if it is missing
 record IsThere (there : Bool) (bits n : ℕ) : Type 0 where
   width : n < 2 ^ bits
   none : there ≡ false → n ≡ 0
 
-number_pair : (x y m n : ℕ) → ◌≡◌ {A = Read ℕ} (Ok (x, m)) (Ok (y, n)) → x ≡ y
-number_pair x y m n e = ap (λ (p : ℕ × ℕ). p.0) (ok_injective (x, m) (y, n) e)
+read_number_injective : (x y m n : ℕ) → ◌≡◌ {A = Read ℕ} (Ok (x, m)) (Ok (y, n)) → x ≡ y
+read_number_injective x y m n e = ap (λ (p : ℕ × ℕ). p.0) (ok_injective (x, m) (y, n) e)
 
 some_byte_gives : (there : Bool) → Gives (IsThere there 8) (λ bytes at. some_byte_if bytes there at)
 unfolding some_byte_if some_byte_at
 some_byte_gives true =
-    gives_as (field 1 first_of (ltb 0)) (λ bytes at. some_byte_if bytes true at) (byte_test (ltb 0))
+    gives_as (field 1 first_of (ltb 0)) (λ bytes at. some_byte_if bytes true at) (tested_byte_is_field (ltb 0))
     (field_gives 1 first_of (ltb 0) (omega arith) (λ text len fits passed. record { width = omega (arith, fits 0); none = λ e. absurd cc }))
 some_byte_gives false = record {
-  valid = λ bytes fits at x after e. let zero_is = number_pair 0 x at after e in record { width = omega (arith, zero_is); none = λ _. omega (arith, zero_is) };
+  valid = λ bytes fits at x after e. let zero_is = read_number_injective 0 x at after e in record { width = omega (arith, zero_is); none = λ _. omega (arith, zero_is) };
 }
 
 packed_up_to_gives : (most : ℕ) → Gives (λ n. n ≤ most) (λ bytes at. packed_up_to bytes most at)
@@ -194,43 +194,43 @@ packed_u32_gives = record { valid = λ bytes fits at x after e. omega (arith, (p
 packed_u32_if_gives : (there : Bool) → Gives (λ n. n < 2 ^ 32) (λ bytes at. packed_u32_if bytes there at)
 unfolding packed_u32_if
 packed_u32_if_gives true = record { valid = λ bytes fits at x after e. packed_u32_gives.valid bytes fits at x after e }
-packed_u32_if_gives false = record { valid = λ bytes fits at x after e. omega (arith, number_pair 0 x at after e) }
+packed_u32_if_gives false = record { valid = λ bytes fits at x after e. omega (arith, read_number_injective 0 x at after e) }
 
 -- a head has a nic only if its operation may have one
 abbrev HasRoom : Head → Type 0
 HasRoom h = (h.has_nic ≡ false) ⊎ (most_nic h.form ≡ 255)
 
-nic_of : (kind flags : ℕ) → 0 < kind → most_nic (form_of kind flags) ≡ 255
-nic_of zero flags some = absurd (omega (arith, some))
-nic_of (suc zero) flags some = refl
-nic_of (suc (suc k)) flags some = refl
+most_nic_of_message : (kind flags : ℕ) → 0 < kind → most_nic (form_of kind flags) ≡ 255
+most_nic_of_message zero flags some = absurd (omega (arith, some))
+most_nic_of_message (suc zero) flags some = refl
+most_nic_of_message (suc (suc k)) flags some = refl
 
-leb_over : (m n : ℕ) → n < m → leb m n ≡ false
-leb_over m n h = grind (arith, nat_tests)
+leb_false_if_greater : (m n : ℕ) → n < m → leb m n ≡ false
+leb_false_if_greater m n h = grind (arith, nat_tests)
 
 has_room : (head : ℕ) → IsHead head → HasRoom (head_of head)
 has_room head good = go (ltb head 32) refl good.nic_fits
   where
     go : (b : Bool) → ltb head 32 ≡ b → (b || ltb 0 (head % 4)) ≡ true → HasRoom (head_of head)
-    go true is e = inl (leb_over 32 head (short_is head 32 is))
-    go false is e = inr (nic_of (head % 4) (head / 4 % 4) (short_is 0 (head % 4) e))
+    go true is e = inl (leb_false_if_greater 32 head (less_from_ltb head 32 is))
+    go false is e = inr (most_nic_of_message (head % 4) (head / 4 % 4) (less_from_ltb 0 (head % 4) e))
 
 head_gives : Gives HasRoom head_at
 unfolding head_at head_byte_at then give
 head_gives =
     gives_as _ head_at (λ bytes at. refl)
     (gives_then {V = λ head. is_head head ≡ true} {P = λ bytes at. byte_at bytes at >>= λ x. allow (is_head x.0) at x}
-    (gives_as (field 1 first_of is_head) (λ bytes at. byte_at bytes at >>= λ x. allow (is_head x.0) at x) (byte_test is_head) (field_gives 1 first_of is_head (omega arith) (λ text len fits passed. passed)))
-    (λ head passed. gives_it {V = HasRoom} (head_of head) (has_room head (head_is head passed))))
+    (gives_as (field 1 first_of is_head) (λ bytes at. byte_at bytes at >>= λ x. allow (is_head x.0) at x) (tested_byte_is_field is_head) (field_gives 1 first_of is_head (omega arith) (λ text len fits passed. passed)))
+    (λ head passed. give_gives {V = HasRoom} (head_of head) (has_room head (is_head_sound head passed))))
 
-nic_room : (h : Head) (nic : ℕ) → HasRoom h → IsThere h.has_nic 8 nic → nic ≤ most_nic h.form
-nic_room h nic (inl none) n = omega (arith, n.none none)
-nic_room h nic (inr some) n = omega (arith, some, n.width)
+nic_within_form_of_head : (h : Head) (nic : ℕ) → HasRoom h → IsThere h.has_nic 8 nic → nic ≤ most_nic h.form
+nic_within_form_of_head h nic (inl none) n = omega (arith, n.none none)
+nic_within_form_of_head h nic (inr some) n = omega (arith, some, n.width)
 
-size_room : (f : OpForm) (size : ℕ) → size ≤ most_size f → size < 2 ^ 64
-size_room form.Calc size h = omega (arith, h)
-size_room form.Send size h = omega (arith, h)
-size_room (form.Recv any_source any_tag) size h = omega (arith, h)
+size_of_form_below_2_64 : (f : OpForm) (size : ℕ) → size ≤ most_size f → size < 2 ^ 64
+size_of_form_below_2_64 form.Calc size h = omega (arith, h)
+size_of_form_below_2_64 form.Send size h = omega (arith, h)
+size_of_form_below_2_64 (form.Recv any_source any_tag) size h = omega (arith, h)
 
 packed_op_gives : Gives OpFits packed_op_at
 unfolding packed_op_at then give made_op
@@ -242,8 +242,8 @@ packed_op_gives =
     gives_then (packed_u32_if_gives (has_peer h.form)) (λ peer p.
     gives_then (packed_u32_if_gives (has_tag h.form)) (λ tag t.
     gives_then (packed_up_to_gives (most_size h.form)) (λ size s.
-    gives_it {V = OpFits} (made_op h.form peer tag size cpu nic) (op_fits h.form peer tag size cpu nic
-    (record { nic_below = nic_room h nic room n; nic_width = n.width; cpu_width = c.width; peer_width = p; tag_width = t; size_below = s; size_width = size_room h.form size s })))))))))
+    give_gives {V = OpFits} (made_op h.form peer tag size cpu nic) (op_fits h.form peer tag size cpu nic
+    (record { nic_below = nic_within_form_of_head h nic room n; nic_width = n.width; cpu_width = c.width; peer_width = p; tag_width = t; size_below = s; size_width = size_of_form_below_2_64 h.form size s })))))))))
 
 packed_dep_gives : Gives DepFits packed_dep_at
 unfolding packed_dep_at then give
@@ -251,7 +251,7 @@ packed_dep_gives =
     gives_as _ packed_dep_at (λ bytes at. refl)
     (gives_then packed_u32_gives (λ later l.
     gives_then (packed_up_to_gives 8589934591) (λ number e.
-    gives_it {V = DepFits} (halved_dep later number) (record { later = l; earlier = omega (arith, e) }))))
+    give_gives {V = DepFits} (halved_dep later number) (record { later = l; earlier = omega (arith, e) }))))
 
 packed_note_gives : Gives IsNoteInWidth packed_note_at
 unfolding packed_note_at then give
@@ -261,7 +261,7 @@ packed_note_gives =
     gives_then packed_u32_gives (λ op a.
     gives_then packed_u32_gives (λ first b.
     gives_then packed_u32_gives (λ second c.
-    gives_it {V = IsNoteInWidth} (note_of kind op first second) (note_fits kind op first second a b c))))))
+    give_gives {V = IsNoteInWidth} (note_of kind op first second) (note_fits kind op first second a b c))))))
 
 -- in each layout
 op_gives : (l : Layout) → Gives OpFits (λ bytes at. op_at bytes l at)
@@ -281,12 +281,12 @@ note_gives Packed = gives_as packed_note_at (λ bytes at. note_at bytes Packed a
 
 list_gives : {A : Type 0} (V : A → Type 0) (item : Reader A) → Gives V item → (n : ℕ) → Gives (AllByRecursion V) (list_of item n)
 unfolding list_at then give
-list_gives {A = A} V item gives zero = gives_as _ (list_of item zero) (λ bytes at. refl) (gives_it {V = AllByRecursion V} [] tt)
+list_gives {A = A} V item gives zero = gives_as _ (list_of item zero) (λ bytes at. refl) (give_gives {V = AllByRecursion V} [] tt)
 list_gives {A = A} V item gives (suc n) =
     gives_as _ (list_of item (suc n)) (λ bytes at. refl)
     (gives_then gives (λ x v.
     gives_then (list_gives V item gives n) (λ xs vs.
-    gives_it {V = AllByRecursion V} (x ∷ xs) (v, vs))))
+    give_gives {V = AllByRecursion V} (x ∷ xs) (v, vs))))
 
 rank_gives : (l : Layout) (ops deps notes : ℕ) → Gives PlanFits (λ bytes at. rank_at bytes l ops deps notes at)
 unfolding rank_at then give
@@ -298,7 +298,7 @@ rank_gives l ops deps notes =
     gives_then (list_gives OpFits (λ bytes at. op_at bytes l at) (op_gives l) op_number) (λ op_list os.
     gives_then (list_gives DepFits (λ bytes at. dep_at bytes l at) (dep_gives l) dep_number) (λ dep_list ds.
     gives_then (list_gives IsNoteInWidth (λ bytes at. note_at bytes l at) (note_gives l) note_number) (λ note_list ns.
-    gives_it {V = PlanFits} (made_plan op_list dep_list note_list) (record {
+    give_gives {V = PlanFits} (made_plan op_list dep_list note_list) (record {
       ops = All-from_recursion OpFits op_list os;
       deps = All-from_recursion DepFits dep_list ds;
       notes = All-from_recursion IsNoteInWidth note_list ns;
@@ -309,12 +309,12 @@ all_plans_push before p all fits = All-append PlanFits before (p ∷ []) all (Al
 
 ranks_give : (l : Layout) (n : ℕ) (before : List Plan) → All PlanFits before → Gives (All PlanFits) (λ bytes at. ranks_at bytes l n before at)
 unfolding ranks_at then give
-ranks_give l zero before all = gives_as _ (λ bytes at. ranks_at bytes l zero before at) (λ bytes at. refl) (gives_it {V = All PlanFits} before all)
+ranks_give l zero before all = gives_as _ (λ bytes at. ranks_at bytes l zero before at) (λ bytes at. refl) (give_gives {V = All PlanFits} before all)
 ranks_give l (suc n) before all =
     gives_as _ (λ bytes at. ranks_at bytes l (suc n) before at) (λ bytes at. refl)
     (gives_then (rank_gives l (op_count before) (dep_count before) (note_count before)) (λ p fits. ranks_give l n (before ++ p ∷ []) (all_plans_push before p all fits)))
 
 pub body_gives : (l : Layout) → Gives (All PlanFits) (body l)
 body_gives l =
-    gives_as (then (λ bytes at. rank_count_at bytes l at) (λ n bytes at. ranks_at bytes l n [] at)) (body l) (body_is l)
+    gives_as (then (λ bytes at. rank_count_at bytes l at) (λ n bytes at. ranks_at bytes l n [] at)) (body l) (records_are_count_then_ranks l)
     (gives_then (gives_any (λ bytes at. rank_count_at bytes l at)) (λ n _. ranks_give l n [] (All-from_recursion PlanFits [] tt)))

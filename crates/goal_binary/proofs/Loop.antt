@@ -9,9 +9,9 @@ use Rattle.goal_binary.specs.Reading.{list_at}
 abbrev pub with_front : {A : Type 0} → List A → Read (List A) → Read (List A)
 with_front front read = read >>= λ x. Ok (front ++ x.0, x.1)
 
-regroup : {A : Type 0} (front : List A) (x : A) (read : Read (List A)) → with_front front (read >>= λ xs. Ok (x ∷ xs.0, xs.1)) ≡ with_front (front ++ x ∷ []) read
-regroup front x (Ok xs) = ap (λ ys. Ok (ys, xs.1)) (simp append_assoc)
-regroup front x (Err f) = refl
+front_takes_next_item : {A : Type 0} (front : List A) (x : A) (read : Read (List A)) → with_front front (read >>= λ xs. Ok (x ∷ xs.0, xs.1)) ≡ with_front (front ++ x ∷ []) read
+front_takes_next_item front x (Ok xs) = ap (λ ys. Ok (ys, xs.1)) (simp append_assoc)
+front_takes_next_item front x (Err f) = refl
 
 module _ {A : Type 0} (item_at : ℕ → Read A) where
   pub goes_on : (front : List A) (count i at : ℕ) (x : A) (after : ℕ) (total : Read (List A)) → i < count → item_at at ≡ Ok (x, after)
@@ -19,7 +19,7 @@ module _ {A : Type 0} (item_at : ℕ → Read A) where
   unfolding list_at
   goes_on front count i at x after total lt h so_far =
       let k : count - i ≡ suc (count - (i + 1)) = omega arith in
-      let one : with_front front (list_at item_at (count - i) at) ≡ with_front (front ++ x ∷ []) (list_at item_at (count - (i + 1)) after) = rw (k, h) (regroup front x (list_at item_at (count - (i + 1)) after)) in
+      let one : with_front front (list_at item_at (count - i) at) ≡ with_front (front ++ x ∷ []) (list_at item_at (count - (i + 1)) after) = rw (k, h) (front_takes_next_item front x (list_at item_at (count - (i + 1)) after)) in
       sym one ∙ so_far
 
   pub ends : (f : FileFault) (front : List A) (count i at : ℕ) (total : Read (List A)) → i < count → item_at at ≡ Err f

@@ -17,8 +17,8 @@ keep_limits : (plans : List Plan) → HaveFile plans → AreWithinLimits plans
 keep_limits plans fits = record { counts = fits.counts; values = λ k d below n e within. ((fits.ranks k d below).ops n e within).value }
 
 module _ (bytes : List ℕ) (fits : IsBytes bytes) where
-  of_file : (f : FileFault) → IsFileFault bytes f → IsLimitFault f → ⊥
-  of_file f told limit = go (meaning bytes) refl f told limit
+  file_fault_is_no_limit_fault : (f : FileFault) → IsFileFault bytes f → IsLimitFault f → ⊥
+  file_fault_is_no_limit_fault f told limit = go (meaning bytes) refl f told limit
     where
       of_bytes : (f : FileFault) → IsTrueOf bytes f → IsLimitFault f → ⊥
       of_bytes (fault.Plan rule) true_so limit = true_so
@@ -39,6 +39,6 @@ module _ (bytes : List ℕ) (fits : IsBytes bytes) where
       go (Ok plans) means (fault.Extra at) told limit = told
       go (Ok plans) means fault.NoMemory told limit = told
 
-  pub no_limit : (r : Result (List Plan) FileFault) → IfErr r (λ f. f ≢ fault.NoMemory → IsFileFault bytes f) → IfErr r (λ f. IsLimitFault f → ⊥)
-  no_limit (Ok plans) told = tt
-  no_limit (Err f) told = λ limit. of_file f (told (λ same. subst IsLimitFault same limit)) limit
+  pub reading_gives_no_limit_fault : (r : Result (List Plan) FileFault) → IfErr r (λ f. f ≢ fault.NoMemory → IsFileFault bytes f) → IfErr r (λ f. IsLimitFault f → ⊥)
+  reading_gives_no_limit_fault (Ok plans) told = tt
+  reading_gives_no_limit_fault (Err f) told = λ limit. file_fault_is_no_limit_fault f (told (λ same. subst IsLimitFault same limit)) limit

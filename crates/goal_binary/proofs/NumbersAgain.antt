@@ -11,9 +11,9 @@ use Rattle.goal_binary.specs.Fields.{named, packed_up_to, number_at, count_at, l
 use Rattle.goal_binary.proofs.FieldsAgain.{IsReadAs, lt-ltb-true, u32_again, magic_again}
 use Rattle.goal_binary.proofs.Packed.{packed_again}
 
-version_again : (l : Layout) → layout_of (version_of l) ≡ Some l
-version_again Fixed = refl
-version_again Packed = refl
+layout_of-version_of : (l : Layout) → layout_of (version_of l) ≡ Some l
+layout_of-version_of Fixed = refl
+layout_of-version_of Packed = refl
 
 version_fits : (l : Layout) → version_of l < 2 ^ 32
 version_fits Fixed = omega arith
@@ -49,6 +49,6 @@ module _ (bytes : List ℕ) where
       let v = u32_again bytes 8 (version_of l) rest (version_fits l) (ap (drop 8) h) in
       record {
         place = v.place;
-        is = rw (magic_again bytes _ h, v.is) (ap (λ (o : Option Layout). named (version_of l) o v.place) (version_again l));
+        is = rw (magic_again bytes _ h, v.is) (ap (λ (o : Option Layout). named (version_of l) o v.place) (layout_of-version_of l));
         rest_is = v.rest_is;
       }

@@ -12,7 +12,7 @@ use Rattle.goal_binary.specs.Fields.{Read, ◌>>=◌, allow, given, groups_at, u
 use Rattle.goal_binary.proofs.Steps.{IsBytes, bind_ok, allow_ok}
 use Rattle.goal_binary.proofs.FieldsTaken.{leb-le}
 use Rattle.goal_binary.proofs.Readers.{Reader, Completed, Halts, ReadStop, Reads, reads_as}
-use Rattle.goal_binary.proofs.FieldsRead.{pair, short_is, error_is, u32_tested_reads}
+use Rattle.goal_binary.proofs.FieldsRead.{pair, less_from_ltb, fault_of_injective, u32_tested_reads}
 use Rattle.goal_binary.proofs.Packed.{read_of, field_ends, groups_again-low, groups_cut, groups_same, packed_ok}
 
 -- a packed number that passes a test
@@ -22,9 +22,9 @@ tested_number test bytes at = packed_at bytes at >>= λ x. allow (test x.0) at x
 abbrev test_result : (ℕ → Bool) → ℕ → Read (Option ℕ) → Read ℕ
 test_result test at read = (read >>= λ number. given at number.0 number.1) >>= λ x. allow (test x.0) at x
 
-tested_is : (test : ℕ → Bool) (bytes : List ℕ) (at : ℕ) → tested_number test bytes at ≡ test_result test at (groups_at bytes 10 at)
+tested_number_is_test_result : (test : ℕ → Bool) (bytes : List ℕ) (at : ℕ) → tested_number test bytes at ≡ test_result test at (groups_at bytes 10 at)
 unfolding packed_at
-tested_is test bytes at = refl
+tested_number_is_test_result test bytes at = refl
 
 -- the number is whole and passes
 record Passes (test : ℕ → Bool) (bytes : List ℕ) (at x after : ℕ) : Type 0 where
@@ -38,22 +38,22 @@ passes_from test bytes at x after e =
     let found = subst (λ (y : ℕ × ℕ). (packed_at bytes at ≡ Ok y) × (test y.0 ≡ true)) t.1 (a.1, t.0) in
     record { read = (packed_ok bytes at (x, after) found.0).read; passed = found.1 }
 
-passes_is : (test : ℕ → Bool) (bytes : List ℕ) (at x after : ℕ) → Passes test bytes at x after → tested_number test bytes at ≡ Ok (x, after)
-passes_is test bytes at x after p =
-    tested_is test bytes at ∙ ap (test_result test at) p.read ∙ ap (λ (b : Bool). allow b at (pair x after)) p.passed
+passing_number_is_read : (test : ℕ → Bool) (bytes : List ℕ) (at x after : ℕ) → Passes test bytes at x after → tested_number test bytes at ≡ Ok (x, after)
+passing_number_is_read test bytes at x after p =
+    tested_number_is_test_result test bytes at ∙ ap (test_result test at) p.read ∙ ap (λ (b : Bool). allow b at (pair x after)) p.passed
 
 -- a whole field whose number does not pass
 abbrev Fails : (ℕ → Bool) → Option ℕ → Type 0
 Fails test None = Unit {0}
 Fails test (Some n) = test n ≡ false
 
-fails_is : (test : ℕ → Bool) (at : ℕ) (v : Option ℕ) (after : ℕ) → Fails test v → test_result test at (Ok (read_of v after)) ≡ Err (Field at)
-fails_is test at None after fails = refl
-fails_is test at (Some n) after fails = ap (λ (b : Bool). allow b at (pair n after)) fails
+failing_number_is_field_fault : (test : ℕ → Bool) (at : ℕ) (v : Option ℕ) (after : ℕ) → Fails test v → test_result test at (Ok (read_of v after)) ≡ Err (Field at)
+failing_number_is_field_fault test at None after fails = refl
+failing_number_is_field_fault test at (Some n) after fails = ap (λ (b : Bool). allow b at (pair n after)) fails
 
 module _ {V : ℕ → Type 0} (test : ℕ → Bool) (valid : (n : ℕ) → test n ≡ true → V n) (first : ℕ) (low : first < 128) (first_passes : test first ≡ true) where
-  first_fits : IsBytes (first ∷ [])
-  first_fits i = grind (arith, low)
+  first_byte_is_bytes : IsBytes (first ∷ [])
+  first_byte_is_bytes i = grind (arith, low)
 
   number_completed : (at : ℕ) (front : List ℕ) → length front ≡ at → Completed (tested_number test) at front
   number_completed at front len =
@@ -64,13 +64,13 @@ module _ {V : ℕ → Type 0} (test : ℕ → Bool) (valid : (n : ℕ) → test 
       let place : r.place ≡ length bytes = omega (arith, rest, ap length r.rest_is, ends.inside) in
       record {
         tail = first ∷ [];
-        fits = first_fits;
+        fits = first_byte_is_bytes;
         value = first;
-        is = passes_is test bytes at first r.place (record { read = r.is; passed = first_passes }) ∙ ap (λ (p : ℕ). Ok (first, p)) place;
+        is = passing_number_is_read test bytes at first r.place (record { read = r.is; passed = first_passes }) ∙ ap (λ (p : ℕ). Ok (first, p)) place;
       }
 
   number_stops : (bytes : List ℕ) (at : ℕ) (fault : FileFault) → at ≤ length bytes → tested_number test bytes at ≡ Err fault → ReadStop Packed (tested_number test) bytes at fault
-  number_stops bytes at fault le e = go (groups_at bytes 10 at) refl (sym (tested_is test bytes at) ∙ e)
+  number_stops bytes at fault le e = go (groups_at bytes 10 at) refl (sym (tested_number_is_test_result test bytes at) ∙ e)
     where
       front_len : length (take at bytes) ≡ at
       front_len = omega (arith, length-take at bytes, le)
@@ -87,18 +87,18 @@ module _ {V : ℕ → Type 0} (test : ℕ → Bool) (valid : (n : ℕ) → test 
             omega (arith, place, ends.inside),
             λ other same.
                 let alike : take after other ≡ take after bytes = subst (λ (n : ℕ). take n other ≡ take n bytes) place same in
-                tested_is test other at ∙ ap (test_result test at) (groups_same bytes other 10 at v after le is alike) ∙ fails_is test at v after fails,
+                tested_number_is_test_result test other at ∙ ap (test_result test at) (groups_same bytes other 10 at v after le is alike) ∙ failing_number_is_field_fault test at v after fails,
           )
 
       decided : (n after : ℕ) (b : Bool) → test n ≡ b → groups_at bytes 10 at ≡ Ok (read_of (Some n) after) → allow b at (pair n after) ≡ Err fault → ReadStop Packed (tested_number test) bytes at fault
       decided n after true passed is e = absurd cc
-      decided n after false passed is e = subst (λ (f : FileFault). ReadStop Packed (tested_number test) bytes at f) (error_is (Field at) fault e) (bad (Some n) after is passed)
+      decided n after false passed is e = subst (λ (f : FileFault). ReadStop Packed (tested_number test) bytes at f) (fault_of_injective (Field at) fault e) (bad (Some n) after is passed)
 
       go : (r : Read (Option ℕ)) → groups_at bytes 10 at ≡ r → test_result test at r ≡ Err fault → ReadStop Packed (tested_number test) bytes at fault
       go (Err d) is e =
           let cut = groups_cut bytes 10 at d le is in
-          subst (λ (f : FileFault). ReadStop Packed (tested_number test) bytes at f) (cut.0 ∙ error_is d fault e) (made 10 (Short (length bytes)) (omega arith, omega arith) (refl, cut.1))
-      go (Ok (None, after)) is e = subst (λ (f : FileFault). ReadStop Packed (tested_number test) bytes at f) (error_is (Field at) fault e) (bad None after is tt)
+          subst (λ (f : FileFault). ReadStop Packed (tested_number test) bytes at f) (cut.0 ∙ fault_of_injective d fault e) (made 10 (Short (length bytes)) (omega arith, omega arith) (refl, cut.1))
+      go (Ok (None, after)) is e = subst (λ (f : FileFault). ReadStop Packed (tested_number test) bytes at f) (fault_of_injective (Field at) fault e) (bad None after is tt)
       go (Ok (Some n, after)) is e = decided n after (test n) refl is e
 
   pub tested_reads : Reads Packed V (tested_number test)
@@ -109,7 +109,7 @@ module _ {V : ℕ → Type 0} (test : ℕ → Bool) (valid : (n : ℕ) → test 
         (omega (arith, ends.from), ends.inside, valid x p.passed);
     same = λ bytes other at x after le e same.
         let p = passes_from test bytes at x after e in
-        passes_is test other at x after (record { read = groups_same bytes other 10 at (Some x) after le p.read same; passed = p.passed });
+        passing_number_is_read test other at x after (record { read = groups_same bytes other 10 at (Some x) after le p.read same; passed = p.passed });
     starts = λ front. number_completed (length front) front refl;
     stops = number_stops;
   }
@@ -150,6 +150,6 @@ rank_count_reads l =
     let fits : ℕ → Bool = λ n. leb n MAX_RANKS && ltb 0 n in
     reads_as (λ bytes at. number_at bytes l at >>= λ x. allow (fits x.0) at x) (λ bytes at. rank_count_at bytes l at) (λ bytes at. refl)
     (number_reads l fits (λ n passed. record {
-      some = short_is 0 n (and_right (leb n MAX_RANKS) (ltb 0 n) passed);
+      some = less_from_ltb 0 n (and_right (leb n MAX_RANKS) (ltb 0 n) passed);
       within = leb-le n MAX_RANKS (and_left (leb n MAX_RANKS) (ltb 0 n) passed);
     }) (inr refl))

@@ -12,13 +12,13 @@ use Rattle.goal_binary.proofs.FieldsTaken.{u32_taken, magic_taken, up_to_ok}
 use Rattle.goal_binary.proofs.Packed.{packed_taken}
 
 -- the layout of a version has that version
-pub named_so : (n : ℕ) (l : Layout) → layout_of n ≡ Some l → version_of l ≡ n
-named_so zero l e = absurd cc
-named_so (suc zero) Fixed e = refl
-named_so (suc zero) Packed e = absurd cc
-named_so (suc (suc zero)) Fixed e = absurd cc
-named_so (suc (suc zero)) Packed e = refl
-named_so (suc (suc (suc n))) l e = absurd cc
+pub version_of_named_layout : (n : ℕ) (l : Layout) → layout_of n ≡ Some l → version_of l ≡ n
+version_of_named_layout zero l e = absurd cc
+version_of_named_layout (suc zero) Fixed e = refl
+version_of_named_layout (suc zero) Packed e = absurd cc
+version_of_named_layout (suc (suc zero)) Fixed e = absurd cc
+version_of_named_layout (suc (suc zero)) Packed e = refl
+version_of_named_layout (suc (suc (suc n))) l e = absurd cc
 
 abbrev layout_pair : Layout → ℕ → Layout × ℕ
 layout_pair l at = (l, at)
@@ -56,7 +56,7 @@ module _ (bytes : List ℕ) where
         go n None is e t = absurd cc
         go n (Some l) is e t =
             subst (λ (y : Layout × ℕ). Takes bytes at (spelled_u32 (version_of y.0)) y.1) (ok_injective (layout_pair l n.1) x e)
-            (subst (λ (v : ℕ). Takes bytes at (spelled_u32 v) n.1) (sym (named_so n.0 l is)) t)
+            (subst (λ (v : ℕ). Takes bytes at (spelled_u32 v) n.1) (sym (version_of_named_layout n.0 l is)) t)
 
     pub opening_taken : (x : Layout × ℕ) → opening_at bytes ≡ Ok x → Takes bytes 0 (MAGIC ++ spelled_u32 (version_of x.0)) x.1
     unfolding opening_at

@@ -19,18 +19,18 @@ use Rattle.goal_binary.specs.Laws.{IsOtherMagic, IsOtherVersion}
 use Rattle.goal_binary.proofs.Steps.{IsBytes}
 use Rattle.goal_binary.proofs.FieldsTaken.{IsBytes-drop, IsBytes-take}
 use Rattle.goal_binary.proofs.FieldsRead.{value_32}
-use Rattle.goal_binary.proofs.NumbersTaken.{named_so}
+use Rattle.goal_binary.proofs.NumbersTaken.{version_of_named_layout}
 use Rattle.goal_binary.proofs.RanksRead.{body}
 
 -- both, as bytes
 abbrev pub front_bytes : Layout → List ℕ
 front_bytes l = MAGIC ++ spelled_u32 (version_of l)
 
-pub plans_is : (bytes : List ℕ) → plans_at bytes ≡ (opening_at bytes >>= λ layout. body layout.0 bytes layout.1)
+pub plans_at_is_opening_then_body : (bytes : List ℕ) → plans_at bytes ≡ (opening_at bytes >>= λ layout. body layout.0 bytes layout.1)
 unfolding plans_at
-plans_is bytes = refl
+plans_at_is_opening_then_body bytes = refl
 
--- bytes that begin so
+-- bytes that begin with the first twelve bytes of a file in this layout
 pub record IsOpened (l : Layout) (bytes : List ℕ) : Type 0 where
   pub whole : 12 ≤ length bytes
   pub front : take 12 bytes ≡ front_bytes l
@@ -51,9 +51,9 @@ pub record Closed (bytes : List ℕ) : Type 0 where
   pub is : opening_at bytes ≡ Err fault
   pub why : IsClosed bytes fault
 
-magic_is : (bytes : List ℕ) → 8 ≤ length bytes → take 8 bytes ≡ MAGIC → magic_at bytes ≡ Ok 8
+matching_magic_is_read : (bytes : List ℕ) → 8 ≤ length bytes → take 8 bytes ≡ MAGIC → magic_at bytes ≡ Ok 8
 unfolding magic_at
-magic_is bytes long same =
+matching_magic_is_read bytes long same =
     let there : ltb (length bytes) 8 ≡ false = le-ltb _ _ long in
     let equal : bytes_eq MAGIC (take 8 bytes) ≡ true = (bytes_eq-Decides MAGIC (take 8 bytes)).1 (sym same) in
     rw (there, equal) refl
@@ -62,15 +62,15 @@ magic_is bytes long same =
 abbrev version_in : List ℕ → ℕ
 version_in bytes = value_32 (take 4 (drop 8 bytes))
 
-version_is : (bytes : List ℕ) → 12 ≤ length bytes → (o : Option Layout) → layout_of (version_in bytes) ≡ o → layout_at bytes 8 ≡ named (version_in bytes) o 12
+layout_read_from_version : (bytes : List ℕ) → 12 ≤ length bytes → (o : Option Layout) → layout_of (version_in bytes) ≡ o → layout_at bytes 8 ≡ named (version_in bytes) o 12
 unfolding layout_at u32_at
-version_is bytes long o is =
+layout_read_from_version bytes long o is =
     let there : ltb (length bytes - 8) 4 ≡ false = le-ltb _ _ (omega arith) in
     rw (there, is) refl
 
-opens_so : (bytes : List ℕ) → 8 ≤ length bytes → take 8 bytes ≡ MAGIC → opening_at bytes ≡ layout_at bytes 8
+opening_after_magic : (bytes : List ℕ) → 8 ≤ length bytes → take 8 bytes ≡ MAGIC → opening_at bytes ≡ layout_at bytes 8
 unfolding opening_at
-opens_so bytes long magic = ap (λ (r : Result ℕ FileFault). r >>= λ m. layout_at bytes m) (magic_is bytes long magic)
+opening_after_magic bytes long magic = ap (λ (r : Result ℕ FileFault). r >>= λ m. layout_at bytes m) (matching_magic_is_read bytes long magic)
 
 -- the first twelve bytes in two parts
 front_parts : (bytes : List ℕ) → take 12 bytes ≡ take 8 bytes ++ take 4 (drop 8 bytes)
@@ -89,63 +89,63 @@ version_front : (l : Layout) → drop 8 (front_bytes l) ≡ spelled_u32 (version
 version_front Fixed = refl
 version_front Packed = refl
 
-pub opened_is : (l : Layout) (bytes : List ℕ) → IsOpened l bytes → opening_at bytes ≡ Ok (l, 12)
-opened_is l bytes open_so =
+pub opening_of_opened_bytes : (l : Layout) (bytes : List ℕ) → IsOpened l bytes → opening_at bytes ≡ Ok (l, 12)
+opening_of_opened_bytes l bytes open_so =
     let magic : take 8 bytes ≡ MAGIC = sym (take-take 8 12 bytes (omega arith)) ∙ ap (take 8) open_so.front ∙ magic_front l in
     let number : take 4 (drop 8 bytes) ≡ spelled_u32 (version_of l) = sym (drop-take 8 4 bytes) ∙ ap (drop 8) open_so.front ∙ version_front l in
     let layout : layout_of (version_in bytes) ≡ Some l = ap (λ (text : List ℕ). layout_of (value_32 text)) number ∙ version_value l in
-    opens_so bytes (omega (arith, open_so.whole)) magic ∙ version_is bytes open_so.whole (Some l) layout
+    opening_after_magic bytes (omega (arith, open_so.whole)) magic ∙ layout_read_from_version bytes open_so.whole (Some l) layout
 
 module _ (bytes : List ℕ) (fits : IsBytes bytes) where
-  number_spelled : 12 ≤ length bytes → take 4 (drop 8 bytes) ≡ spelled_u32 (version_in bytes)
-  number_spelled long =
+  version_bytes_are_spelled : 12 ≤ length bytes → take 4 (drop 8 bytes) ≡ spelled_u32 (version_in bytes)
+  version_bytes_are_spelled long =
       let text = take 4 (drop 8 bytes) in
       let len : length text ≡ 4 = omega (arith, length-take 4 (drop 8 bytes), length-drop 8 bytes) in
       sym (le_bytes_4 text (value_32 text) len (IsBytes-take 4 (drop 8 bytes) (IsBytes-drop 8 bytes fits)) refl)
 
-  too_short : length bytes < 8 → Closed bytes
+  closed_if_too_short : length bytes < 8 → Closed bytes
   unfolding opening_at magic_at
-  too_short less =
+  closed_if_too_short less =
       let short : ltb (length bytes) 8 ≡ true = lt-ltb _ _ less in
       record { fault = Short (length bytes); is = rw short refl; why = (refl, inl less) }
 
-  no_magic : 8 ≤ length bytes → bytes_eq MAGIC (take 8 bytes) ≡ false → (MAGIC ≡ take 8 bytes → ⊥) → Closed bytes
+  closed_without_magic : 8 ≤ length bytes → bytes_eq MAGIC (take 8 bytes) ≡ false → (MAGIC ≡ take 8 bytes → ⊥) → Closed bytes
   unfolding opening_at magic_at
-  no_magic long is other =
+  closed_without_magic long is other =
       let there : ltb (length bytes) 8 ≡ false = le-ltb _ _ long in
       record { fault = Magic; is = rw (there, is) refl; why = record { whole = long; other = λ same. other (sym same) } }
 
-  no_version : 8 ≤ length bytes → take 8 bytes ≡ MAGIC → length bytes < 12 → Closed bytes
+  closed_without_version : 8 ≤ length bytes → take 8 bytes ≡ MAGIC → length bytes < 12 → Closed bytes
   unfolding layout_at u32_at
-  no_version long magic less =
+  closed_without_version long magic less =
       let short : ltb (length bytes - 8) 4 ≡ true = lt-ltb _ _ (omega arith) in
-      record { fault = Short (length bytes); is = opens_so bytes long magic ∙ rw short refl; why = (refl, inr (magic, long, less)) }
+      record { fault = Short (length bytes); is = opening_after_magic bytes long magic ∙ rw short refl; why = (refl, inr (magic, long, less)) }
 
-  by_version : 12 ≤ length bytes → take 8 bytes ≡ MAGIC → (o : Option Layout) → layout_of (version_in bytes) ≡ o → Opened bytes ⊎ Closed bytes
-  by_version long magic (Some l) is =
-      let number : take 4 (drop 8 bytes) ≡ spelled_u32 (version_of l) = number_spelled long ∙ ap spelled_u32 (sym (named_so (version_in bytes) l is)) in
+  opened_or_closed_by_version : 12 ≤ length bytes → take 8 bytes ≡ MAGIC → (o : Option Layout) → layout_of (version_in bytes) ≡ o → Opened bytes ⊎ Closed bytes
+  opened_or_closed_by_version long magic (Some l) is =
+      let number : take 4 (drop 8 bytes) ≡ spelled_u32 (version_of l) = version_bytes_are_spelled long ∙ ap spelled_u32 (sym (version_of_named_layout (version_in bytes) l is)) in
       inl (record {
         layout = l;
         is = record { whole = long; front = front_parts bytes ∙ ap (λ (xs : List ℕ). xs ++ take 4 (drop 8 bytes)) magic ∙ ap (λ (xs : List ℕ). MAGIC ++ xs) number };
       })
-  by_version long magic None is =
+  opened_or_closed_by_version long magic None is =
       inr (record {
         fault = Version (version_in bytes);
-        is = opens_so bytes (omega (arith, long)) magic ∙ version_is bytes long None is;
-        why = record { magic = magic; whole = long; is = number_spelled long; other = is };
+        is = opening_after_magic bytes (omega (arith, long)) magic ∙ layout_read_from_version bytes long None is;
+        why = record { magic = magic; whole = long; is = version_bytes_are_spelled long; other = is };
       })
 
-  by_magic : 8 ≤ length bytes → (b : Bool) → bytes_eq MAGIC (take 8 bytes) ≡ b → Decides b (MAGIC ≡ take 8 bytes) → Opened bytes ⊎ Closed bytes
-  by_magic long false is decides = inr (no_magic long is (λ same. let e = decides.1 same in absurd cc))
-  by_magic long true is decides =
+  opened_or_closed_by_magic : 8 ≤ length bytes → (b : Bool) → bytes_eq MAGIC (take 8 bytes) ≡ b → Decides b (MAGIC ≡ take 8 bytes) → Opened bytes ⊎ Closed bytes
+  opened_or_closed_by_magic long false is decides = inr (closed_without_magic long is (λ same. let e = decides.1 same in absurd cc))
+  opened_or_closed_by_magic long true is decides =
       elim (cases_lt (length bytes) 12) [
-        | inl less ↦ inr (no_version long (sym (decides.0 refl)) less)
-        | inr le ↦ by_version le (sym (decides.0 refl)) (layout_of (version_in bytes)) refl
+        | inl less ↦ inr (closed_without_version long (sym (decides.0 refl)) less)
+        | inr le ↦ opened_or_closed_by_version le (sym (decides.0 refl)) (layout_of (version_in bytes)) refl
       ]
 
   pub open_or_closed : Opened bytes ⊎ Closed bytes
   open_or_closed =
       elim (cases_lt (length bytes) 8) [
-        | inl less ↦ inr (too_short less)
-        | inr le ↦ by_magic le (bytes_eq MAGIC (take 8 bytes)) refl (bytes_eq-Decides MAGIC (take 8 bytes))
+        | inl less ↦ inr (closed_if_too_short less)
+        | inr le ↦ opened_or_closed_by_magic le (bytes_eq MAGIC (take 8 bytes)) refl (bytes_eq-Decides MAGIC (take 8 bytes))
       ]

@@ -12,14 +12,14 @@ use Rattle.goal_binary.proofs.Steps.{IsBytes, bind_ok, ok_injective, Takes, Take
 use Rattle.goal_binary.proofs.FieldsTaken.{IsBytes-drop, IsBytes-take, byte_taken}
 use Rattle.goal_binary.proofs.FieldsAgain.{IsReadAs, byte_again}
 use Rattle.goal_binary.proofs.Readers.{take-shorter}
-use Rattle.goal_binary.proofs.FieldsRead.{passes_from, first_of, passes_always, byte_is, byte_reads, short_is, error_is}
+use Rattle.goal_binary.proofs.FieldsRead.{passes_from, first_of, passes_always, byte_at_is_field, byte_reads, less_from_ltb, fault_of_injective}
 use Rattle.goal_binary.specs.declared.layout.Layout.TheVariants.{Packed}
 
 abbrev some_of : ℕ → Option ℕ
 some_of n = Some n
 
-some_is : (n v : ℕ) → some_of n ≡ some_of v → n ≡ v
-some_is n v e = cc
+some_of_number_injective : (n v : ℕ) → some_of n ≡ some_of v → n ≡ v
+some_of_number_injective n v e = cc
 
 abbrev pub read_of : Option ℕ → ℕ → Option ℕ × ℕ
 read_of v after = (v, after)
@@ -32,22 +32,22 @@ record IsAbove (group : ℕ) (others : Option ℕ) (v : ℕ) : Type 0 where
   few : n < 2 ^ 57
   whole : v ≡ group + 128 * n
 
-is_above : (group : ℕ) (others : Option ℕ) (v : ℕ) → below group others ≡ some_of v → IsAbove group others v
-is_above group None v e = absurd cc
-is_above group (Some n) v e = go (ltb 0 n && ltb n (2 ^ 57)) refl e
+joined_number_is_above : (group : ℕ) (others : Option ℕ) (v : ℕ) → below group others ≡ some_of v → IsAbove group others v
+joined_number_is_above group None v e = absurd cc
+joined_number_is_above group (Some n) v e = go (ltb 0 n && ltb n (2 ^ 57)) refl e
   where
     go : (b : Bool) → (ltb 0 n && ltb n (2 ^ 57)) ≡ b → cond b (some_of (group + 128 * n)) None ≡ some_of v → IsAbove group (Some n) v
     go true is e = record {
       n = n;
       is = refl;
-      some = short_is 0 n (and_left (ltb 0 n) (ltb n (2 ^ 57)) is);
-      few = short_is n (2 ^ 57) (and_right (ltb 0 n) (ltb n (2 ^ 57)) is);
-      whole = sym (some_is (group + 128 * n) v e);
+      some = less_from_ltb 0 n (and_left (ltb 0 n) (ltb n (2 ^ 57)) is);
+      few = less_from_ltb n (2 ^ 57) (and_right (ltb 0 n) (ltb n (2 ^ 57)) is);
+      whole = sym (some_of_number_injective (group + 128 * n) v e);
     }
     go false is e = absurd cc
 
-above_is : (n : ℕ) → 128 ≤ n → n < 2 ^ 64 → below (128 + n % 128 - 128) (Some (n / 128)) ≡ some_of n
-above_is n high lt =
+group_joined_with_those_above : (n : ℕ) → 128 ≤ n → n < 2 ^ 64 → below (128 + n % 128 - 128) (Some (n / 128)) ≡ some_of n
+group_joined_with_those_above n high lt =
     let some : ltb 0 (n / 128) ≡ true = lt-ltb _ _ (omega arith) in
     let few : ltb (n / 128) (2 ^ 57) ≡ true = lt-ltb _ _ (omega arith) in
     let whole : 128 + n % 128 - 128 + 128 * (n / 128) ≡ n = omega arith in
@@ -56,33 +56,33 @@ above_is n high lt =
 module _ (bytes : List ℕ) where
   byte_place : (at : ℕ) (x : ℕ × ℕ) → byte_at bytes at ≡ Ok x → (x.1 ≡ at + 1) × (at < length bytes)
   byte_place at x e =
-      let p = passes_from 1 first_of passes_always (omega arith) bytes at x.0 x.1 (sym (byte_is bytes at) ∙ e) in
+      let p = passes_from 1 first_of passes_always (omega arith) bytes at x.0 x.1 (sym (byte_at_is_field bytes at) ∙ e) in
       (sym p.after_is, omega (arith, p.room))
 
   byte_missing : (at : ℕ) (f : FileFault) → byte_at bytes at ≡ Err f → (Short (length bytes) ≡ f) × (length bytes ≤ at)
   unfolding byte_at
   byte_missing at f e = elim (cases_lt at (length bytes)) [
     | inl inside ↦ let there = sym (ap (byte_or_short bytes at) (slice_get-get_or bytes at 0 inside)) ∙ e in absurd cc
-    | inr past ↦ (error_is (Short (length bytes)) f (sym (ap (byte_or_short bytes at) (slice_get_past bytes at past)) ∙ e), past)
+    | inr past ↦ (fault_of_injective (Short (length bytes)) f (sym (ap (byte_or_short bytes at) (slice_get_past bytes at past)) ∙ e), past)
   ]
 
 abbrev option_fault : FileFault → Read (Option ℕ)
 option_fault f = Err f
 
-option_error : (d f : FileFault) → option_fault d ≡ option_fault f → d ≡ f
-option_error d f e = cc
+option_fault_injective : (d f : FileFault) → option_fault d ≡ option_fault f → d ≡ f
+option_fault_injective d f e = cc
 
 -- the groups after the first
 abbrev groups_after : (bytes : List ℕ) (left : ℕ) → ℕ × ℕ → Bool → Read (Option ℕ)
 groups_after bytes left group low = cond low (Ok (Some group.0, group.1)) (groups_at bytes left group.1 >>= λ others. Ok (read_of (below (group.0 - 128) others.0) others.1))
 
-pub step_is : (bytes : List ℕ) (left at : ℕ) → groups_at bytes (suc left) at ≡ (byte_at bytes at >>= λ group. groups_after bytes left group (ltb group.0 128))
+pub groups_at_one_step : (bytes : List ℕ) (left at : ℕ) → groups_at bytes (suc left) at ≡ (byte_at bytes at >>= λ group. groups_after bytes left group (ltb group.0 128))
 unfolding groups_at
-step_is bytes left at = refl
+groups_at_one_step bytes left at = refl
 
-pub none_is : (bytes : List ℕ) (at : ℕ) → groups_at bytes 0 at ≡ Ok (read_of None at)
+pub groups_at_none_left : (bytes : List ℕ) (at : ℕ) → groups_at bytes 0 at ≡ Ok (read_of None at)
 unfolding groups_at
-none_is bytes at = refl
+groups_at_none_left bytes at = refl
 
 -- groups that are read are those of the number
 module _ (bytes : List ℕ) (fits : IsBytes bytes) where
@@ -93,14 +93,14 @@ module _ (bytes : List ℕ) (fits : IsBytes bytes) where
       → groups_after bytes left group low ≡ Ok (read_of (Some v) after) → Takes bytes at (groups (suc left) v) after
   rest_taken left at v after group lower takes width true is e =
       let same = ok_injective (read_of (Some group.0) group.1) (read_of (Some v) after) e in
-      let v_is : group.0 ≡ v = some_is group.0 v (ap (λ (p : Option ℕ × ℕ). p.0) same) in
+      let v_is : group.0 ≡ v = some_of_number_injective group.0 v (ap (λ (p : Option ℕ × ℕ). p.0) same) in
       let place : group.1 ≡ after = ap (λ (p : Option ℕ × ℕ). p.1) same in
-      let low : v < 128 = omega (arith, v_is, short_is group.0 128 is) in
+      let low : v < 128 = omega (arith, v_is, less_from_ltb group.0 128 is) in
       rw (groups-low left v low, ← v_is, ← place) takes
   rest_taken left at v after group lower takes width false is e =
       let o = bind_ok (groups_at bytes left group.1) (λ others. Ok (read_of (below (group.0 - 128) others.0) others.1)) (read_of (Some v) after) e in
       let same = ok_injective (read_of (below (group.0 - 128) o.0.0) o.0.1) (read_of (Some v) after) o.2 in
-      let a = is_above (group.0 - 128) o.0.0 v (ap (λ (p : Option ℕ × ℕ). p.0) same) in
+      let a = joined_number_is_above (group.0 - 128) o.0.0 v (ap (λ (p : Option ℕ × ℕ). p.0) same) in
       let place : o.0.1 ≡ after = ap (λ (p : Option ℕ × ℕ). p.1) same in
       let read : groups_at bytes left group.1 ≡ Ok (read_of (Some a.n) after) = o.1 ∙ ap (λ (p : Option ℕ × ℕ). Ok p) (both_are o.0.0 (Some a.n) o.0.1 after a.is place) in
       let high = ltb-false group.0 128 is in
@@ -114,17 +114,17 @@ module _ (bytes : List ℕ) (fits : IsBytes bytes) where
 
   byte_bound : (at : ℕ) (x : ℕ × ℕ) → byte_at bytes at ≡ Ok x → x.0 < 256
   byte_bound at x e =
-      let p = passes_from 1 first_of passes_always (omega arith) bytes at x.0 x.1 (sym (byte_is bytes at) ∙ e) in
+      let p = passes_from 1 first_of passes_always (omega arith) bytes at x.0 x.1 (sym (byte_at_is_field bytes at) ∙ e) in
       let here : get_or (take 1 (drop at bytes)) 0 0 < 256 = IsBytes-take 1 (drop at bytes) (IsBytes-drop at bytes fits) 0 in
       omega (arith, here, p.value_is)
 
   step_taken : (left : ℕ) → AreTaken left → AreTaken (suc left)
   step_taken left lower at v after e =
-      let a = bind_ok (byte_at bytes at) (λ group. groups_after bytes left group (ltb group.0 128)) (read_of (Some v) after) (sym (step_is bytes left at) ∙ e) in
+      let a = bind_ok (byte_at bytes at) (λ group. groups_after bytes left group (ltb group.0 128)) (read_of (Some v) after) (sym (groups_at_one_step bytes left at) ∙ e) in
       rest_taken left at v after a.0 lower (byte_taken bytes at a.0 a.1) (byte_bound at a.0 a.1) (ltb a.0.0 128) refl a.2
 
   groups_taken : (left : ℕ) → AreTaken left
-  groups_taken zero at v after e = let none = sym (none_is bytes at) ∙ e in absurd (no_number at v after none)
+  groups_taken zero at v after e = let none = sym (groups_at_none_left bytes at) ∙ e in absurd (no_number at v after none)
     where
       no_number : (at v after : ℕ) → ◌≡◌ {A = Read (Option ℕ)} (Ok (read_of None at)) (Ok (read_of (Some v) after)) → ⊥
       no_number at v after e = let same = ap (λ (p : Option ℕ × ℕ). p.0) (ok_injective (read_of None at) (read_of (Some v) after) e) in absurd cc
@@ -135,7 +135,7 @@ module _ (bytes : List ℕ) where
   pub groups_again-low : (left at n : ℕ) (rest : List ℕ) → n < 128 → drop at bytes ≡ n ∷ rest → IsReadAs bytes (groups_at bytes (suc left) at) (Some n) rest
   groups_again-low left at n rest low h =
       let b = byte_again bytes at n rest h in
-      record { place = b.place; is = step_is bytes left at ∙ rw (b.is, lt-ltb n 128 low) refl; rest_is = b.rest_is }
+      record { place = b.place; is = groups_at_one_step bytes left at ∙ rw (b.is, lt-ltb n 128 low) refl; rest_is = b.rest_is }
 
   groups_again-high : (left at n : ℕ) (rest : List ℕ) → 128 ≤ n → n < 2 ^ 64 → drop at bytes ≡ groups (suc left) n ++ rest
       → ((at : ℕ) → drop at bytes ≡ groups left (n / 128) ++ rest → IsReadAs bytes (groups_at bytes left at) (Some (n / 128)) rest) → IsReadAs bytes (groups_at bytes (suc left) at) (Some n) rest
@@ -145,7 +145,7 @@ module _ (bytes : List ℕ) where
       let not_low : ltb (128 + n % 128) 128 ≡ false = le-ltb _ _ (omega arith) in
       record {
         place = r.place;
-        is = step_is bytes left at ∙ rw (b.is, not_low, r.is) (ap (λ (v : Option ℕ). Ok (read_of v r.place)) (above_is n high lt));
+        is = groups_at_one_step bytes left at ∙ rw (b.is, not_low, r.is) (ap (λ (v : Option ℕ). Ok (read_of v r.place)) (group_joined_with_those_above n high lt));
         rest_is = r.rest_is;
       }
 
@@ -180,13 +180,13 @@ module _ (bytes : List ℕ) where
 
   step_ends : (left : ℕ) → End left → (at : ℕ) (v : Option ℕ) (after : ℕ) → groups_at bytes (suc left) at ≡ Ok (read_of v after) → EndsAt left (at + 1) after
   step_ends left lower at v after e =
-      let a = bind_ok (byte_at bytes at) (λ group. groups_after bytes left group (ltb group.0 128)) (read_of v after) (sym (step_is bytes left at) ∙ e) in
+      let a = bind_ok (byte_at bytes at) (λ group. groups_after bytes left group (ltb group.0 128)) (read_of v after) (sym (groups_at_one_step bytes left at) ∙ e) in
       let place = byte_place bytes at a.0 a.1 in
       rest_ends left at v after a.0 lower place.0 place.1 (ltb a.0.0 128) a.2
 
   groups_end : (left : ℕ) → End left
   groups_end zero at v after le e =
-      let same : at ≡ after = ap (λ (p : Option ℕ × ℕ). p.1) (ok_injective (read_of None at) (read_of v after) (sym (none_is bytes at) ∙ e)) in
+      let same : at ≡ after = ap (λ (p : Option ℕ × ℕ). p.1) (ok_injective (read_of None at) (read_of v after) (sym (groups_at_none_left bytes at) ∙ e)) in
       record { from = omega (arith, same); inside = omega (arith, same, le); few = omega (arith, same) }
   groups_end (suc left) at v after le e =
       let ends = step_ends left (groups_end left) at v after e in
@@ -207,12 +207,12 @@ module _ (bytes : List ℕ) where
       go : (r : Read (Option ℕ)) → groups_at bytes left group.1 ≡ r → (r >>= λ others. Ok (read_of (below (group.0 - 128) others.0) others.1)) ≡ Err f → (Short (length bytes) ≡ f) × (length bytes < at + suc left)
       go (Ok o) is e = absurd cc
       go (Err d) is e =
-          let same : d ≡ f = option_error d f e in
+          let same : d ≡ f = option_fault_injective d f e in
           let cut = lower group.1 d (omega (arith, place, within)) is in
           (cut.0 ∙ same, omega (arith, cut.1, place))
 
   step_cut : (left : ℕ) → AreCut left → AreCut (suc left)
-  step_cut left lower at f le e = go (byte_at bytes at) refl (sym (step_is bytes left at) ∙ e)
+  step_cut left lower at f le e = go (byte_at bytes at) refl (sym (groups_at_one_step bytes left at) ∙ e)
     where
       go : (r : Read ℕ) → byte_at bytes at ≡ r → (r >>= λ group. groups_after bytes left group (ltb group.0 128)) ≡ Err f → (Short (length bytes) ≡ f) × (length bytes < at + suc left)
       go (Ok group) is e =
@@ -220,10 +220,10 @@ module _ (bytes : List ℕ) where
           rest_cut left at f group lower place.0 place.1 (ltb group.0 128) e
       go (Err d) is e =
           let missing = byte_missing bytes at d is in
-          (missing.0 ∙ option_error d f e, omega (arith, missing.1))
+          (missing.0 ∙ option_fault_injective d f e, omega (arith, missing.1))
 
   pub groups_cut : (left : ℕ) → AreCut left
-  groups_cut zero at f le e = let none = sym (none_is bytes at) ∙ e in absurd cc
+  groups_cut zero at f le e = let none = sym (groups_at_none_left bytes at) ∙ e in absurd cc
   groups_cut (suc left) at f le e = step_cut left (groups_cut left) at f le e
 
 -- groups are the same in bytes that are the same up to their end
@@ -242,25 +242,25 @@ module _ (bytes other : List ℕ) where
 
   step_same : (left : ℕ) → AreSame left → AreSame (suc left)
   step_same left lower at v after le e same =
-      let a = bind_ok (byte_at bytes at) (λ group. groups_after bytes left group (ltb group.0 128)) (read_of v after) (sym (step_is bytes left at) ∙ e) in
+      let a = bind_ok (byte_at bytes at) (λ group. groups_after bytes left group (ltb group.0 128)) (read_of v after) (sym (groups_at_one_step bytes left at) ∙ e) in
       let place = byte_place bytes at a.0 a.1 in
       let ends = field_ends bytes left at v after e in
       let alike : take a.0.1 other ≡ take a.0.1 bytes = take-shorter a.0.1 after other bytes (omega (arith, place.0, ends.from)) same in
       let byte : byte_at other at ≡ Ok a.0 = (byte_reads Packed).same bytes other at a.0.0 a.0.1 le a.1 alike in
-      step_is other left at ∙ ap (λ (r : Read ℕ). r >>= λ group. groups_after other left group (ltb group.0 128)) byte
+      groups_at_one_step other left at ∙ ap (λ (r : Read ℕ). r >>= λ group. groups_after other left group (ltb group.0 128)) byte
       ∙ rest_same left at v after a.0 lower (omega (arith, place.0, place.1)) (ltb a.0.0 128) a.2 same
 
   pub groups_same : (left : ℕ) → AreSame left
   groups_same zero at v after le e same =
-      let is = ok_injective (read_of None at) (read_of v after) (sym (none_is bytes at) ∙ e) in
-      none_is other at ∙ ap (λ (p : Option ℕ × ℕ). Ok p) is
+      let is = ok_injective (read_of None at) (read_of v after) (sym (groups_at_none_left bytes at) ∙ e) in
+      groups_at_none_left other at ∙ ap (λ (p : Option ℕ × ℕ). Ok p) is
   groups_same (suc left) at v after le e same = step_same left (groups_same left) at v after le e same
 
--- a packed number, its first group apart
+-- a packed number is its first group, joined with the groups after it
 pub packed_step : (bytes : List ℕ) (at : ℕ) → packed_at bytes at
     ≡ (byte_at bytes at >>= λ group. cond (ltb group.0 128) (Ok (group.0, group.1)) (groups_at bytes 9 group.1 >>= λ others. given at (below (group.0 - 128) others.0) others.1))
 unfolding packed_at
-packed_step bytes at = ap (λ (r : Read (Option ℕ)). r >>= λ number. given at number.0 number.1) (step_is bytes 9 at) ∙ first (byte_at bytes at)
+packed_step bytes at = ap (λ (r : Read (Option ℕ)). r >>= λ number. given at number.0 number.1) (groups_at_one_step bytes 9 at) ∙ first (byte_at bytes at)
   where
     above : (group : ℕ × ℕ) (r : Read (Option ℕ)) → ((r >>= λ others. Ok (read_of (below (group.0 - 128) others.0) others.1)) >>= λ number. given at number.0 number.1)
         ≡ (r >>= λ others. given at (below (group.0 - 128) others.0) others.1)

@@ -12,24 +12,24 @@ use Rattle.goal_binary.proofs.FieldsTaken.{byte_taken, byte_up_to_ok}
 use Rattle.goal_binary.proofs.NumbersTaken.{packed_up_to_ok}
 use Rattle.goal_binary.proofs.Packed.{packed_taken}
 use Rattle.goal_binary.proofs.FixedTaken.{when_of-code}
-use Rattle.goal_binary.proofs.PackedItems.{is_some, IsHead, head_is, head_joined, kind_code-of, flags_of-of, packed_if, peer_in-of, tag_in-of, size_of-of, flag_is, byte_is}
+use Rattle.goal_binary.proofs.PackedItems.{is_some, IsHead, is_head_sound, head_joined, kind_code-kind_of, flags_of-kind_of, packed_if, peer_in-kind_of, tag_in-kind_of, size_of-kind_of, flag_unless_zero_by_test, byte_unless_zero_by_test}
 
 -- the operation of these fields
 abbrev pub op_of : (head cpu nic peer tag size : ℕ) → Op
 op_of head cpu nic peer tag size = record { kind = kind_of (head_of head).form peer tag size; cpu = cpu; nic = nic }
 
-head_again : (head cpu nic peer tag size : ℕ) → IsHead head → is_some cpu ≡ eqb (head / 16 % 2) 1 → is_some nic ≡ leb 32 head → head_code (op_of head cpu nic peer tag size) ≡ head
-head_again head cpu nic peer tag size h c n =
-    let kind = kind_code-of (head % 4) (head / 4 % 4) peer tag size h.kind_fits in
-    let flags = flags_of-of (head % 4) (head / 4 % 4) peer tag size h.kind_fits h.flags_fit in
-    rw (kind, flags, flag_is 16 cpu, flag_is 32 nic, c, n) (head_joined head h.small)
+head_code_of_made_op : (head cpu nic peer tag size : ℕ) → IsHead head → is_some cpu ≡ eqb (head / 16 % 2) 1 → is_some nic ≡ leb 32 head → head_code (op_of head cpu nic peer tag size) ≡ head
+head_code_of_made_op head cpu nic peer tag size h c n =
+    let kind = kind_code-kind_of (head % 4) (head / 4 % 4) peer tag size h.kind_fits in
+    let flags = flags_of-kind_of (head % 4) (head / 4 % 4) peer tag size h.kind_fits h.flags_fit in
+    rw (kind, flags, flag_unless_zero_by_test 16 cpu, flag_unless_zero_by_test 32 nic, c, n) (head_joined head h.small)
 
 op_spelled : (head cpu nic peer tag size : ℕ) → IsHead head → is_some cpu ≡ eqb (head / 16 % 2) 1 → is_some nic ≡ leb 32 head
     → packed_op (op_of head cpu nic peer tag size) ≡ (head ∷ []) ++ byte_unless_zero cpu ++ byte_unless_zero nic ++ packed_if (has_peer (head_of head).form) peer ++ packed_if (has_tag (head_of head).form) tag ++ packed size
 unfolding packed_op
 op_spelled head cpu nic peer tag size h c n =
     let f = (head_of head).form in
-    rw (head_again head cpu nic peer tag size h c n, peer_in-of f peer tag size, tag_in-of f peer tag size, size_of-of f peer tag size) refl
+    rw (head_code_of_made_op head cpu nic peer tag size h c n, peer_in-kind_of f peer tag size, tag_in-kind_of f peer tag size, size_of-kind_of f peer tag size) refl
 
 note_spelled : (kind op first second : ℕ) → kind ≤ 1 → packed_note_fields (note_of kind op first second) ≡ packed_note_bytes kind op first second
 note_spelled zero op first second h = refl
@@ -51,7 +51,7 @@ module _ (bytes : List ℕ) (fits : IsBytes bytes) where
       let t = allow_ok (ltb 0 a.0.0) at a.0 x a.2 in
       let some : is_some x.0 ≡ true = subst (λ (y : ℕ × ℕ). is_some y.0 ≡ true) t.1 t.0 in
       let takes = byte_taken bytes at x (a.1 ∙ ap Ok t.1) in
-      record { takes = rw (byte_is x.0, some) takes; some_is = some }
+      record { takes = rw (byte_unless_zero_by_test x.0, some) takes; some_is = some }
   some_byte_taken false at x e =
       subst (λ (y : ℕ × ℕ). SomeTaken false at y.0 y.1) (ok_injective (number_pair 0 at) x e) (record { takes = record { parts = refl }; some_is = refl })
 
@@ -81,7 +81,7 @@ module _ (bytes : List ℕ) (fits : IsBytes bytes) where
       let is = ok_injective made x a.2 in
       record {
         head = a.0.0;
-        is = head_is a.0.0 good;
+        is = is_head_sound a.0.0 good;
         same = ap (λ (p : Head × ℕ). p.0) is;
         takes = subst (λ (p : ℕ). Takes bytes at (a.0.0 ∷ []) p) (ap (λ (p : Head × ℕ). p.1) is) (byte_taken bytes at a.0 (b.1 ∙ ap Ok t.1));
       }

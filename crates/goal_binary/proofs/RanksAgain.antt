@@ -24,7 +24,7 @@ use Rattle.goal_binary.specs.Reading.{list_at, op_at, dep_at, note_at, rank_at, 
 use Rattle.goal_binary.specs.Meaning.{plans_at, meaning}
 use Rattle.goal_binary.proofs.FieldsAgain.{IsReadAs}
 use Rattle.goal_binary.proofs.NumbersAgain.{count_again, rank_count_again, opening_again}
-use Rattle.goal_binary.proofs.PackedAgain.{regroup}
+use Rattle.goal_binary.proofs.PackedAgain.{append_of_six_regrouped}
 use Rattle.goal_binary.proofs.ItemsAgain.{op_again, dep_again, note_again, list_again}
 
 -- the counts of a rank after the ranks before it
@@ -39,25 +39,25 @@ record AreAllFew (plans : List Plan) : Type 0 where
   deps : dep_count plans ≤ MAX_DEPS
   notes : note_count plans ≤ MAX_NOTES
 
-split_sum : (f : Plan → ℕ) (count : List Plan → ℕ) (sum : (ps : List Plan) → count ps ≡ sum_by f ps) (before : List Plan) (p : Plan) (ps : List Plan) → count before + f p ≤ count (before ++ p ∷ ps)
-split_sum f count sum before p ps =
+count_with_next_rank_le : (f : Plan → ℕ) (count : List Plan → ℕ) (sum : (ps : List Plan) → count ps ≡ sum_by f ps) (before : List Plan) (p : Plan) (ps : List Plan) → count before + f p ≤ count (before ++ p ∷ ps)
+count_with_next_rank_le f count sum before p ps =
     omega (arith, sum before, sum (before ++ p ∷ ps), sum_by-append f before (p ∷ ps), sum_by-cons f p ps)
 
 few-next : (before : List Plan) (p : Plan) (ps : List Plan) → AreAllFew (before ++ p ∷ ps) → AreFew (op_count before) (dep_count before) (note_count before) p
 unfolding op_count dep_count note_count
 few-next before p ps few = record {
-  op_room = omega (arith, few.ops, split_sum (λ (p : Plan). length p.ops) op_count (λ ps. refl) before p ps);
-  dep_room = omega (arith, few.deps, split_sum (λ (p : Plan). length p.deps) dep_count (λ ps. refl) before p ps);
-  note_room = omega (arith, few.notes, split_sum (λ (p : Plan). length p.notes) note_count (λ ps. refl) before p ps);
+  op_room = omega (arith, few.ops, count_with_next_rank_le (λ (p : Plan). length p.ops) op_count (λ ps. refl) before p ps);
+  dep_room = omega (arith, few.deps, count_with_next_rank_le (λ (p : Plan). length p.deps) dep_count (λ ps. refl) before p ps);
+  note_room = omega (arith, few.notes, count_with_next_rank_le (λ (p : Plan). length p.notes) note_count (λ ps. refl) before p ps);
 }
 
 module _ (bytes : List ℕ) (l : Layout) where
-  rank_steps : (ops deps notes at : ℕ) (op_number dep_number note_number : ℕ × ℕ) (op_list : List Op × ℕ) (dep_list : List Dep × ℕ) (note_list : List Note × ℕ)
+  rank_from_fields : (ops deps notes at : ℕ) (op_number dep_number note_number : ℕ × ℕ) (op_list : List Op × ℕ) (dep_list : List Dep × ℕ) (note_list : List Note × ℕ)
       → count_at bytes l MAX_OPS ops at ≡ Ok op_number → count_at bytes l MAX_DEPS deps op_number.1 ≡ Ok dep_number → count_at bytes l MAX_NOTES notes dep_number.1 ≡ Ok note_number
       → list_at (op_at bytes l) op_number.0 note_number.1 ≡ Ok op_list → list_at (dep_at bytes l) dep_number.0 op_list.1 ≡ Ok dep_list → list_at (note_at bytes l) note_number.0 dep_list.1 ≡ Ok note_list
       → rank_at bytes l ops deps notes at ≡ Ok (record { ops = op_list.0; deps = dep_list.0; notes = note_list.0 }, note_list.1)
   unfolding rank_at
-  rank_steps ops deps notes at op_number dep_number note_number op_list dep_list note_list a b c d e f = rw (a, b, c, d, e, f) refl
+  rank_from_fields ops deps notes at op_number dep_number note_number op_list dep_list note_list a b c d e f = rw (a, b, c, d, e, f) refl
 
   rank_again : (p : Plan) (ops deps notes at : ℕ) (rest : List ℕ) → PlanFits p → AreFew ops deps notes p → drop at bytes ≡ spelled_rank l p ++ rest → IsReadAs bytes (rank_at bytes l ops deps notes at) p rest
   unfolding spelled_rank spelled_counts
@@ -66,7 +66,7 @@ module _ (bytes : List ℕ) (l : Layout) where
       let ds = flat_map (spelled_dep l) p.deps in
       let ns = flat_map (spelled_note l) p.notes in
       let regrouped : spelled_rank l p ++ rest ≡ spelled_count l (length p.ops) ++ (spelled_count l (length p.deps) ++ (spelled_count l (length p.notes) ++ (os ++ (ds ++ (ns ++ rest))))) =
-      regroup (spelled_count l (length p.ops)) (spelled_count l (length p.deps)) (spelled_count l (length p.notes)) os ds ns rest in
+      append_of_six_regrouped (spelled_count l (length p.ops)) (spelled_count l (length p.deps)) (spelled_count l (length p.notes)) os ds ns rest in
       let a = count_again bytes l MAX_OPS ops at (length p.ops) (spelled_count l (length p.deps) ++ (spelled_count l (length p.notes) ++ (os ++ (ds ++ (ns ++ rest))))) (omega (arith, few.op_room)) few.op_room (h ∙ regrouped) in
       let b = count_again bytes l MAX_DEPS deps a.place (length p.deps) (spelled_count l (length p.notes) ++ (os ++ (ds ++ (ns ++ rest)))) (omega (arith, few.dep_room)) few.dep_room a.rest_is in
       let c = count_again bytes l MAX_NOTES notes b.place (length p.notes) (os ++ (ds ++ (ns ++ rest))) (omega (arith, few.note_room)) few.note_room b.rest_is in
@@ -75,7 +75,7 @@ module _ (bytes : List ℕ) (l : Layout) where
       let g = list_again bytes (note_at bytes l) (spelled_note l) IsNoteInWidth (note_again bytes l) p.notes f.place rest (recursion_from_All IsNoteInWidth p.notes fits.notes) f.rest_is in
       record {
         place = g.place;
-        is = rank_steps ops deps notes at (length p.ops, a.place) (length p.deps, b.place) (length p.notes, c.place) (p.ops, d.place) (p.deps, f.place) (p.notes, g.place) a.is b.is c.is d.is f.is g.is;
+        is = rank_from_fields ops deps notes at (length p.ops, a.place) (length p.deps, b.place) (length p.notes, c.place) (p.ops, d.place) (p.deps, f.place) (p.notes, g.place) a.is b.is c.is d.is f.is g.is;
         rest_is = g.rest_is;
       }
 
@@ -92,8 +92,8 @@ module _ (bytes : List ℕ) (l : Layout) where
 
 -- a schedule has a file
 module _ (plans : List Plan) (accepted : IsAccepted plans) (widths : AreInWidth plans) where
-  fits_all : All PlanFits plans
-  fits_all rank p inside =
+  all_plans_fit : All PlanFits plans
+  all_plans_fit rank p inside =
       let few = (plain-counts plans accepted.plain).ops in
       let len = (lengths-le plans rank p inside).ops in
       record {
@@ -105,11 +105,11 @@ module _ (plans : List Plan) (accepted : IsAccepted plans) (widths : AreInWidth 
       }
 
   pub schedule_fits : HaveFile plans
-  schedule_fits = record { counts = plain-counts plans accepted.plain; ranks = fits_all }
+  schedule_fits = record { counts = plain-counts plans accepted.plain; ranks = all_plans_fit }
 
-pub meaning_fits : (l : Layout) (plans : List Plan) → HaveFile plans → meaning (written l plans) ≡ Ok plans
+pub meaning_of_written_plans : (l : Layout) (plans : List Plan) → HaveFile plans → meaning (written l plans) ≡ Ok plans
 unfolding meaning plans_at records_at written header
-meaning_fits l plans fit =
+meaning_of_written_plans l plans fit =
     let counts = fit.counts in
     let bytes = written l plans in
     let records = flat_map (spelled_rank l) plans in
@@ -120,5 +120,5 @@ meaning_fits l plans fit =
     let ended : ltb r.place (length bytes) ≡ false = le-ltb _ _ (omega (arith, length-drop r.place bytes, ap length r.rest_is)) in
     rw (o.is, n.is, r.is, ended) refl
 
-pub meaning_again : (l : Layout) (plans : List Plan) → IsAccepted plans → AreInWidth plans → meaning (written l plans) ≡ Ok plans
-meaning_again l plans accepted widths = meaning_fits l plans (schedule_fits plans accepted widths)
+pub meaning_of_written_schedule : (l : Layout) (plans : List Plan) → IsAccepted plans → AreInWidth plans → meaning (written l plans) ≡ Ok plans
+meaning_of_written_schedule l plans accepted widths = meaning_of_written_plans l plans (schedule_fits plans accepted widths)

@@ -21,28 +21,28 @@ pub note_count-push : (ps : List Plan) (p : Plan) → note_count (ps ++ p ∷ []
 unfolding note_count
 note_count-push ps p = sum_by_push (λ (p : Plan). length p.notes) ps p
 
--- no ranks have nothing
-pub no_counts : (op_count [] ≡ 0) × (dep_count [] ≡ 0) × (note_count [] ≡ 0)
+-- without ranks, all counts are 0
+pub counts_of_no_ranks : (op_count [] ≡ 0) × (dep_count [] ≡ 0) × (note_count [] ≡ 0)
 unfolding op_count dep_count note_count
-no_counts = (refl, refl, refl)
+counts_of_no_ranks = (refl, refl, refl)
 
 module _ (bytes : List ℕ) (layout : Layout) where
   -- the next rank, after those before
   abbrev pub next_rank : List Plan → ℕ → Read Plan
   next_rank before at = rank_at bytes layout (op_count before) (dep_count before) (note_count before) at
 
-  pub rank_goes_on : (before : List Plan) (count i at : ℕ) (p : Plan) (after : ℕ) (total : Read (List Plan)) → i < count → next_rank before at ≡ Ok (p, after)
+  pub ranks_continue_after_rank : (before : List Plan) (count i at : ℕ) (p : Plan) (after : ℕ) (total : Read (List Plan)) → i < count → next_rank before at ≡ Ok (p, after)
       → ranks_at bytes layout (count - i) before at ≡ total → ranks_at bytes layout (count - (i + 1)) (before ++ p ∷ []) after ≡ total
   unfolding ranks_at
-  rank_goes_on before count i at p after total lt h so_far =
+  ranks_continue_after_rank before count i at p after total lt h so_far =
       let k : count - i ≡ suc (count - (i + 1)) = omega arith in
       let one : ranks_at bytes layout (count - i) before at ≡ ranks_at bytes layout (count - (i + 1)) (before ++ p ∷ []) after = rw (k, h) refl in
       sym one ∙ so_far
 
-  pub rank_ends : (f : FileFault) (before : List Plan) (count i at : ℕ) (total : Read (List Plan)) → i < count → next_rank before at ≡ Err f
+  pub ranks_end_with_fault : (f : FileFault) (before : List Plan) (count i at : ℕ) (total : Read (List Plan)) → i < count → next_rank before at ≡ Err f
       → ranks_at bytes layout (count - i) before at ≡ total → total ≡ Err f
   unfolding ranks_at
-  rank_ends f before count i at total lt h so_far =
+  ranks_end_with_fault f before count i at total lt h so_far =
       let k : count - i ≡ suc (count - (i + 1)) = omega arith in
       let one : ranks_at bytes layout (count - i) before at ≡ Err f = rw (k, h) refl in
       sym so_far ∙ one

@@ -72,7 +72,7 @@ AreWithin-none : AreWithin []
 unfolding op_count dep_count note_count
 AreWithin-none = record { ops = omega arith; deps = omega arith; notes = omega arith }
 
--- n more ranks
+-- n ranks whose counts are within the limits
 record AreRanks (n : ℕ) (plans : List Plan) : Type 0 where
   count : length plans ≡ n
   within : AreWithin plans
@@ -91,13 +91,13 @@ ranks_reads l (suc n) before within =
 abbrev pub body : Layout → Reader (List Plan)
 body l bytes at = records_at bytes l at
 
-pub body_is : (l : Layout) (bytes : List ℕ) (at : ℕ) → records_at bytes l at ≡ then (λ bytes at. rank_count_at bytes l at) (λ n bytes at. ranks_at bytes l n [] at) bytes at
+pub records_are_count_then_ranks : (l : Layout) (bytes : List ℕ) (at : ℕ) → records_at bytes l at ≡ then (λ bytes at. rank_count_at bytes l at) (λ n bytes at. ranks_at bytes l n [] at) bytes at
 unfolding records_at then
-body_is l bytes at = refl
+records_are_count_then_ranks l bytes at = refl
 
 pub body_reads : (l : Layout) → Reads l AreCountsWithin (body l)
 body_reads l =
-    reads_as (then (λ bytes at. rank_count_at bytes l at) (λ n bytes at. ranks_at bytes l n [] at)) (body l) (body_is l)
+    reads_as (then (λ bytes at. rank_count_at bytes l at) (λ n bytes at. ranks_at bytes l n [] at)) (body l) (records_are_count_then_ranks l)
     (then_reads (rank_count_reads l) (λ n count. reads_weaker (AreRanks (0 + n)) AreCountsWithin (λ bytes at. ranks_at bytes l n [] at) (λ plans ranks. record {
       some_rank = omega (arith, count.some, ranks.count);
       ranks = omega (arith, count.within, ranks.count);

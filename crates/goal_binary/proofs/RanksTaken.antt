@@ -128,9 +128,9 @@ pub record IsWritten (bytes : List ℕ) (plans : List Plan) : Type 0 where
   pub layout : Layout
   pub is : bytes ≡ written layout plans
 
-pub meaning_taken : (bytes : List ℕ) → IsBytes bytes → (plans : List Plan) → meaning bytes ≡ Ok plans → IsWritten bytes plans
+pub meaningful_bytes_are_written : (bytes : List ℕ) → IsBytes bytes → (plans : List Plan) → meaning bytes ≡ Ok plans → IsWritten bytes plans
 unfolding meaning plans_at
-meaning_taken bytes fits plans e =
+meaningful_bytes_are_written bytes fits plans e =
     let a = bind_ok (plans_at bytes) _ plans e in
     let g = guard_ok (ltb a.0.1 (length bytes)) (Extra a.0.1) a.0.0 plans a.2 in
     let o = bind_ok (opening_at bytes) (λ layout. records_at bytes layout.0 layout.1) a.0 a.1 in

@@ -20,7 +20,7 @@ then P Q bytes at = P bytes at >>= λ x. Q x.0 bytes x.1
 unfoldable pub give : {A : Type 0} → A → Reader A
 give x bytes at = Ok (x, at)
 
--- these bytes have a continuation with which all is read
+-- the bytes have a continuation with which the reader succeeds and reads all of them
 pub record Completed {A : Type 0} (P : Reader A) (at : ℕ) (front : List ℕ) : Type 0 where
   pub tail : List ℕ
   pub fits : IsBytes tail
@@ -68,14 +68,14 @@ IsBytes-append xs ys f g i =
 abbrev err_of : (A : Type 0) → FileFault → Read A
 err_of A d = Err d
 
-bind_is : {A B : Type 0} (r : Read A) (f : A × ℕ → Read B) (x : A × ℕ) → r ≡ Ok x → (r >>= f) ≡ f x
-bind_is r f x e = ap (λ q. q >>= f) e
+bind_of_ok : {A B : Type 0} (r : Read A) (f : A × ℕ → Read B) (x : A × ℕ) → r ≡ Ok x → (r >>= f) ≡ f x
+bind_of_ok r f x e = ap (λ q. q >>= f) e
 
 bind_err : {A B : Type 0} (r : Read A) (f : A × ℕ → Read B) (d : FileFault) → r ≡ Err d → (r >>= f) ≡ Err d
 bind_err r f d e = ap (λ q. q >>= f) e
 
-err_is : {A : Type 0} (d f : FileFault) → err_of A d ≡ err_of A f → d ≡ f
-err_is d f e = cc
+err_of_injective : {A : Type 0} (d f : FileFault) → err_of A d ≡ err_of A f → d ≡ f
+err_of_injective d f e = cc
 
 Halts-map : {A B : Type 0} (P : Reader A) (R : Reader B) (bytes : List ℕ) (at from place width : ℕ) (fault : FileFault) → Halts P bytes at place width fault
     → ((other : List ℕ) → take (place + width) other ≡ take (place + width) bytes → place + width ≤ length bytes → P other at ≡ Err fault → R other from ≡ Err fault) → Halts R bytes from place width fault
@@ -97,7 +97,7 @@ module _ {l : Layout} {A : Type 0} {B : Type 0} {V : A → Type 0} {W : B → Ty
       let v = first.inside longer at c.value (length longer) (omega (arith, len)) c.is in
       let q = (second c.value v.2).starts longer in
       let again : P (longer ++ q.tail) at ≡ Ok (c.value, length longer) = first.same longer (longer ++ q.tail) at c.value (length longer) (omega (arith, len)) c.is (take-append-le (length longer) longer q.tail (omega arith)) in
-      let whole : then P Q (longer ++ q.tail) at ≡ Ok (q.value, length (longer ++ q.tail)) = bind_is (P (longer ++ q.tail) at) (λ x. Q x.0 (longer ++ q.tail) x.1) (c.value, length longer) again ∙ q.is in
+      let whole : then P Q (longer ++ q.tail) at ≡ Ok (q.value, length (longer ++ q.tail)) = bind_of_ok (P (longer ++ q.tail) at) (λ x. Q x.0 (longer ++ q.tail) x.1) (c.value, length longer) again ∙ q.is in
       record {
         tail = c.tail ++ q.tail;
         fits = IsBytes-append c.tail q.tail c.fits q.fits;
@@ -105,26 +105,26 @@ module _ {l : Layout} {A : Type 0} {B : Type 0} {V : A → Type 0} {W : B → Ty
         is = subst (λ (bytes : List ℕ). then P Q bytes at ≡ Ok (q.value, length bytes)) (append_assoc front c.tail q.tail) whole;
       }
 
-  both_inside : (bytes : List ℕ) (at : ℕ) (y : B) (end : ℕ) → at ≤ length bytes → then P Q bytes at ≡ Ok (y, end) → (at ≤ end) × (end ≤ length bytes) × W y
+  then_ends_inside : (bytes : List ℕ) (at : ℕ) (y : B) (end : ℕ) → at ≤ length bytes → then P Q bytes at ≡ Ok (y, end) → (at ≤ end) × (end ≤ length bytes) × W y
   unfolding then
-  both_inside bytes at y end le e =
+  then_ends_inside bytes at y end le e =
       let a = bind_ok (P bytes at) (λ x. Q x.0 bytes x.1) (y, end) e in
       let p = first.inside bytes at a.0.0 a.0.1 le a.1 in
       let q = (second a.0.0 p.2).inside bytes a.0.1 y end p.1 a.2 in
       (omega (arith, p.0, q.0), q.1, q.2)
 
-  both_same : (bytes other : List ℕ) (at : ℕ) (y : B) (end : ℕ) → at ≤ length bytes → then P Q bytes at ≡ Ok (y, end) → take end other ≡ take end bytes → then P Q other at ≡ Ok (y, end)
+  then_same_by_equal_prefix : (bytes other : List ℕ) (at : ℕ) (y : B) (end : ℕ) → at ≤ length bytes → then P Q bytes at ≡ Ok (y, end) → take end other ≡ take end bytes → then P Q other at ≡ Ok (y, end)
   unfolding then
-  both_same bytes other at y end le e same =
+  then_same_by_equal_prefix bytes other at y end le e same =
       let a = bind_ok (P bytes at) (λ x. Q x.0 bytes x.1) (y, end) e in
       let p = first.inside bytes at a.0.0 a.0.1 le a.1 in
       let q = (second a.0.0 p.2).inside bytes a.0.1 y end p.1 a.2 in
-      bind_is (P other at) (λ x. Q x.0 other x.1) a.0 (first.same bytes other at a.0.0 a.0.1 le a.1 (take-shorter a.0.1 end other bytes q.0 same))
+      bind_of_ok (P other at) (λ x. Q x.0 other x.1) a.0 (first.same bytes other at a.0.0 a.0.1 le a.1 (take-shorter a.0.1 end other bytes q.0 same))
       ∙ (second a.0.0 p.2).same bytes other a.0.1 y end p.1 a.2 same
 
-  stops_first : (bytes : List ℕ) (at : ℕ) (fault : FileFault) → at ≤ length bytes → P bytes at ≡ Err fault → ReadStop l (then P Q) bytes at fault
+  then_stops_in_first : (bytes : List ℕ) (at : ℕ) (fault : FileFault) → at ≤ length bytes → P bytes at ≡ Err fault → ReadStop l (then P Q) bytes at fault
   unfolding then
-  stops_first bytes at fault le e =
+  then_stops_in_first bytes at fault le e =
       let s = first.stops bytes at fault le e in
       record {
         place = s.place;
@@ -136,9 +136,9 @@ module _ {l : Layout} {A : Type 0} {B : Type 0} {V : A → Type 0} {W : B → Ty
         how = Halts-map P (then P Q) bytes at at s.place s.width fault s.how (λ other same wide stopped. bind_err (P other at) (λ x. Q x.0 other x.1) fault stopped);
       }
 
-  stops_second : (bytes : List ℕ) (at : ℕ) (fault : FileFault) (x : A) (mid : ℕ) → at ≤ length bytes → P bytes at ≡ Ok (x, mid) → Q x bytes mid ≡ Err fault → ReadStop l (then P Q) bytes at fault
+  then_stops_in_second : (bytes : List ℕ) (at : ℕ) (fault : FileFault) (x : A) (mid : ℕ) → at ≤ length bytes → P bytes at ≡ Ok (x, mid) → Q x bytes mid ≡ Err fault → ReadStop l (then P Q) bytes at fault
   unfolding then
-  stops_second bytes at fault x mid le e f =
+  then_stops_in_second bytes at fault x mid le e f =
       let p = first.inside bytes at x mid le e in
       let s = (second x p.2).stops bytes mid fault p.1 f in
       let front = take s.place bytes ++ s.done.tail in
@@ -149,25 +149,25 @@ module _ {l : Layout} {A : Type 0} {B : Type 0} {V : A → Type 0} {W : B → Ty
         from = omega (arith, p.0, s.from);
         within = s.within;
         is_width = s.is_width;
-        done = record { tail = s.done.tail; fits = s.done.fits; value = s.done.value; is = bind_is (P front at) (λ y. Q y.0 front y.1) (x, mid) again ∙ s.done.is };
+        done = record { tail = s.done.tail; fits = s.done.fits; value = s.done.value; is = bind_of_ok (P front at) (λ y. Q y.0 front y.1) (x, mid) again ∙ s.done.is };
         how = Halts-map (Q x) (then P Q) bytes mid at s.place s.width fault s.how (λ other same wide stopped.
-            bind_is (P other at) (λ y. Q y.0 other y.1) (x, mid) (first.same bytes other at x mid le e (take-shorter mid (s.place + s.width) other bytes (omega (arith, s.from)) same)) ∙ stopped);
+            bind_of_ok (P other at) (λ y. Q y.0 other y.1) (x, mid) (first.same bytes other at x mid le e (take-shorter mid (s.place + s.width) other bytes (omega (arith, s.from)) same)) ∙ stopped);
       }
 
-  both_stop : (bytes : List ℕ) (at : ℕ) (fault : FileFault) → at ≤ length bytes → then P Q bytes at ≡ Err fault → ReadStop l (then P Q) bytes at fault
+  then_stops_in_either : (bytes : List ℕ) (at : ℕ) (fault : FileFault) → at ≤ length bytes → then P Q bytes at ≡ Err fault → ReadStop l (then P Q) bytes at fault
   unfolding then
-  both_stop bytes at fault le e = go (P bytes at) refl e
+  then_stops_in_either bytes at fault le e = go (P bytes at) refl e
     where
       go : (r : Read A) → P bytes at ≡ r → (r >>= λ x. Q x.0 bytes x.1) ≡ Err fault → ReadStop l (then P Q) bytes at fault
-      go (Ok x) is f = stops_second bytes at fault x.0 x.1 le is f
-      go (Err d) is f = let same : d ≡ fault = err_is {A = B} d fault f in stops_first bytes at fault le (is ∙ ap Err same)
+      go (Ok x) is f = then_stops_in_second bytes at fault x.0 x.1 le is f
+      go (Err d) is f = let same : d ≡ fault = err_of_injective {A = B} d fault f in then_stops_in_first bytes at fault le (is ∙ ap Err same)
 
   pub then_reads : Reads l W (then P Q)
   then_reads = record {
-    inside = both_inside;
-    same = both_same;
+    inside = then_ends_inside;
+    same = then_same_by_equal_prefix;
     starts = λ front. completed_then (length front) front (omega arith) (first.starts front);
-    stops = both_stop;
+    stops = then_stops_in_either;
   }
 
 module _ {l : Layout} {A : Type 0} {V : A → Type 0} where

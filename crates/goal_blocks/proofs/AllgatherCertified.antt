@@ -20,7 +20,7 @@ use Rattle.goal_blocks.specs.Generated.{made}
 use Rattle.goal_blocks.proofs.Orders.{Mem}
 use Rattle.goal_blocks.proofs.Slim.{All_one}
 use Rattle.goal_blocks.proofs.EntryFacts.{slots_of_span, length_plans}
-use Rattle.goal_blocks.proofs.Ring.{ahead_is, back_is}
+use Rattle.goal_blocks.proofs.Ring.{ahead_cases, back_cases}
 use Rattle.goal_blocks.proofs.RingAndTree.{back_below}
 use Rattle.goal_blocks.proofs.MadeFits.{allgather_fits}
 use Rattle.goal_blocks.proofs.MadePaired.{RingHop, ring_send, ring_recv, ring_messages}
@@ -35,7 +35,7 @@ slots_of_single_slot k = let one : k + 1 - k ≡ 1 = omega arith in rw one refl
 
 -- places in a ring
 pub back_injective : (ranks r a b : ℕ) → r < ranks → a < ranks → b < ranks → back ranks r a ≡ back ranks r b → a ≡ b
-back_injective ranks r a b p q s e = go (back_is ranks r a) (back_is ranks r b)
+back_injective ranks r a b p q s e = go (back_cases ranks r a) (back_cases ranks r b)
   where
     go : ((r < a) × (back ranks r a ≡ r + ranks - a)) ⊎ ((a ≤ r) × (back ranks r a ≡ r - a)) → ((r < b) × (back ranks r b ≡ r + ranks - b)) ⊎ ((b ≤ r) × (back ranks r b ≡ r - b)) → a ≡ b
     go (inl (l, f)) (inl (m, g)) = omega (arith, p, q, s, e, l, f, m, g)
@@ -45,10 +45,10 @@ back_injective ranks r a b p q s e = go (back_is ranks r a) (back_is ranks r b)
 
 pub back_zero : (ranks r : ℕ) → back ranks r 0 ≡ r
 back_zero ranks r =
-    ⊎_elim (λ p. let low = p.0 in absurd (omega (arith, low))) (λ p. let at = p.1 in omega (arith, at)) (back_is ranks r 0)
+    ⊎_elim (λ p. let low = p.0 in absurd (omega (arith, low))) (λ p. let at = p.1 in omega (arith, at)) (back_cases ranks r 0)
 
 pub back_back : (ranks r k : ℕ) → r < ranks → k < ranks → back ranks r (back ranks r k) ≡ k
-back_back ranks r k p q = go (back_is ranks r k) (back_is ranks r (back ranks r k))
+back_back ranks r k p q = go (back_cases ranks r k) (back_cases ranks r (back ranks r k))
   where
     go : ((r < k) × (back ranks r k ≡ r + ranks - k)) ⊎ ((k ≤ r) × (back ranks r k ≡ r - k)) → ((r < back ranks r k) × (back ranks r (back ranks r k) ≡ r + ranks - back ranks r k)) ⊎ ((back ranks r k ≤ r) × (back ranks r (back ranks r k) ≡ r - back ranks r k)) → back ranks r (back ranks r k) ≡ k
     go (inl (l, f)) (inl (m, g)) = omega (arith, p, q, l, f, m, g)
@@ -93,11 +93,11 @@ module _ (ranks bytes : ℕ) (some : 0 < ranks) (few : ranks ≤ 512) where
       ⊎_elim (λ e. inl (i / 2, omega (arith, e))) (λ d. inr (i / 2, omega (arith, d))) (cases_eq (i % 2) 0)
 
   -- the slot of an operation
-  place : ℕ → ℕ → ℕ
-  place r i = back ranks r ((i + 1) / 2)
+  moved_slot : ℕ → ℕ → ℕ
+  moved_slot r i = back ranks r ((i + 1) / 2)
 
-  moves_place : (r i : ℕ) → moved (entry r i) ≡ place r i ∷ []
-  unfolding place
+  moves_place : (r i : ℕ) → moved (entry r i) ≡ moved_slot r i ∷ []
+  unfolding moved_slot
   moves_place r i = ⊎_elim (λ p. subst (λ (n : ℕ). moved (entry r n) ≡ back ranks r ((n + 1) / 2) ∷ []) (sym p.1) (even p.0)) (λ p. subst (λ (n : ℕ). moved (entry r n) ≡ back ranks r ((n + 1) / 2) ∷ []) (sym p.1) (odd p.0)) (cases_step i)
     where
       even : (s : ℕ) → moved (entry r (2 * s)) ≡ back ranks r ((2 * s + 1) / 2) ∷ []
@@ -118,8 +118,8 @@ module _ (ranks bytes : ℕ) (some : 0 < ranks) (few : ranks ≤ 512) where
       at s n =
           ⊎_elim (λ e. e) (λ none. absurd none) (subst (λ (ks : List ℕ). Mem k ks) (slots_of_single_slot (back ranks r (s + 1))) n)
 
-  writes_here : (r s : ℕ) → Mem (back ranks r (s + 1)) (writes (entry r (2 * s + 1)))
-  writes_here r s =
+  receive_writes_its_slot : (r s : ℕ) → Mem (back ranks r (s + 1)) (writes (entry r (2 * s + 1)))
+  receive_writes_its_slot r s =
       subst (λ (x : Entry). Mem (back ranks r (s + 1)) (writes x)) (sym (entry_receives r s)) (subst (λ (ks : List ℕ). Mem (back ranks r (s + 1)) ks) (sym (slots_of_single_slot (back ranks r (s + 1)))) (inl refl))
 
   -- a send or a receive touches its slot
@@ -129,7 +129,7 @@ module _ (ranks bytes : ℕ) (some : 0 < ranks) (few : ranks ≤ 512) where
       at : (j : ℕ) → Mem k (flat_map slots_of_span (slot j)) → j ≡ k
       at j n = ⊎_elim (λ e. e) (λ none. absurd none) (subst (λ (ks : List ℕ). Mem k ks) (slots_of_single_slot j) n)
 
-  -- what the send of step s + 1 requires is the receive of step s
+  -- the send of step s + 1 requires only the receive of step s
   needs_step : (r i k : ℕ) → Mem k (entry r i).needs → (s : ℕ) × (i ≡ 2 * (s + 1)) × (k ≡ 2 * s + 1)
   needs_step r i k m = ⊎_elim (λ p. even p.0 p.1 (subst (λ (x : Entry). Mem k x.needs) (ap (λ (n : ℕ). entry r n) p.1 ∙ entry_sends r p.0) m)) (λ p. absurd (subst (λ (x : Entry). Mem k x.needs) (ap (λ (n : ℕ). entry r n) p.1 ∙ entry_receives r p.0) m)) (cases_step i)
     where
@@ -138,13 +138,13 @@ module _ (ranks bytes : ℕ) (some : 0 < ranks) (few : ranks ≤ 512) where
       even (suc s) e (inr n) = absurd n
       even (suc s) e (inl f) = (s, omega (arith, e), omega (arith, f))
 
-  needs_here : (r s : ℕ) → Precedes (entry r) (2 * s + 1) (2 * (s + 1))
-  needs_here r s =
+  receive_precedes_next_send : (r s : ℕ) → Precedes (entry r) (2 * s + 1) (2 * (s + 1))
+  receive_precedes_next_send r s =
       now (subst (λ (x : Entry). Mem (2 * s + 1) x.needs) (sym (entry_sends r (s + 1))) (subst (λ (n : ℕ). Mem (2 * s + 1) (before_send n)) (sym (add-one s)) (inl (omega arith))))
 
-  first_own : (r : ℕ) → r < ranks → first r r ≡ single r 0
+  starts_with_own_item : (r : ℕ) → r < ranks → first r r ≡ single r 0
   unfolding initial
-  first_own r inside = rw (lt-ltb r ranks inside, eq-eqb r r refl) refl
+  starts_with_own_item r inside = rw (lt-ltb r ranks inside, eq-eqb r r refl) refl
 
   wanted_at_end : (r k : ℕ) → r < ranks → k < ranks → wanted Allgather ranks r k (single k 0) ≡ true
   unfolding wanted is_value
@@ -176,7 +176,7 @@ module _ (ranks bytes : ℕ) (some : 0 < ranks) (few : ranks ≤ 512) where
   send_after_write : (r i j k : ℕ) → r < ranks → i < count r → j < count r → (s t : ℕ) → i ≡ 2 * s → j ≡ 2 * t + 1 → back ranks r s ≡ k → back ranks r (t + 1) ≡ k → Precedes (entry r) j i
   send_after_write r i j k inside l m s t p q a b =
       let same : s ≡ t + 1 = back_injective ranks r s (t + 1) inside (omega (arith, l, p)) (omega (arith, m, q)) (a ∙ sym b) in
-      subst (λ (n : ℕ). Precedes (entry r) n i) (sym q) (subst (λ (n : ℕ). Precedes (entry r) (2 * t + 1) n) (sym (p ∙ ap (λ (n : ℕ). 2 * n) same)) (needs_here r t))
+      subst (λ (n : ℕ). Precedes (entry r) n i) (sym q) (subst (λ (n : ℕ). Precedes (entry r) (2 * t + 1) n) (sym (p ∙ ap (λ (n : ℕ). 2 * n) same)) (receive_precedes_next_send r t))
 
   conflicts_are_ordered : (r i j k : ℕ) → r < ranks → i < count r → j < count r → (i ≡ j → ⊥) → Mem k (touches (entry r i)) → Mem k (writes (entry r j)) → Precedes (entry r) i j ⊎ Precedes (entry r) j i
   conflicts_are_ordered r i j k inside l m differ t w =
@@ -191,34 +191,34 @@ module _ (ranks bytes : ℕ) (some : 0 < ranks) (few : ranks ≤ 512) where
       sent zero p q =
           let own : r ≡ k = sym (back_zero ranks r) ∙ q in
           let inside = there.0 in
-          inl (subst (λ (n : ℕ). first r n ≡ single n 0) own (first_own r there.0), λ j l w. let v = writes_place r j k w in let at = v.1 in absurd (let same = back_injective ranks r (v.0 + 1) 0 there.0 (omega (arith, l, at)) (omega (arith, inside)) (v.2 ∙ sym q) in omega (arith, same)))
+          inl (subst (λ (n : ℕ). first r n ≡ single n 0) own (starts_with_own_item r there.0), λ j l w. let v = writes_place r j k w in let at = v.1 in absurd (let same = back_injective ranks r (v.0 + 1) 0 there.0 (omega (arith, l, at)) (omega (arith, inside)) (v.2 ∙ sym q) in omega (arith, same)))
       sent (suc s) p q =
           let inside = there.1 in
-          inr (2 * s + 1, omega (arith, inside, p), subst (λ (n : ℕ). Mem n (writes (entry r (2 * s + 1)))) (ap (λ (n : ℕ). back ranks r n) (add-one s) ∙ q) (writes_here r s), subst (λ (n : ℕ). Precedes (entry r) (2 * s + 1) n) (ap (λ (n : ℕ). 2 * n) (add-one s) ∙ sym p) (needs_here r s), refl, λ l m w. let v = writes_place r l k w in inl (inr (receives_write_once r l (2 * s + 1) k there.0 m v.0 s v.1 refl (omega (arith, inside, p)) v.2 (ap (λ (n : ℕ). back ranks r n) (add-one s) ∙ q))))
+          inr (2 * s + 1, omega (arith, inside, p), subst (λ (n : ℕ). Mem n (writes (entry r (2 * s + 1)))) (ap (λ (n : ℕ). back ranks r n) (add-one s) ∙ q) (receive_writes_its_slot r s), subst (λ (n : ℕ). Precedes (entry r) (2 * s + 1) n) (ap (λ (n : ℕ). 2 * n) (add-one s) ∙ sym p) (receive_precedes_next_send r s), refl, λ l m w. let v = writes_place r l k w in inl (inr (receives_write_once r l (2 * s + 1) k there.0 m v.0 s v.1 refl (omega (arith, inside, p)) v.2 (ap (λ (n : ℕ). back ranks r n) (add-one s) ∙ q))))
 
   slots_end_as_wanted : (r k : ℕ) → r < ranks → Final ranks count entry first (wanted Allgather ranks) own_value own_value r k
   slots_end_as_wanted r k inside = ⊎_elim (λ low. here low (cases_eq r k)) (λ high. inl (nothing_wanted_beyond r k high)) (cases_lt k ranks)
     where
       here : k < ranks → (r ≡ k) ⊎ (r ≡ k → ⊥) → Final ranks count entry first (wanted Allgather ranks) own_value own_value r k
       here low (inl own) =
-          inr (inl (λ j l w. let v = writes_place r j k w in let at = v.1 in absurd (let same = back_injective ranks r (v.0 + 1) 0 inside (omega (arith, l, at)) some (v.2 ∙ sym own ∙ sym (back_zero ranks r)) in omega (arith, same)), subst (λ (n : ℕ). wanted Allgather ranks r n (first r n) ≡ true) own (subst (λ (v : Value). wanted Allgather ranks r r v ≡ true) (sym (first_own r inside)) (wanted_at_end r r inside inside))))
+          inr (inl (λ j l w. let v = writes_place r j k w in let at = v.1 in absurd (let same = back_injective ranks r (v.0 + 1) 0 inside (omega (arith, l, at)) some (v.2 ∙ sym own ∙ sym (back_zero ranks r)) in omega (arith, same)), subst (λ (n : ℕ). wanted Allgather ranks r n (first r n) ≡ true) own (subst (λ (v : Value). wanted Allgather ranks r r v ≡ true) (sym (starts_with_own_item r inside)) (wanted_at_end r r inside inside))))
       here low (inr other) =
           let d = back ranks r k in
           let under = back_below ranks r k inside in
-          let above : 0 < d = ⊎_elim (λ p. let at = p.1 in let le = p.0 in omega (arith, at, le, low, inside)) (λ p. let at = p.1 in let le = p.0 in ⊎_elim (λ z. absurd (other (omega (arith, at, le, z)))) (λ z. omega (arith, z)) (cases_eq (back ranks r k) 0)) (back_is ranks r k) in
+          let above : 0 < d = ⊎_elim (λ p. let at = p.1 in let le = p.0 in omega (arith, at, le, low, inside)) (λ p. let at = p.1 in let le = p.0 in ⊎_elim (λ z. absurd (other (omega (arith, at, le, z)))) (λ z. omega (arith, z)) (cases_eq (back ranks r k) 0)) (back_cases ranks r k) in
           let t = d - 1 in
           let step : t + 1 ≡ d = omega (arith, above) in
           let at : back ranks r (t + 1) ≡ k = ap (λ (n : ℕ). back ranks r n) step ∙ back_back ranks r k inside low in
           let there : 2 * t + 1 < count r = omega (arith, step, under) in
-          inr (inr (2 * t + 1, there, subst (λ (n : ℕ). Mem n (writes (entry r (2 * t + 1)))) at (writes_here r t), λ l m w. let v = writes_place r l k w in inl (receives_write_once r l (2 * t + 1) k inside m v.0 t v.1 refl there v.2 at), wanted_at_end r k inside low))
+          inr (inr (2 * t + 1, there, subst (λ (n : ℕ). Mem n (writes (entry r (2 * t + 1)))) at (receive_writes_its_slot r t), λ l m w. let v = writes_place r l k w in inl (receives_write_once r l (2 * t + 1) k inside m v.0 t v.1 refl there v.2 at), wanted_at_end r k inside low))
 
   no_calc : (r i nanos : ℕ) → (entry r i).kind ≡ Calc nanos → ⊥
   no_calc r i nanos e =
       ⊎_elim (λ p. let f = sym (ap (λ (x : Entry). x.kind) (ap (λ (n : ℕ). entry r n) p.1 ∙ entry_sends r p.0)) ∙ e in cc f) (λ p. let f = sym (ap (λ (x : Entry). x.kind) (ap (λ (n : ℕ). entry r n) p.1 ∙ entry_receives r p.0)) ∙ e in cc f) (cases_step i)
 
   -- a message goes from a slot to the one of the same number
-  same_slot : (h : RingHop ranks bytes) → back ranks (ahead ranks h.from 1) (h.step + 1) ≡ back ranks h.from h.step
-  same_slot h = go (ahead_is ranks h.from 1) (back_is ranks (ahead ranks h.from 1) (h.step + 1)) (back_is ranks h.from h.step)
+  sent_slot_is_received_slot : (h : RingHop ranks bytes) → back ranks (ahead ranks h.from 1) (h.step + 1) ≡ back ranks h.from h.step
+  sent_slot_is_received_slot h = go (ahead_cases ranks h.from 1) (back_cases ranks (ahead ranks h.from 1) (h.step + 1)) (back_cases ranks h.from h.step)
     where
       go : ((h.from + 1 < ranks) × (ahead ranks h.from 1 ≡ h.from + 1)) ⊎ ((ranks ≤ h.from + 1) × (ahead ranks h.from 1 ≡ h.from + 1 - ranks)) → ((ahead ranks h.from 1 < h.step + 1) × (back ranks (ahead ranks h.from 1) (h.step + 1) ≡ ahead ranks h.from 1 + ranks - (h.step + 1))) ⊎ ((h.step + 1 ≤ ahead ranks h.from 1) × (back ranks (ahead ranks h.from 1) (h.step + 1) ≡ ahead ranks h.from 1 - (h.step + 1))) → ((h.from < h.step) × (back ranks h.from h.step ≡ h.from + ranks - h.step)) ⊎ ((h.step ≤ h.from) × (back ranks h.from h.step ≡ h.from - h.step)) → back ranks (ahead ranks h.from 1) (h.step + 1) ≡ back ranks h.from h.step
       go (inl (a, b)) (inl (c, d)) (inl (e, f)) = let i = h.inside in let s = h.few in omega (arith, a, b, c, d, e, f, i, s)
@@ -232,7 +232,7 @@ module _ (ranks bytes : ℕ) (some : 0 < ranks) (few : ranks ≤ 512) where
 
   message_keeps_values : (h : RingHop ranks bytes) → moved (entry h.from (2 * h.step)) ≡ moved (entry (ahead ranks h.from 1) (2 * h.step + 1))
   message_keeps_values h =
-      ap moved (entry_sends h.from h.step) ∙ slots_of_single_slot (back ranks h.from h.step) ∙ ap (λ (n : ℕ). n ∷ []) (sym (same_slot h)) ∙ sym (ap moved (entry_receives (ahead ranks h.from 1) h.step) ∙ slots_of_single_slot (back ranks (ahead ranks h.from 1) (h.step + 1)))
+      ap moved (entry_sends h.from h.step) ∙ slots_of_single_slot (back ranks h.from h.step) ∙ ap (λ (n : ℕ). n ∷ []) (sym (sent_slot_is_received_slot h)) ∙ sym (ap moved (entry_receives (ahead ranks h.from 1) h.step) ∙ slots_of_single_slot (back ranks (ahead ranks h.from 1) (h.step + 1)))
 
   blueprint : IsBlueprint ranks count entry first (wanted Allgather ranks) own_value own_value (RingHop ranks bytes) bytes (ring_send ranks bytes) (ring_recv ranks bytes) (λ h. h.step) level
   blueprint = record {

@@ -14,8 +14,8 @@ use Rattle.goal_blocks.specs.Positions.{flipped, digits}
 use Rattle.goal_blocks.specs.Made.{allreduce_in}
 use Rattle.goal_blocks.specs.Generated.{made}
 use Rattle.goal_blocks.proofs.EntryFacts.{length_plans}
-use Rattle.goal_blocks.proofs.RingAndTree.{flipped_below, digits_high, digits_few}
-use Rattle.goal_blocks.proofs.Runs.{run, merge_before, merge_after, run_is}
+use Rattle.goal_blocks.proofs.RingAndTree.{flipped_below, below_power_of_digits, digits_few}
+use Rattle.goal_blocks.proofs.Runs.{run, merge_before, merge_after, run_is_mapped_range}
 use Rattle.goal_blocks.proofs.Rounds.{pow_le, gained, rounds_right, rounds_are_certified}
 use Rattle.goal_blocks.proofs.RoundsHeavy.{many_rounds, rounds_too_heavy}
 use Rattle.goal_blocks.proofs.Wishes.{is_value_reflexive}
@@ -86,23 +86,23 @@ module _ (m bytes : ℕ) (few : 2 ^ m ≤ rank_limit) where
 
       below : (j : ℕ) → n < m → suc j ≡ m → ⊥
       below j less e =
-          let high = digits_high (ranks - 1) n (omega (arith, few)) (omega arith) in
+          let high = below_power_of_digits (ranks - 1) n (omega (arith, few)) (omega arith) in
           let le = pow_le n j (omega (arith, less, e)) in
           let twice = pow-suc 2 j in
           let whole = ap (λ (k : ℕ). 2 ^ k) e in
           let one = pow_pos j in
           omega (arith, high, le, twice, whole, one)
 
-  to_rank : (r k : ℕ) → r < ranks → k < n → flipped r k < ranks
-  to_rank r k inside l = let same = rounds_are_m in flipped_below m r k inside (omega (arith, l, same))
+  flipped_is_rank : (r k : ℕ) → r < ranks → k < n → flipped r k < ranks
+  flipped_is_rank r k inside l = let same = rounds_are_m in flipped_below m r k inside (omega (arith, l, same))
 
   flipped_twice_of_rank : (r k : ℕ) → r < ranks → k < n → flipped (flipped r k) k ≡ r
   flipped_twice_of_rank r k inside l = flipped_twice r k
 
   abbrev value_after : ℕ → ℕ → Value
-  value_after k r = gained ranks n bytes flipped flipped to_rank to_rank flipped_twice_of_rank flipped_twice_of_rank k r
+  value_after k r = gained ranks n bytes flipped flipped flipped_is_rank flipped_is_rank flipped_twice_of_rank flipped_twice_of_rank k r
 
-  -- two neighbouring runs are one, from either of their ranks
+  -- merging two adjacent runs gives one run, both at a rank of the lower and at one of the upper run
   joined_low : (k q x : ℕ) → x < 2 ^ k → value_after k (2 * q * 2 ^ k + x) ≡ run (2 * q * 2 ^ k) (2 ^ k) → value_after k ((2 * q + 1) * 2 ^ k + x) ≡ run ((2 * q + 1) * 2 ^ k) (2 ^ k) → value_after (suc k) (q * 2 ^ suc k + x) ≡ run (q * 2 ^ suc k) (2 ^ suc k)
   unfolding gained
   joined_low k q x near mine others =
@@ -157,7 +157,7 @@ module _ (m bytes : ℕ) (few : 2 ^ m ≤ rank_limit) where
       let power = ap (λ (k : ℕ). 2 ^ k) same in
       let at : 0 * 2 ^ n + r ≡ r = omega arith in
       let start : 0 * 2 ^ n ≡ 0 = omega arith in
-      ap (λ (s : ℕ). value_after n s) (sym at) ∙ value_after_rounds n 0 r (omega (arith, inside, power)) ∙ (λ i. run (start i) (power i)) ∙ run_is 0 ranks
+      ap (λ (s : ℕ). value_after n s) (sym at) ∙ value_after_rounds n 0 r (omega (arith, inside, power)) ∙ (λ i. run (start i) (power i)) ∙ run_is_mapped_range 0 ranks
 
   wanted_at_end : (r : ℕ) → r < ranks → wanted Allreduce ranks r 0 (value_after n r) ≡ true
   unfolding wanted
@@ -175,9 +175,9 @@ module _ (m bytes : ℕ) (few : 2 ^ m ≤ rank_limit) where
   abbrev first : Store
   first = initial Allreduce ranks
 
-  first_is : (r : ℕ) → r < ranks → first r 0 ≡ single r 0
+  allreduce_slot_zero_starts_with_own : (r : ℕ) → r < ranks → first r 0 ≡ single r 0
   unfolding initial
-  first_is r inside = rw (lt-ltb r ranks inside) refl
+  allreduce_slot_zero_starts_with_own r inside = rw (lt-ltb r ranks inside) refl
 
   first_few : (r : ℕ) → length (first r 0) ≤ 1
   unfolding initial
@@ -202,16 +202,16 @@ module _ (m bytes : ℕ) (few : 2 ^ m ≤ rank_limit) where
   unfolding made allreduce_in
   allreduce_certified light =
       let least = few_rounds light in
-      subst (λ (k : ℕ). IsCertified (made Allreduce ranks bytes) (initial Allreduce k) (wanted Allreduce k)) (sym (length_plans ranks (λ r. 3 * n) (λ r i. allreduce_in bytes r i))) (rounds_are_certified ranks n bytes flipped flipped to_rank to_rank flipped_twice_of_rank flipped_twice_of_rank first (wanted Allreduce ranks) first_is wanted_at_end (λ r s inside. inl (λ v. nothing_wanted_elsewhere r s v)) first_few first_empty_elsewhere light (let le = pow_le n 11 least in omega (arith, le)) least)
+      subst (λ (k : ℕ). IsCertified (made Allreduce ranks bytes) (initial Allreduce k) (wanted Allreduce k)) (sym (length_plans ranks (λ r. 3 * n) (λ r i. allreduce_in bytes r i))) (rounds_are_certified ranks n bytes flipped flipped flipped_is_rank flipped_is_rank flipped_twice_of_rank flipped_twice_of_rank first (wanted Allreduce ranks) allreduce_slot_zero_starts_with_own wanted_at_end (λ r s inside. inl (λ v. nothing_wanted_elsewhere r s v)) first_few first_empty_elsewhere light (let le = pow_le n 11 least in omega (arith, le)) least)
 
   -- whatever the number of ranks
   pub allreduce_right : IsRightFor Allreduce (made Allreduce ranks bytes)
   unfolding made allreduce_in
   allreduce_right =
-      subst (λ (k : ℕ). IsRightEverywhere (made Allreduce ranks bytes) (initial Allreduce k) (wanted Allreduce k)) (sym (length_plans ranks (λ r. 3 * n) (λ r i. allreduce_in bytes r i))) (rounds_right ranks n bytes flipped flipped to_rank to_rank flipped_twice_of_rank flipped_twice_of_rank first (wanted Allreduce ranks) first_is wanted_at_end (λ r s inside. inl (λ v. nothing_wanted_elsewhere r s v)))
+      subst (λ (k : ℕ). IsRightEverywhere (made Allreduce ranks bytes) (initial Allreduce k) (wanted Allreduce k)) (sym (length_plans ranks (λ r. 3 * n) (λ r i. allreduce_in bytes r i))) (rounds_right ranks n bytes flipped flipped flipped_is_rank flipped_is_rank flipped_twice_of_rank flipped_twice_of_rank first (wanted Allreduce ranks) allreduce_slot_zero_starts_with_own wanted_at_end (λ r s inside. inl (λ v. nothing_wanted_elsewhere r s v)))
 
-  -- with more ranks there are more than 11 rounds, and too much is held
+  -- with more ranks there are more than 11 rounds, and the contributions held exceed the limit
   pub allreduce_heavy : certified_rank_limit < ranks → IsCertifiedFor Allreduce (made Allreduce ranks bytes) → ⊥
   unfolding made allreduce_in
   allreduce_heavy many c =
-      rounds_too_heavy ranks n bytes flipped flipped to_rank to_rank flipped_twice_of_rank flipped_twice_of_rank first first_is many few (many_rounds ranks many few) (wanted Allreduce ranks) (subst (λ (k : ℕ). IsCertified (made Allreduce ranks bytes) (initial Allreduce k) (wanted Allreduce k)) (length_plans ranks (λ r. 3 * n) (λ r i. allreduce_in bytes r i)) c)
+      rounds_too_heavy ranks n bytes flipped flipped flipped_is_rank flipped_is_rank flipped_twice_of_rank flipped_twice_of_rank first allreduce_slot_zero_starts_with_own many few (many_rounds ranks many few) (wanted Allreduce ranks) (subst (λ (k : ℕ). IsCertified (made Allreduce ranks bytes) (initial Allreduce k) (wanted Allreduce k)) (length_plans ranks (λ r. 3 * n) (λ r i. allreduce_in bytes r i)) c)

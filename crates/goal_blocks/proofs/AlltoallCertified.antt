@@ -22,10 +22,10 @@ use Rattle.goal_blocks.specs.Generated.{made}
 use Rattle.goal_blocks.proofs.Orders.{Mem}
 use Rattle.goal_blocks.proofs.Slim.{All_one}
 use Rattle.goal_blocks.proofs.EntryFacts.{slots_of_span, length_plans}
-use Rattle.goal_blocks.proofs.Ring.{back_is, back_ahead, ahead_back}
+use Rattle.goal_blocks.proofs.Ring.{back_cases, back_ahead, ahead_back}
 use Rattle.goal_blocks.proofs.RingAndTree.{ahead_below, back_below}
 use Rattle.goal_blocks.proofs.MadeFits.{alltoall_fits}
-use Rattle.goal_blocks.proofs.MadePaired.{at, same_place}
+use Rattle.goal_blocks.proofs.MadePaired.{at, at_of_equal_numbers}
 use Rattle.goal_blocks.proofs.Sizes.{sum_below_few, sum_low_few, entries_small}
 use Rattle.goal_blocks.proofs.Totals.{entries_few}
 use Rattle.goal_blocks.proofs.AllgatherCertified.{slots_of_single_slot, back_injective, back_zero, back_back}
@@ -90,7 +90,7 @@ module _ (ranks bytes : ℕ) (some : 0 < ranks) (few : ranks ≤ 512) where
 
   shift_cases : (x : OpId) → x.rank < ranks → x.op < 1 + 2 * (ranks - 1) → ((nanos : ℕ) × ((entry x.rank x.op).kind ≡ Calc nanos)) ⊎ (((h : Shift) × (shift_send h ≡ x)) ⊎ ((h : Shift) × (shift_recv h ≡ x)))
   shift_cases x in_rank inside =
-      ⊎_elim (λ e. inl (0, ap (λ (i : ℕ). (entry x.rank i).kind) e ∙ ap (λ (y : Entry). y.kind) (entry_copies x.rank))) (λ c. inr (⊎_elim (λ p. let f = p.1 in inl (record { from = x.rank; step = p.0; inside = in_rank; few_steps = omega (arith, inside, f) }, same_place x.rank (suc (2 * p.0)) x.rank x.op refl (sym f))) (λ p. let f = p.1 in let low : p.0 + 1 < ranks = omega (arith, inside, f) in inr (record { from = back ranks x.rank (p.0 + 1); step = p.0; inside = back_below ranks x.rank (p.0 + 1) in_rank; few_steps = low }, same_place (ahead ranks (back ranks x.rank (p.0 + 1)) (p.0 + 1)) (suc (2 * p.0 + 1)) x.rank x.op (ahead_back ranks x.rank (p.0 + 1) in_rank (omega (arith, low))) (sym f))) c)) (cases_step x.op)
+      ⊎_elim (λ e. inl (0, ap (λ (i : ℕ). (entry x.rank i).kind) e ∙ ap (λ (y : Entry). y.kind) (entry_copies x.rank))) (λ c. inr (⊎_elim (λ p. let f = p.1 in inl (record { from = x.rank; step = p.0; inside = in_rank; few_steps = omega (arith, inside, f) }, at_of_equal_numbers x.rank (suc (2 * p.0)) x.rank x.op refl (sym f))) (λ p. let f = p.1 in let low : p.0 + 1 < ranks = omega (arith, inside, f) in inr (record { from = back ranks x.rank (p.0 + 1); step = p.0; inside = back_below ranks x.rank (p.0 + 1) in_rank; few_steps = low }, at_of_equal_numbers (ahead ranks (back ranks x.rank (p.0 + 1)) (p.0 + 1)) (suc (2 * p.0 + 1)) x.rank x.op (ahead_back ranks x.rank (p.0 + 1) in_rank (omega (arith, low))) (sym f))) c)) (cases_step x.op)
 
   shift_messages : AreMessages ranks count entry Shift bytes shift_send shift_recv (λ h. h.step + 1)
   shift_messages = record {
@@ -100,17 +100,17 @@ module _ (ranks bytes : ℕ) (some : 0 < ranks) (few : ranks ≤ 512) where
     received = λ h. let low = h.few_steps in ap (λ (y : Entry). y.kind) (entry_receives (ahead ranks h.from (h.step + 1)) h.step) ∙ ap (λ (r : ℕ). Recv bytes (Some r) (Some (h.step + 1))) (back_ahead ranks h.from (h.step + 1) h.inside (omega (arith, low)));
     cases = λ x in_rank inside. shift_cases x in_rank inside;
     apart = λ h k source target tag. let same : h.step ≡ k.step = omega (arith, tag) in (
-      same_place h.from (suc (2 * h.step)) k.from (suc (2 * k.step)) source (ap (λ (s : ℕ). suc (2 * s)) same),
-      same_place (ahead ranks h.from (h.step + 1)) (suc (2 * h.step + 1)) (ahead ranks k.from (k.step + 1)) (suc (2 * k.step + 1)) target (ap (λ (s : ℕ). suc (2 * s + 1)) same),
+      at_of_equal_numbers h.from (suc (2 * h.step)) k.from (suc (2 * k.step)) source (ap (λ (s : ℕ). suc (2 * s)) same),
+      at_of_equal_numbers (ahead ranks h.from (h.step + 1)) (suc (2 * h.step + 1)) (ahead ranks k.from (k.step + 1)) (suc (2 * k.step + 1)) target (ap (λ (s : ℕ). suc (2 * s + 1)) same),
     );
   }
 
-  at_slot : (j k : ℕ) → Mem k (flat_map slots_of_span (slot j)) → j ≡ k
-  at_slot j k n = ⊎_elim (λ e. e) (λ none. absurd none) (subst (λ (ks : List ℕ). Mem k ks) (slots_of_single_slot j) n)
+  member_of_slot_span_is_slot : (j k : ℕ) → Mem k (flat_map slots_of_span (slot j)) → j ≡ k
+  member_of_slot_span_is_slot j k n = ⊎_elim (λ e. e) (λ none. absurd none) (subst (λ (ks : List ℕ). Mem k ks) (slots_of_single_slot j) n)
 
   -- that of its own rank, or of the one from which it receives
   writes_place : (r i k : ℕ) → Mem k (writes (entry r i)) → ((i ≡ 0) × (ranks + r ≡ k)) ⊎ ((s : ℕ) × (i ≡ suc (2 * s + 1)) × (ranks + back ranks r (s + 1) ≡ k))
-  writes_place r i k m = ⊎_elim (λ e. inl (e, one (subst (λ (x : Entry). Mem k (writes x)) (ap (λ (n : ℕ). entry r n) e ∙ entry_copies r) m))) (λ c. inr (⊎_elim (λ p. absurd (subst (λ (x : Entry). Mem k (writes x)) (ap (λ (n : ℕ). entry r n) p.1 ∙ entry_sends r p.0) m)) (λ p. (p.0, p.1, at_slot (ranks + back ranks r (p.0 + 1)) k (subst (λ (x : Entry). Mem k (writes x)) (ap (λ (n : ℕ). entry r n) p.1 ∙ entry_receives r p.0) m))) c)) (cases_step i)
+  writes_place r i k m = ⊎_elim (λ e. inl (e, one (subst (λ (x : Entry). Mem k (writes x)) (ap (λ (n : ℕ). entry r n) e ∙ entry_copies r) m))) (λ c. inr (⊎_elim (λ p. absurd (subst (λ (x : Entry). Mem k (writes x)) (ap (λ (n : ℕ). entry r n) p.1 ∙ entry_sends r p.0) m)) (λ p. (p.0, p.1, member_of_slot_span_is_slot (ranks + back ranks r (p.0 + 1)) k (subst (λ (x : Entry). Mem k (writes x)) (ap (λ (n : ℕ). entry r n) p.1 ∙ entry_receives r p.0) m))) c)) (cases_step i)
     where
       one : Mem k ((ranks + r) ∷ []) → ranks + r ≡ k
       one (inl e) = e
@@ -125,7 +125,7 @@ module _ (ranks bytes : ℕ) (some : 0 < ranks) (few : ranks ≤ 512) where
 
   -- an operation touches a slot that none writes, or the one that it writes
   touches_place : (r i k : ℕ) → r < ranks → i < count r → Mem k (touches (entry r i)) → (k < ranks) ⊎ Mem k (writes (entry r i))
-  touches_place r i k inside l m = ⊎_elim (λ e. copied e (subst (λ (x : Entry). Mem k (touches x)) (ap (λ (n : ℕ). entry r n) e ∙ entry_copies r) m)) (λ c. ⊎_elim (λ p. sent p.0 p.1 (at_slot (ahead ranks r (p.0 + 1)) k (subst (λ (x : Entry). Mem k (touches x)) (ap (λ (n : ℕ). entry r n) p.1 ∙ entry_sends r p.0) m))) (λ p. inr (subst (λ (x : Entry). Mem k (writes x)) (sym (ap (λ (n : ℕ). entry r n) p.1 ∙ entry_receives r p.0)) (subst (λ (x : Entry). Mem k (touches x)) (ap (λ (n : ℕ). entry r n) p.1 ∙ entry_receives r p.0) m))) c) (cases_step i)
+  touches_place r i k inside l m = ⊎_elim (λ e. copied e (subst (λ (x : Entry). Mem k (touches x)) (ap (λ (n : ℕ). entry r n) e ∙ entry_copies r) m)) (λ c. ⊎_elim (λ p. sent p.0 p.1 (member_of_slot_span_is_slot (ahead ranks r (p.0 + 1)) k (subst (λ (x : Entry). Mem k (touches x)) (ap (λ (n : ℕ). entry r n) p.1 ∙ entry_sends r p.0) m))) (λ p. inr (subst (λ (x : Entry). Mem k (writes x)) (sym (ap (λ (n : ℕ). entry r n) p.1 ∙ entry_receives r p.0)) (subst (λ (x : Entry). Mem k (touches x)) (ap (λ (n : ℕ). entry r n) p.1 ∙ entry_receives r p.0) m))) c) (cases_step i)
     where
       copied : i ≡ 0 → Mem k (r ∷ (ranks + r) ∷ []) → (k < ranks) ⊎ Mem k (writes (entry r i))
       copied e (inl f) = inl (omega (arith, f, inside))
@@ -150,25 +150,25 @@ module _ (ranks bytes : ℕ) (some : 0 < ranks) (few : ranks ≤ 512) where
           let same = back_injective ranks r (s + 1) (t + 1) inside (omega (arith, l, e)) (omega (arith, m, g)) (omega (arith, f, h)) in
           omega (arith, same, e, g)
 
-  writes_high : (r i k : ℕ) → Mem k (writes (entry r i)) → ranks ≤ k
-  writes_high r i k w =
+  written_slot_at_least_ranks : (r i k : ℕ) → Mem k (writes (entry r i)) → ranks ≤ k
+  written_slot_at_least_ranks r i k w =
       ⊎_elim (λ p. let e = p.1 in omega (arith, e)) (λ p. let e = p.2 in omega (arith, e)) (writes_place r i k w)
 
-  writes_low : (r i k : ℕ) → r < ranks → Mem k (writes (entry r i)) → k < ranks + ranks
-  writes_low r i k inside w =
+  written_slot_below_twice_ranks : (r i k : ℕ) → r < ranks → Mem k (writes (entry r i)) → k < ranks + ranks
+  written_slot_below_twice_ranks r i k inside w =
       ⊎_elim (λ p. let e = p.1 in omega (arith, e, inside)) (λ p. let e = p.2 in let low = back_below ranks r (p.0 + 1) inside in omega (arith, e, low)) (writes_place r i k w)
 
   conflicts_are_ordered : (r i j k : ℕ) → r < ranks → i < count r → j < count r → (i ≡ j → ⊥) → Mem k (touches (entry r i)) → Mem k (writes (entry r j)) → Precedes (entry r) i j ⊎ Precedes (entry r) j i
   conflicts_are_ordered r i j k inside l m differ t w =
-      ⊎_elim (λ low. absurd (let high = writes_high r j k w in omega (arith, low, high))) (λ v. absurd (differ (one_writer r i j k inside l m v w))) (touches_place r i k inside l t)
+      ⊎_elim (λ low. absurd (let high = written_slot_at_least_ranks r j k w in omega (arith, low, high))) (λ v. absurd (differ (one_writer r i j k inside l m v w))) (touches_place r i k inside l t)
 
   touched_has_origin : (r i k : ℕ) → IsThere ranks count entry r i → ((room : ℕ) (from t : Option ℕ) → (entry r i).kind ≡ Recv room from t → ⊥) → Mem k (touches (entry r i)) → Origin ranks count entry first (wanted Alltoall ranks) shift_finds shift_leaves r i k
   touched_has_origin r i k there not_receive t =
-      inl (refl, λ j m w. ⊎_elim (λ low. absurd (let high = writes_high r j k w in omega (arith, low, high))) (λ v. inl (one_writer r j i k there.0 m there.1 w v)) (touches_place r i k there.0 there.1 t))
+      inl (refl, λ j m w. ⊎_elim (λ low. absurd (let high = written_slot_at_least_ranks r j k w in omega (arith, low, high))) (λ v. inl (one_writer r j i k there.0 m there.1 w v)) (touches_place r i k there.0 there.1 t))
 
-  first_own : (r k : ℕ) → r < ranks → k < ranks → first r k ≡ single r k
+  starts_with_own_item_for_each : (r k : ℕ) → r < ranks → k < ranks → first r k ≡ single r k
   unfolding initial
-  first_own r k inside low = rw (lt-ltb r ranks inside, lt-ltb k ranks low) refl
+  starts_with_own_item_for_each r k inside low = rw (lt-ltb r ranks inside, lt-ltb k ranks low) refl
 
   first_empty_elsewhere : (r k : ℕ) → ranks ≤ k → first r k ≡ []
   unfolding initial
@@ -188,7 +188,7 @@ module _ (ranks bytes : ℕ) (some : 0 < ranks) (few : ranks ≤ 512) where
 
       sum : merge (first r (ranks + r)) (first r r) ≡ single (ranks + r - ranks) r
       sum =
-          (let to = first_empty_elsewhere r (ranks + r) (omega arith) in let from = first_own r r there.0 there.0 in λ i. merge (to i) (from i)) ∙ ap (λ (n : ℕ). single n r) (sym slot_is)
+          (let to = first_empty_elsewhere r (ranks + r) (omega arith) in let from = starts_with_own_item_for_each r r there.0 there.0 in λ i. merge (to i) (from i)) ∙ ap (λ (n : ℕ). single n r) (sym slot_is)
 
   message_keeps_values : (h : Shift) → map (first h.from) (moved (entry h.from (suc (2 * h.step)))) ≡ map (shift_leaves (ahead ranks h.from (h.step + 1)) 0) (moved (entry (ahead ranks h.from (h.step + 1)) (suc (2 * h.step + 1))))
   message_keeps_values h =
@@ -196,7 +196,7 @@ module _ (ranks bytes : ℕ) (some : 0 < ranks) (few : ranks ≤ 512) where
       let to = ahead ranks h.from (h.step + 1) in
       let home = back_ahead ranks h.from (h.step + 1) h.inside (omega (arith, low)) in
       let number : ranks + back ranks to (h.step + 1) - ranks ≡ h.from = omega (arith, home) in
-      ap (λ (ks : List ℕ). map (first h.from) ks) (ap moved (entry_sends h.from h.step) ∙ slots_of_single_slot to) ∙ ap (λ (v : Value). v ∷ []) (first_own h.from to h.inside (ahead_below ranks h.from (h.step + 1) h.inside (omega (arith, low)))) ∙ sym (ap (λ (ks : List ℕ). map (shift_leaves to 0) ks) (ap moved (entry_receives to h.step) ∙ slots_of_single_slot (ranks + back ranks to (h.step + 1))) ∙ ap (λ (n : ℕ). single n to ∷ []) number)
+      ap (λ (ks : List ℕ). map (first h.from) ks) (ap moved (entry_sends h.from h.step) ∙ slots_of_single_slot to) ∙ ap (λ (v : Value). v ∷ []) (starts_with_own_item_for_each h.from to h.inside (ahead_below ranks h.from (h.step + 1) h.inside (omega (arith, low)))) ∙ sym (ap (λ (ks : List ℕ). map (shift_leaves to 0) ks) (ap moved (entry_receives to h.step) ∙ slots_of_single_slot (ranks + back ranks to (h.step + 1))) ∙ ap (λ (n : ℕ). single n to ∷ []) number)
 
   wanted_at_end : (r k : ℕ) → r < ranks → ranks ≤ k → k < ranks + ranks → wanted Alltoall ranks r k (single (k - ranks) r) ≡ true
   unfolding wanted is_value
@@ -225,7 +225,7 @@ module _ (ranks bytes : ℕ) (some : 0 < ranks) (few : ranks ≤ 512) where
       here high low (inr other) =
           let d = back ranks r (k - ranks) in
           let under = back_below ranks r (k - ranks) inside in
-          let above : 0 < d = ⊎_elim (λ p. let at = p.1 in let le = p.0 in omega (arith, at, le, low, high, inside)) (λ p. let at = p.1 in let le = p.0 in ⊎_elim (λ z. absurd (other (omega (arith, at, le, z)))) (λ z. omega (arith, z)) (cases_eq (back ranks r (k - ranks)) 0)) (back_is ranks r (k - ranks)) in
+          let above : 0 < d = ⊎_elim (λ p. let at = p.1 in let le = p.0 in omega (arith, at, le, low, high, inside)) (λ p. let at = p.1 in let le = p.0 in ⊎_elim (λ z. absurd (other (omega (arith, at, le, z)))) (λ z. omega (arith, z)) (cases_eq (back ranks r (k - ranks)) 0)) (back_cases ranks r (k - ranks)) in
           let t = d - 1 in
           let step : t + 1 ≡ d = omega (arith, above) in
           let from : back ranks r (t + 1) ≡ k - ranks = ap (λ (n : ℕ). back ranks r n) step ∙ back_back ranks r (k - ranks) inside (omega (arith, low, high)) in
@@ -286,7 +286,7 @@ module _ (ranks bytes : ℕ) (some : 0 < ranks) (few : ranks ≤ 512) where
   blueprint_is_bounded : bytes ≤ MAX_BYTES → IsBounded ranks count entry first (wanted Alltoall ranks) shift_finds shift_leaves Shift shift_send cap load
   blueprint_is_bounded size = record {
     first_cap = first_cap;
-    leaves_cap = λ r i k there w. let low = cap_low r k (writes_low r i k there.0 w) in omega (arith, low);
+    leaves_cap = λ r i k there w. let low = cap_low r k (written_slot_below_twice_ranks r i k there.0 w) in omega (arith, low);
     finds_load = λ h. subst (λ (ks : List ℕ). sum_by (λ (v : Value). length v) (map (first h.from) ks) ≤ 1) (sym (ap moved (entry_sends h.from h.step) ∙ slots_of_single_slot (ahead ranks h.from (h.step + 1)))) (let few_here = first_few h.from (ahead ranks h.from (h.step + 1)) in omega (arith, few_here));
     total = total;
   }

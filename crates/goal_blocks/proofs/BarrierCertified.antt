@@ -14,8 +14,8 @@ use Rattle.goal_blocks.specs.Positions.{ahead, back, digits}
 use Rattle.goal_blocks.specs.Made.{barrier_in}
 use Rattle.goal_blocks.specs.Generated.{made}
 use Rattle.goal_blocks.proofs.EntryFacts.{length_plans}
-use Rattle.goal_blocks.proofs.Ring.{back_is, back_ahead, ahead_back}
-use Rattle.goal_blocks.proofs.RingAndTree.{ahead_below, back_below, digits_low, digits_high, digits_few}
+use Rattle.goal_blocks.proofs.Ring.{back_cases, back_ahead, ahead_back}
+use Rattle.goal_blocks.proofs.RingAndTree.{ahead_below, back_below, power_below_digits_at_most, below_power_of_digits, digits_few}
 use Rattle.goal_blocks.proofs.AllgatherCertified.{back_zero, back_back}
 use Rattle.goal_blocks.proofs.Rounds.{pow_le, gained, rounds_right, rounds_are_certified}
 use Rattle.goal_blocks.proofs.RoundsHeavy.{many_rounds, rounds_too_heavy}
@@ -35,7 +35,7 @@ pub has_one_of_empty : (c : Contribution) → has_one [] c ≡ false
 unfolding has_one
 has_one_of_empty c = refl
 
--- a value that is merged with another has what each of them has
+-- the merge of two values has every contribution of each of them
 pub has_one_inserted : (e c : Contribution) (v : Value) → is_one c e ≡ true → has_one (insert_one e v) c ≡ true
 unfolding insert_one
 has_one_inserted e c [] is = has_one_of_cons e c [] true is
@@ -76,7 +76,7 @@ all_range p f a (suc m) each =
 
 -- two steps back in the ring
 back_of_back_adds : (ranks r a b : ℕ) → r < ranks → a + b < ranks → back ranks (back ranks r a) b ≡ back ranks r (a + b)
-back_of_back_adds ranks r a b p q = go (back_is ranks r a) (back_is ranks (back ranks r a) b) (back_is ranks r (a + b))
+back_of_back_adds ranks r a b p q = go (back_cases ranks r a) (back_cases ranks (back ranks r a) b) (back_cases ranks r (a + b))
   where
     go : ((r < a) × (back ranks r a ≡ r + ranks - a)) ⊎ ((a ≤ r) × (back ranks r a ≡ r - a)) → ((back ranks r a < b) × (back ranks (back ranks r a) b ≡ back ranks r a + ranks - b)) ⊎ ((b ≤ back ranks r a) × (back ranks (back ranks r a) b ≡ back ranks r a - b)) → ((r < a + b) × (back ranks r (a + b) ≡ r + ranks - (a + b))) ⊎ ((a + b ≤ r) × (back ranks r (a + b) ≡ r - (a + b))) → back ranks (back ranks r a) b ≡ back ranks r (a + b)
     go (inl (x, e)) (inl (y, f)) (inl (z, g)) = omega (arith, p, q, x, e, y, f, z, g)
@@ -98,38 +98,38 @@ module _ (ranks bytes : ℕ) (some : 0 < ranks) (few : ranks ≤ rank_limit) whe
   abbrev from : ℕ → ℕ → ℕ
   from r k = back ranks r (2 ^ k)
 
-  power_low : (k : ℕ) → k < n → 2 ^ k < ranks
-  power_low k l = let low = digits_low (ranks - 1) k (omega (arith, few)) l in omega (arith, low, some)
+  power_of_round_below_ranks : (k : ℕ) → k < n → 2 ^ k < ranks
+  power_of_round_below_ranks k l = let low = power_below_digits_at_most (ranks - 1) k (omega (arith, few)) l in omega (arith, low, some)
 
-  to_rank : (r k : ℕ) → r < ranks → k < n → to r k < ranks
-  to_rank r k inside l = let low = power_low k l in ahead_below ranks r (2 ^ k) inside (omega (arith, low))
+  target_is_rank : (r k : ℕ) → r < ranks → k < n → to r k < ranks
+  target_is_rank r k inside l = let low = power_of_round_below_ranks k l in ahead_below ranks r (2 ^ k) inside (omega (arith, low))
 
-  from_rank : (r k : ℕ) → r < ranks → k < n → from r k < ranks
-  from_rank r k inside l = back_below ranks r (2 ^ k) inside
+  source_is_rank : (r k : ℕ) → r < ranks → k < n → from r k < ranks
+  source_is_rank r k inside l = back_below ranks r (2 ^ k) inside
 
   from_inverts_to : (r k : ℕ) → r < ranks → k < n → from (to r k) k ≡ r
-  from_inverts_to r k inside l = let low = power_low k l in back_ahead ranks r (2 ^ k) inside (omega (arith, low))
+  from_inverts_to r k inside l = let low = power_of_round_below_ranks k l in back_ahead ranks r (2 ^ k) inside (omega (arith, low))
 
   to_inverts_from : (r k : ℕ) → r < ranks → k < n → to (from r k) k ≡ r
-  to_inverts_from r k inside l = let low = power_low k l in ahead_back ranks r (2 ^ k) inside (omega (arith, low))
+  to_inverts_from r k inside l = let low = power_of_round_below_ranks k l in ahead_back ranks r (2 ^ k) inside (omega (arith, low))
 
   abbrev value_after : ℕ → ℕ → Value
-  value_after k r = gained ranks n bytes to from to_rank from_rank from_inverts_to to_inverts_from k r
+  value_after k r = gained ranks n bytes to from target_is_rank source_is_rank from_inverts_to to_inverts_from k r
 
-  -- after k rounds slot 0 has a contribution of each of the 2^k ranks behind
-  has_each_behind : (k r d : ℕ) → r < ranks → k ≤ n → d < 2 ^ k → d < ranks → has_one (value_after k r) (record { rank = back ranks r d; item = 0 }) ≡ true
+  -- after k rounds slot 0 has a contribution of the rank itself and of each of the 2^k - 1 ranks before it
+  has_one_of_each_preceding_rank : (k r d : ℕ) → r < ranks → k ≤ n → d < 2 ^ k → d < ranks → has_one (value_after k r) (record { rank = back ranks r d; item = 0 }) ≡ true
   unfolding gained
-  has_each_behind zero r d inside l low under =
+  has_one_of_each_preceding_rank zero r d inside l low under =
       let none : d ≡ 0 = omega (arith, low) in
       let own : back ranks r d ≡ r = ap (λ (m : ℕ). back ranks r m) none ∙ back_zero ranks r in
       has_one_of_cons (record { rank = r; item = 0 }) (record { rank = back ranks r d; item = 0 }) [] true (rw (eq-eqb (back ranks r d) r own) refl)
-  has_each_behind (suc k) r d inside l low under =
-      ⊎_elim (λ near. has_one_of_left (record { rank = back ranks r d; item = 0 }) (value_after k r) (value_after k (from r k)) (has_each_behind k r d inside (omega (arith, l)) near under)) (λ far. has_one_of_right (record { rank = back ranks r d; item = 0 }) (value_after k r) (value_after k (from r k)) (let twice = pow-suc 2 k in let whole : 2 ^ k + (d - 2 ^ k) ≡ d = omega (arith, far) in let same = back_of_back_adds ranks r (2 ^ k) (d - 2 ^ k) inside (omega (arith, whole, under)) ∙ ap (λ (m : ℕ). back ranks r m) whole in subst (λ (q : ℕ). has_one (value_after k (from r k)) (record { rank = q; item = 0 }) ≡ true) same (has_each_behind k (from r k) (d - 2 ^ k) (from_rank r k inside (omega (arith, l))) (omega (arith, l)) (omega (arith, low, twice, far)) (omega (arith, under))))) (cases_lt d (2 ^ k))
+  has_one_of_each_preceding_rank (suc k) r d inside l low under =
+      ⊎_elim (λ near. has_one_of_left (record { rank = back ranks r d; item = 0 }) (value_after k r) (value_after k (from r k)) (has_one_of_each_preceding_rank k r d inside (omega (arith, l)) near under)) (λ far. has_one_of_right (record { rank = back ranks r d; item = 0 }) (value_after k r) (value_after k (from r k)) (let twice = pow-suc 2 k in let whole : 2 ^ k + (d - 2 ^ k) ≡ d = omega (arith, far) in let same = back_of_back_adds ranks r (2 ^ k) (d - 2 ^ k) inside (omega (arith, whole, under)) ∙ ap (λ (m : ℕ). back ranks r m) whole in subst (λ (q : ℕ). has_one (value_after k (from r k)) (record { rank = q; item = 0 }) ≡ true) same (has_one_of_each_preceding_rank k (from r k) (d - 2 ^ k) (source_is_rank r k inside (omega (arith, l))) (omega (arith, l)) (omega (arith, low, twice, far)) (omega (arith, under))))) (cases_lt d (2 ^ k))
 
   wanted_at_end : (r : ℕ) → r < ranks → wanted Barrier ranks r 0 (value_after n r) ≡ true
   unfolding wanted of_each
   wanted_at_end r inside =
-      rw (lt-ltb r ranks inside) (all_range (has_one (value_after n r)) (λ (q : ℕ). record { rank = q; item = 0 }) 0 ranks (λ q l. let under : q < ranks = omega (arith, l) in let d = back_below ranks r q inside in let high = digits_high (ranks - 1) n (omega (arith, few)) (omega arith) in subst (λ (k : ℕ). has_one (value_after n r) (record { rank = k; item = 0 }) ≡ true) (back_back ranks r q inside under) (has_each_behind n r (back ranks r q) inside (omega arith) (omega (arith, d, high)) d)))
+      rw (lt-ltb r ranks inside) (all_range (has_one (value_after n r)) (λ (q : ℕ). record { rank = q; item = 0 }) 0 ranks (λ q l. let under : q < ranks = omega (arith, l) in let d = back_below ranks r q inside in let high = below_power_of_digits (ranks - 1) n (omega (arith, few)) (omega arith) in subst (λ (k : ℕ). has_one (value_after n r) (record { rank = k; item = 0 }) ≡ true) (back_back ranks r q inside under) (has_one_of_each_preceding_rank n r (back ranks r q) inside (omega arith) (omega (arith, d, high)) d)))
 
   nothing_wanted_elsewhere : (r k : ℕ) (v : Value) → wanted Barrier ranks r (suc k) v ≡ true
   unfolding wanted
@@ -142,9 +142,9 @@ module _ (ranks bytes : ℕ) (some : 0 < ranks) (few : ranks ≤ rank_limit) whe
   abbrev first : Store
   first = initial Barrier ranks
 
-  first_is : (r : ℕ) → r < ranks → first r 0 ≡ single r 0
+  barrier_slot_zero_starts_with_own : (r : ℕ) → r < ranks → first r 0 ≡ single r 0
   unfolding initial
-  first_is r inside = rw (lt-ltb r ranks inside) refl
+  barrier_slot_zero_starts_with_own r inside = rw (lt-ltb r ranks inside) refl
 
   first_few : (r : ℕ) → length (first r 0) ≤ 1
   unfolding initial
@@ -169,16 +169,16 @@ module _ (ranks bytes : ℕ) (some : 0 < ranks) (few : ranks ≤ rank_limit) whe
   unfolding made barrier_in
   barrier_certified light =
       let least = few_rounds light in
-      subst (λ (m : ℕ). IsCertified (made Barrier ranks bytes) (initial Barrier m) (wanted Barrier m)) (sym (length_plans ranks (λ r. 3 * n) (λ r i. barrier_in ranks bytes r i))) (rounds_are_certified ranks n bytes to from to_rank from_rank from_inverts_to to_inverts_from first (wanted Barrier ranks) first_is wanted_at_end (λ r s inside. inl (λ v. nothing_wanted_elsewhere r s v)) first_few first_empty_elsewhere light (let le = pow_le n 11 least in omega (arith, le)) least)
+      subst (λ (m : ℕ). IsCertified (made Barrier ranks bytes) (initial Barrier m) (wanted Barrier m)) (sym (length_plans ranks (λ r. 3 * n) (λ r i. barrier_in ranks bytes r i))) (rounds_are_certified ranks n bytes to from target_is_rank source_is_rank from_inverts_to to_inverts_from first (wanted Barrier ranks) barrier_slot_zero_starts_with_own wanted_at_end (λ r s inside. inl (λ v. nothing_wanted_elsewhere r s v)) first_few first_empty_elsewhere light (let le = pow_le n 11 least in omega (arith, le)) least)
 
   -- whatever the number of ranks
   pub barrier_right : IsRightFor Barrier (made Barrier ranks bytes)
   unfolding made barrier_in
   barrier_right =
-      subst (λ (m : ℕ). IsRightEverywhere (made Barrier ranks bytes) (initial Barrier m) (wanted Barrier m)) (sym (length_plans ranks (λ r. 3 * n) (λ r i. barrier_in ranks bytes r i))) (rounds_right ranks n bytes to from to_rank from_rank from_inverts_to to_inverts_from first (wanted Barrier ranks) first_is wanted_at_end (λ r s inside. inl (λ v. nothing_wanted_elsewhere r s v)))
+      subst (λ (m : ℕ). IsRightEverywhere (made Barrier ranks bytes) (initial Barrier m) (wanted Barrier m)) (sym (length_plans ranks (λ r. 3 * n) (λ r i. barrier_in ranks bytes r i))) (rounds_right ranks n bytes to from target_is_rank source_is_rank from_inverts_to to_inverts_from first (wanted Barrier ranks) barrier_slot_zero_starts_with_own wanted_at_end (λ r s inside. inl (λ v. nothing_wanted_elsewhere r s v)))
 
-  -- with more ranks there are more than 11 rounds, and too much is held
+  -- with more ranks there are more than 11 rounds, and the contributions held exceed the limit
   pub barrier_heavy : certified_rank_limit < ranks → IsCertifiedFor Barrier (made Barrier ranks bytes) → ⊥
   unfolding made barrier_in
   barrier_heavy many c =
-      rounds_too_heavy ranks n bytes to from to_rank from_rank from_inverts_to to_inverts_from first first_is many few (many_rounds ranks many few) (wanted Barrier ranks) (subst (λ (m : ℕ). IsCertified (made Barrier ranks bytes) (initial Barrier m) (wanted Barrier m)) (length_plans ranks (λ r. 3 * n) (λ r i. barrier_in ranks bytes r i)) c)
+      rounds_too_heavy ranks n bytes to from target_is_rank source_is_rank from_inverts_to to_inverts_from first barrier_slot_zero_starts_with_own many few (many_rounds ranks many few) (wanted Barrier ranks) (subst (λ (m : ℕ). IsCertified (made Barrier ranks bytes) (initial Barrier m) (wanted Barrier m)) (length_plans ranks (λ r. 3 * n) (λ r i. barrier_in ranks bytes r i)) c)

@@ -21,7 +21,7 @@ use Rattle.goal_blocks.specs.Generated.{made}
 use Rattle.goal_blocks.proofs.Orders.{Mem}
 use Rattle.goal_blocks.proofs.Slim.{All_one}
 use Rattle.goal_blocks.proofs.EntryFacts.{length_plans}
-use Rattle.goal_blocks.proofs.Ring.{is_root}
+use Rattle.goal_blocks.proofs.Ring.{virtual_rank_zero_is_root}
 use Rattle.goal_blocks.proofs.RingAndTree.{back_below, digits_some}
 use Rattle.goal_blocks.proofs.MadeFits.{bcast_few, bcast_fits}
 use Rattle.goal_blocks.proofs.BcastPaired.{TreeHop, tree_send, tree_recv, tree_messages}
@@ -69,7 +69,7 @@ module _ (ranks root bytes : ℕ) (rooted : root < ranks) (few : ranks ≤ rank_
 
   first_at_root : (r : ℕ) → r < ranks → back ranks r root ≡ 0 → first r 0 ≡ single root 0
   unfolding initial
-  first_at_root r inside e = rw (lt-ltb r ranks inside, eq-eqb r root (is_root ranks r root inside rooted e)) refl
+  first_at_root r inside e = rw (lt-ltb r ranks inside, eq-eqb r root (virtual_rank_zero_is_root ranks r root inside rooted e)) refl
 
   moved_one : (v i : ℕ) → moved (bcast_in ranks root bytes v i) ≡ 0 ∷ []
   unfolding bcast_in slots_from
@@ -82,16 +82,16 @@ module _ (ranks root bytes : ℕ) (rooted : root < ranks) (few : ranks ≤ rank_
   writes_none zero i k e m = m
   writes_none (suc v) i k e m = omega (arith, e)
 
-  -- the first operation of another rank than the root receives, and it alone writes
-  writes_first : (w i k : ℕ) → Mem k (writes (bcast_in ranks root bytes (suc w) i)) → (i ≡ 0) × (0 ≡ k)
+  -- on ranks other than the root the first operation receives, and only it writes
+  writer_is_first_receive : (w i k : ℕ) → Mem k (writes (bcast_in ranks root bytes (suc w) i)) → (i ≡ 0) × (0 ≡ k)
   unfolding bcast_in slots_from
-  writes_first w zero k (inl e) = (refl, e)
-  writes_first w zero k (inr m) = absurd m
-  writes_first w (suc i) k m = absurd m
+  writer_is_first_receive w zero k (inl e) = (refl, e)
+  writer_is_first_receive w zero k (inr m) = absurd m
+  writer_is_first_receive w (suc i) k m = absurd m
 
-  first_writes : (w : ℕ) → Mem 0 (writes (bcast_in ranks root bytes (suc w) 0))
+  first_receive_writes_slot_zero : (w : ℕ) → Mem 0 (writes (bcast_in ranks root bytes (suc w) 0))
   unfolding bcast_in slots_from
-  first_writes w = inl refl
+  first_receive_writes_slot_zero w = inl refl
 
   touches_zero : (v i k : ℕ) → Mem k (touches (bcast_in ranks root bytes v i)) → 0 ≡ k
   unfolding bcast_in slots_from
@@ -102,8 +102,8 @@ module _ (ranks root bytes : ℕ) (rooted : root < ranks) (few : ranks ≤ rank_
   touches_zero (suc v) (suc i) k (inl e) = e
   touches_zero (suc v) (suc i) k (inr m) = absurd m
 
-  later_slot : (k : ℕ) → (suc k == 0) ≡ false
-  later_slot k = ne_eqb (suc k) 0 (λ e. omega (arith, e))
+  successor_is_not_zero : (k : ℕ) → (suc k == 0) ≡ false
+  successor_is_not_zero k = ne_eqb (suc k) 0 (λ e. omega (arith, e))
 
   wanted_at_end : (r : ℕ) → r < ranks → wanted (Bcast root) ranks r 0 (single root 0) ≡ true
   unfolding wanted is_value
@@ -111,7 +111,7 @@ module _ (ranks root bytes : ℕ) (rooted : root < ranks) (few : ranks ≤ rank_
 
   nothing_wanted_elsewhere : (r k : ℕ) (v : Value) → wanted (Bcast root) ranks r (suc k) v ≡ true
   unfolding wanted
-  nothing_wanted_elsewhere r k v = rw (later_slot k) (go (nat_lt r ranks))
+  nothing_wanted_elsewhere r k v = rw (successor_is_not_zero k) (go (nat_lt r ranks))
     where
       go : (b : Bool) → (if b then true else true) ≡ true
       go true = refl
@@ -123,7 +123,7 @@ module _ (ranks root bytes : ℕ) (rooted : root < ranks) (few : ranks ≤ rank_
       inl (subst (λ (n : ℕ). first r n ≡ single root 0) z (first_at_root r inside e), λ j l w. absurd (writes_none zero j k refl w))
   touched_has_origin r zero k (suc w) inside e there not_receive z t = absurd (not_receive _ _ _ refl)
   touched_has_origin r (suc i) k (suc w) inside e there not_receive z t =
-      inr (0, omega (arith, there), subst (λ (n : ℕ). Mem n (writes (bcast_in ranks root bytes (suc w) 0))) z (first_writes w), now (inl refl), refl, λ l m u. inl (inr (writes_first w l k u).0))
+      inr (0, omega (arith, there), subst (λ (n : ℕ). Mem n (writes (bcast_in ranks root bytes (suc w) 0))) z (first_receive_writes_slot_zero w), now (inl refl), refl, λ l m u. inl (inr (writer_is_first_receive w l k u).0))
 
   slots_end_as_wanted : (r k v : ℕ) → r < ranks → back ranks r root ≡ v → ((u : Value) → wanted (Bcast root) ranks r k u ≡ true) ⊎ ((((j : ℕ) → j < bcast_count ranks v → Mem k (writes (bcast_in ranks root bytes v j)) → ⊥) × (wanted (Bcast root) ranks r k (first r k) ≡ true)) ⊎ ((j : ℕ) × (j < bcast_count ranks v) × Mem k (writes (bcast_in ranks root bytes v j)) × ((l : ℕ) → l < bcast_count ranks v → Mem k (writes (bcast_in ranks root bytes v l)) → (l ≡ j) ⊎ Precedes (bcast_in ranks root bytes v) l j) × (wanted (Bcast root) ranks r k (root_value r j k) ≡ true)))
   unfolding bcast_count
@@ -131,7 +131,7 @@ module _ (ranks root bytes : ℕ) (rooted : root < ranks) (few : ranks ≤ rank_
   slots_end_as_wanted r zero zero inside e =
       inr (inl (λ j l w. writes_none zero j 0 refl w, subst (λ (u : Value). wanted (Bcast root) ranks r 0 u ≡ true) (sym (first_at_root r inside e)) (wanted_at_end r inside)))
   slots_end_as_wanted r zero (suc w) inside e =
-      inr (inr (0, omega arith, first_writes w, λ l m u. inl (writes_first w l 0 u).0, wanted_at_end r inside))
+      inr (inr (0, omega arith, first_receive_writes_slot_zero w, λ l m u. inl (writer_is_first_receive w l 0 u).0, wanted_at_end r inside))
 
   no_calc : (v i nanos : ℕ) → (bcast_in ranks root bytes v i).kind ≡ Calc nanos → ⊥
   unfolding bcast_in
@@ -164,7 +164,7 @@ module _ (ranks root bytes : ℕ) (rooted : root < ranks) (few : ranks ≤ rank_
       go true true = omega arith
       go true false = omega arith
       go false b = omega arith
-  first_cap r (suc k) = rw (later_slot k) (go (nat_lt r ranks) (r == root))
+  first_cap r (suc k) = rw (successor_is_not_zero k) (go (nat_lt r ranks) (r == root))
     where
       go : (a b : Bool) → length (if a then (if b && false then single root 0 else []) else []) ≤ 0
       go true true = omega arith
@@ -173,7 +173,7 @@ module _ (ranks root bytes : ℕ) (rooted : root < ranks) (few : ranks ≤ rank_
 
   writes_zero : (v i k : ℕ) → Mem k (writes (bcast_in ranks root bytes v i)) → 0 ≡ k
   writes_zero zero i k w = absurd (writes_none zero i k refl w)
-  writes_zero (suc v) i k w = (writes_first v i k w).1
+  writes_zero (suc v) i k w = (writer_is_first_receive v i k w).1
 
   cap_sum : (r : ℕ) → sum_below (2 ^ 32) (cap r) ≤ 1
   unfolding cap

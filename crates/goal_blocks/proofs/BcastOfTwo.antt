@@ -33,7 +33,7 @@ use Rattle.goal_blocks.specs.Made.{bcast_in, bcast_count}
 use Rattle.goal_blocks.specs.Generated.{made}
 use Rattle.goal_blocks.specs.Certified.{IsCertifiedFor}
 use Rattle.goal_blocks.specs.Laws.{BcastOfTwoIsCertified}
-use Rattle.goal_blocks.proofs.SomeWalk.{NoneOf, takes_first, nothing_left}
+use Rattle.goal_blocks.proofs.SomeWalk.{NoneOf, takes_first, nothing_allowed_if_none_found}
 
 abbrev pub two : List Plan
 two =
@@ -55,27 +55,27 @@ is_receive : IsReceive two r
 unfolding kind_at op_at
 is_receive = record { room = 8; from = Some 0; tag = Some 0; kind = refl }
 
-listed : (x : OpId) → Contains (operations two) x → (x ≡ s) ⊎ (x ≡ r)
+listed_is_send_or_receive : (x : OpId) → Contains (operations two) x → (x ≡ s) ⊎ (x ≡ r)
 unfolding places_from places_of_rank
-listed x (zero, b, e) = inl (sym e)
-listed x (suc zero, b, e) = inr (sym e)
-listed x (suc (suc k), b, e) = absurd (omega (arith, b))
+listed_is_send_or_receive x (zero, b, e) = inl (sym e)
+listed_is_send_or_receive x (suc zero, b, e) = inr (sym e)
+listed_is_send_or_receive x (suc (suc k), b, e) = absurd (omega (arith, b))
 
-only : (x : OpId) (k : Kind) → kind_at two x ≡ Some k → (x ≡ s) ⊎ (x ≡ r)
-only x k e = listed x (kind_listed two x k e)
+operation_is_send_or_receive : (x : OpId) (k : Kind) → kind_at two x ≡ Some k → (x ≡ s) ⊎ (x ≡ r)
+operation_is_send_or_receive x k e = listed_is_send_or_receive x (kind_listed two x k e)
 
-send_is : (x : OpId) → IsSend two x → x ≡ s
+only_one_send : (x : OpId) → IsSend two x → x ≡ s
 unfolding kind_at op_at
-send_is x m =
-    ⊎_elim (λ e. e) (λ e. absurd (let f = sym (ap (λ (y : OpId). kind_at two y) e) ∙ m.kind in cc f)) (only x _ m.kind)
+only_one_send x m =
+    ⊎_elim (λ e. e) (λ e. absurd (let f = sym (ap (λ (y : OpId). kind_at two y) e) ∙ m.kind in cc f)) (operation_is_send_or_receive x _ m.kind)
 
-receive_is : (x : OpId) → IsReceive two x → x ≡ r
+only_one_receive : (x : OpId) → IsReceive two x → x ≡ r
 unfolding kind_at op_at
-receive_is x m =
-    ⊎_elim (λ e. absurd (let f = sym (ap (λ (y : OpId). kind_at two y) e) ∙ m.kind in cc f)) (λ e. e) (only x _ m.kind)
+only_one_receive x m =
+    ⊎_elim (λ e. absurd (let f = sym (ap (λ (y : OpId). kind_at two y) e) ∙ m.kind in cc f)) (λ e. e) (operation_is_send_or_receive x _ m.kind)
 
-pub small : IsSmall two
-small = record { operations = counts; slots = names; moves = omega arith }
+pub two_is_small : IsSmall two
+two_is_small = record { operations = counts; slots = names; moves = omega arith }
   where
     low : (k : ℕ) (d : Note) → k < 1 → NamesLowSlots (slice_index_or (Moves 0 0 0 ∷ []) k d)
     low zero d l = (omega arith, omega arith)
@@ -94,7 +94,7 @@ small = record { operations = counts; slots = names; moves = omega arith }
 pub no_wildcard : HasNoWildcard two
 unfolding kind_at op_at
 no_wildcard x room from tag e =
-    ⊎_elim (λ p. absurd (let f = sym (ap (λ (y : OpId). kind_at two y) p) ∙ e in cc f)) (λ p. let f : ◌≡◌ {A = Option Kind} (Some (Recv 8 (Some 0) (Some 0))) (Some (Recv room from tag)) = sym (ap (λ (y : OpId). kind_at two y) p) ∙ e in (ap (λ (k : Option Kind). is_source k) (sym f), ap (λ (k : Option Kind). is_tag k) (sym f))) (only x _ e)
+    ⊎_elim (λ p. absurd (let f = sym (ap (λ (y : OpId). kind_at two y) p) ∙ e in cc f)) (λ p. let f : ◌≡◌ {A = Option Kind} (Some (Recv 8 (Some 0) (Some 0))) (Some (Recv room from tag)) = sym (ap (λ (y : OpId). kind_at two y) p) ∙ e in (ap (λ (k : Option Kind). is_source k) (sym f), ap (λ (k : Option Kind). is_tag k) (sym f))) (operation_is_send_or_receive x _ e)
   where
     is_source : Option Kind → Bool
     is_source (Some (Recv room from tag)) = is_some from
@@ -106,8 +106,8 @@ no_wildcard x room from tag e =
 
 pub no_double_channel : HasNoDoubleChannel two
 no_double_channel = record {
-  sends = λ m n c p q e f. send_is m p ∙ sym (send_is n q);
-  receives = λ x y c p q e f. receive_is x p ∙ sym (receive_is y q);
+  sends = λ m n c p q e f. only_one_send m p ∙ sym (only_one_send n q);
+  receives = λ x y c p q e f. only_one_receive x p ∙ sym (only_one_receive y q);
 }
 
 one_channel : AreOfOneChannel two s r
@@ -116,35 +116,35 @@ one_channel = record { is_send = is_send; is_receive = is_receive; shared = reco
 
 pub no_unpaired : HasNoUnpaired two
 no_unpaired = record {
-  sends = λ m p. (r, subst (λ (x : OpId). AreOfOneChannel two x r) (sym (send_is m p)) one_channel);
-  receives = λ x p. (s, subst (λ (y : OpId). AreOfOneChannel two s y) (sym (receive_is x p)) one_channel);
+  sends = λ m p. (r, subst (λ (x : OpId). AreOfOneChannel two x r) (sym (only_one_send m p)) one_channel);
+  receives = λ x p. (s, subst (λ (y : OpId). AreOfOneChannel two s y) (sym (only_one_receive x p)) one_channel);
 }
 
-pub lengths : HasEqualLengths two
+pub two_has_equal_lengths : HasEqualLengths two
 unfolding slots notes_at slots_from
-lengths m x one =
-    ap (λ (y : OpId). length (slots two y)) (send_is m one.is_send) ∙ sym (ap (λ (y : OpId). length (slots two y)) (receive_is x one.is_receive))
+two_has_equal_lengths m x one =
+    ap (λ (y : OpId). length (slots two y)) (only_one_send m one.is_send) ∙ sym (ap (λ (y : OpId). length (slots two y)) (only_one_receive x one.is_receive))
 
--- what touches a slot is an operation
+-- only the two operations touch slots
 touching : (x : OpId) (k : ℕ) → Contains (touched two x) k → (x ≡ s) ⊎ (x ≡ r)
 unfolding touched
 touching x k c = go (kind_at two x) refl c
   where
     go : (o : Option Kind) → kind_at two x ≡ o → Contains (touched_in o (slots two x) (adds two x)) k → (x ≡ s) ⊎ (x ≡ r)
     go None e c = absurd (omega (arith, c.1))
-    go (Some kind) e c = only x kind e
+    go (Some kind) e c = operation_is_send_or_receive x kind e
 
-writing : (x : OpId) (k : ℕ) → Contains (written two x) k → (x ≡ s) ⊎ (x ≡ r)
+writing_is_send_or_receive : (x : OpId) (k : ℕ) → Contains (written two x) k → (x ≡ s) ⊎ (x ≡ r)
 unfolding written
-writing x k c = go (kind_at two x) refl c
+writing_is_send_or_receive x k c = go (kind_at two x) refl c
   where
     go : (o : Option Kind) → kind_at two x ≡ o → Contains (written_in o (slots two x) (adds two x)) k → (x ≡ s) ⊎ (x ≡ r)
     go None e c = absurd (omega (arith, c.1))
-    go (Some kind) e c = only x kind e
+    go (Some kind) e c = operation_is_send_or_receive x kind e
 
 pub no_race : HasNoRace two
 no_race x y c =
-    absurd (go (touching x c.slot c.is_touched) (writing y c.slot c.is_written))
+    absurd (go (touching x c.slot c.is_touched) (writing_is_send_or_receive y c.slot c.is_written))
   where
     go : ((x ≡ s) ⊎ (x ≡ r)) → ((y ≡ s) ⊎ (y ≡ r)) → ⊥
     go (inl e) (inl f) = c.two (e ∙ sym f)
@@ -172,9 +172,9 @@ handed = act Data s ∷ posted
 abbrev pub served : List Act
 served = act Serve r ∷ handed
 
-runs : IsInterleaving two no_send served
+served_is_interleaving : IsInterleaving two no_send served
 unfolding allowed happened is_ready needs deps_at kind_at op_at pairs partner fits oldest
-runs = (((((tt, refl), refl), refl), refl), refl)
+served_is_interleaving = (((((tt, refl), refl), refl), refl), refl)
 
 -- the receive cannot happen before the send has no action left
 first : (h : List Act) (c : Class) → IsInterleaving two no_send h → allowed two no_send h c r ≡ true → ((d : Class) → allowed two no_send h d s ≡ false) → (b : Act) → allowed two no_send h b.class b.op ≡ true → ComesFirst (act c r) b
@@ -182,39 +182,39 @@ first h c run e none = takes_first two h (act c r) run (record { may = e; first 
   where
     stands : (y : OpId) → Contains (operations two) y → (d : Class) → allowed two no_send h d y ≡ true → (r ≡ y) ⊎ IsBefore r y
     stands y m d a =
-        ⊎_elim (λ f. absurd (both_ways _ (none d) (subst (λ (z : OpId). allowed two no_send h d z ≡ true) f a))) (λ f. inl (sym f)) (listed y m)
+        ⊎_elim (λ f. absurd (both_ways _ (none d) (subst (λ (z : OpId). allowed two no_send h d z ≡ true) f a))) (λ f. inl (sym f)) (listed_is_send_or_receive y m)
 
-sends : (h : List Act) (c : Class) → IsInterleaving two no_send h → allowed two no_send h c s ≡ true → (b : Act) → allowed two no_send h b.class b.op ≡ true → ComesFirst (act c s) b
-sends h c run e = takes_first two h (act c s) run (record { may = e; first = stands })
+send_comes_first : (h : List Act) (c : Class) → IsInterleaving two no_send h → allowed two no_send h c s ≡ true → (b : Act) → allowed two no_send h b.class b.op ≡ true → ComesFirst (act c s) b
+send_comes_first h c run e = takes_first two h (act c s) run (record { may = e; first = stands })
   where
     stands : (y : OpId) → Contains (operations two) y → (d : Class) → allowed two no_send h d y ≡ true → (s ≡ y) ⊎ IsBefore s y
     stands y m d a =
-        ⊎_elim (λ f. inl (sym f)) (λ f. inr (subst (λ (z : OpId). IsBefore s z) (sym f) (inl (omega arith)))) (listed y m)
+        ⊎_elim (λ f. inl (sym f)) (λ f. inr (subst (λ (z : OpId). IsBefore s z) (sym f) (inl (omega arith)))) (listed_is_send_or_receive y m)
 
-waits : (d : Class) → allowed two no_send arrived d s ≡ false
+send_not_allowed_after_arrival : (d : Class) → allowed two no_send arrived d s ≡ false
 unfolding allowed happened is_ready needs deps_at kind_at op_at pairs partner fits oldest
-waits Arrive = refl
-waits Serve = refl
-waits Data = refl
-waits Post = refl
-waits Begin = refl
+send_not_allowed_after_arrival Arrive = refl
+send_not_allowed_after_arrival Serve = refl
+send_not_allowed_after_arrival Data = refl
+send_not_allowed_after_arrival Post = refl
+send_not_allowed_after_arrival Begin = refl
 
-over : (d : Class) → allowed two no_send handed d s ≡ false
+send_not_allowed_after_data : (d : Class) → allowed two no_send handed d s ≡ false
 unfolding allowed happened is_ready needs deps_at kind_at op_at pairs partner fits oldest
-over Arrive = refl
-over Serve = refl
-over Data = refl
-over Post = refl
-over Begin = refl
+send_not_allowed_after_data Arrive = refl
+send_not_allowed_after_data Serve = refl
+send_not_allowed_after_data Data = refl
+send_not_allowed_after_data Post = refl
+send_not_allowed_after_data Begin = refl
 
-in_order : TakesFirst two served
-in_order =
-    (((((tt, sends [] Begin tt runs.0.0.0.0.1), sends begun Arrive runs.0.0.0.0 runs.0.0.0.1), first arrived Post runs.0.0.0 runs.0.0.1 waits), sends posted Data runs.0.0 runs.0.1), first handed Serve runs.0 runs.1 over)
+served_takes_first : TakesFirst two served
+served_takes_first =
+    (((((tt, send_comes_first [] Begin tt served_is_interleaving.0.0.0.0.1), send_comes_first begun Arrive served_is_interleaving.0.0.0.0 served_is_interleaving.0.0.0.1), first arrived Post served_is_interleaving.0.0.0 served_is_interleaving.0.0.1 send_not_allowed_after_arrival), send_comes_first posted Data served_is_interleaving.0.0 served_is_interleaving.0.1), first handed Serve served_is_interleaving.0 served_is_interleaving.1 send_not_allowed_after_data)
 
 none_left : NoneOf two served (operations two)
 unfolding allowed happened is_ready needs deps_at kind_at op_at pairs partner fits oldest
 none_left x m d =
-    ⊎_elim (λ e. subst (λ (z : OpId). allowed two no_send served d z ≡ false) (sym e) (of_send d)) (λ e. subst (λ (z : OpId). allowed two no_send served d z ≡ false) (sym e) (of_receive d)) (listed x m)
+    ⊎_elim (λ e. subst (λ (z : OpId). allowed two no_send served d z ≡ false) (sym e) (of_send d)) (λ e. subst (λ (z : OpId). allowed two no_send served d z ≡ false) (sym e) (of_receive d)) (listed_is_send_or_receive x m)
   where
     of_send : (d : Class) → allowed two no_send served d s ≡ false
     of_send Arrive = refl
@@ -232,14 +232,14 @@ none_left x m d =
 
 pub is_walk : IsWalk two served
 is_walk = record {
-  complete = record { each = runs; none_left = nothing_left two served none_left };
-  in_order = in_order;
+  complete = record { each = served_is_interleaving; none_left = nothing_allowed_if_none_found two served none_left };
+  in_order = served_takes_first;
 }
 
 pub all_end : AllEnd two no_send served
 unfolding happened kind_at op_at
 all_end x is_op =
-    ⊎_elim (λ e. subst (λ (z : OpId). has_ended two no_send z served ≡ true) (sym e) refl) (λ e. subst (λ (z : OpId). has_ended two no_send z served ≡ true) (sym e) refl) (listed x ((listed_places two x).1 is_op))
+    ⊎_elim (λ e. subst (λ (z : OpId). has_ended two no_send z served ≡ true) (sym e) refl) (λ e. subst (λ (z : OpId). has_ended two no_send z served ≡ true) (sym e) refl) (listed_is_send_or_receive x ((listed_places two x).1 is_op))
 
 unfoldable pub matched : IsMatched two
 matched = record {
@@ -258,11 +258,11 @@ one_slot zero f a b = omega arith
 one_slot (suc zero) f a b = omega (arith, a)
 one_slot (suc (suc n)) f a b = omega (arith, one_slot (suc n) f a b, b n)
 
-two_ranks : (f : ℕ → ℕ) → f 0 ≤ 1 → f 1 ≤ 1 → sum_below 2 f ≤ 2
+sum_of_two_ranks_at_most_two : (f : ℕ → ℕ) → f 0 ≤ 1 → f 1 ≤ 1 → sum_below 2 f ≤ 2
 unfolding sum_below
-two_ranks f a b = omega (arith, a, b)
+sum_of_two_ranks_at_most_two f a b = omega (arith, a, b)
 
--- a store with at most one contribution in the first slot of each rank, and else none
+-- a store with at most one contribution in slot 0 of each rank, and none in other slots
 pub record IsThin (store : Store) : Type 0 where
   pub first : (x : ℕ) → x < 2 → length (store x 0) ≤ 1
   pub others : (x k : ℕ) → x < 2 → length (store x (suc k)) ≡ 0
@@ -271,11 +271,11 @@ pub thin_light : (h : List Act) (held : Held) → IsThin held.store → carried 
 unfolding weight stored
 thin_light h held thin few =
     let each : (x : ℕ) → x < 2 → sum_below (2 ^ 32) (λ k. length (held.store x k)) ≤ 1 = λ x l. one_slot (2 ^ 32) (λ k. length (held.store x k)) (thin.first x l) (λ k. thin.others x k l) in
-    let sum = two_ranks (λ x. sum_below (2 ^ 32) (λ k. length (held.store x k))) (each 0 (omega arith)) (each 1 (omega arith)) in
+    let sum = sum_of_two_ranks_at_most_two (λ x. sum_below (2 ^ 32) (λ k. length (held.store x k))) (each 0 (omega arith)) (each 1 (omega arith)) in
     omega (arith, sum, few)
 
-pub later : (k : ℕ) → (suc k == 0) ≡ false
-later k = ne_eqb (suc k) 0 (λ e. omega (arith, e))
+pub successor_slot_is_not_zero : (k : ℕ) → (suc k == 0) ≡ false
+successor_slot_is_not_zero k = ne_eqb (suc k) 0 (λ e. omega (arith, e))
 
 thin_start : IsThin start
 unfolding initial
@@ -287,7 +287,7 @@ thin_start = record { first = low; others = none }
     low (suc (suc x)) l = absurd (omega (arith, l))
 
     none : (x k : ℕ) → x < 2 → length (initial (Bcast 0) 2 x (suc k)) ≡ 0
-    none zero k l = rw (later k) refl
+    none zero k l = rw (successor_slot_is_not_zero k) refl
     none (suc zero) k l = refl
     none (suc (suc x)) k l = absurd (omega (arith, l))
 
@@ -301,32 +301,32 @@ thin_end = record { first = low; others = none }
     low (suc (suc x)) l = absurd (omega (arith, l))
 
     none : (x k : ℕ) → x < 2 → length (value two no_send start served x (suc k)) ≡ 0
-    none zero k l = rw (later k) refl
-    none (suc zero) k l = rw (later k) refl
+    none zero k l = rw (successor_slot_is_not_zero k) refl
+    none (suc zero) k l = rw (successor_slot_is_not_zero k) refl
     none (suc (suc x)) k l = absurd (omega (arith, l))
 
-light : IsLight two start served
+served_is_light : IsLight two start served
 unfolding initial held_after kind_at op_at pairs partner fits oldest happened read write set_slot slots notes_at slots_from carried places_from places_of_rank
-light =
+served_is_light =
     (((((thin_light [] _ thin_start (omega arith), tt, thin_light begun _ thin_start (omega arith)), tt, thin_light arrived _ thin_start (omega arith)), tt, thin_light posted _ thin_start (omega arith)), tt, thin_light handed _ thin_start (omega arith)), tt, thin_light served _ thin_end (omega arith))
 
-right : HoldsWanted two (wanted (Bcast 0) 2) (value two no_send start served)
+served_holds_wanted : HoldsWanted two (wanted (Bcast 0) 2) (value two no_send start served)
 unfolding initial held_after kind_at op_at pairs partner fits oldest read write set_slot slots notes_at slots_from wanted is_value
-right zero zero l = refl
-right zero (suc k) l = rw (later k) refl
-right (suc zero) zero l = refl
-right (suc zero) (suc k) l = rw (later k) refl
-right (suc (suc x)) k l = absurd (omega (arith, l))
+served_holds_wanted zero zero l = refl
+served_holds_wanted zero (suc k) l = rw (successor_slot_is_not_zero k) refl
+served_holds_wanted (suc zero) zero l = refl
+served_holds_wanted (suc zero) (suc k) l = rw (successor_slot_is_not_zero k) refl
+served_holds_wanted (suc (suc x)) k l = absurd (omega (arith, l))
 
-certified : IsCertified two start (wanted (Bcast 0) 2)
+two_is_certified : IsCertified two start (wanted (Bcast 0) 2)
 unfolding matched
-certified = record {
-  small = small;
+two_is_certified = record {
+  small = two_is_small;
   matched = matched;
-  lengths = lengths;
+  lengths = two_has_equal_lengths;
   no_race = no_race;
-  light = light;
-  right = right;
+  light = served_is_light;
+  right = served_holds_wanted;
 }
 
 two_made : two ≡ made (Bcast 0) 2 8
@@ -334,4 +334,4 @@ unfolding digits count_leading_zeros ahead back plan_by made_by bcast_in bcast_c
 two_made = refl
 
 pub bcast_of_two : BcastOfTwoIsCertified
-bcast_of_two = subst (λ (plans : List Plan). IsCertifiedFor (Bcast 0) plans) two_made certified
+bcast_of_two = subst (λ (plans : List Plan). IsCertifiedFor (Bcast 0) plans) two_made two_is_certified

@@ -29,7 +29,7 @@ use Rattle.goal_blocks.specs.Entries.{Entry, op_of, plan_by, made_by}
 use Rattle.goal_blocks.specs.Levels.{AreLevels}
 use Rattle.goal_blocks.specs.Messages.{AreMessages, AreChannelsPaired}
 use Rattle.goal_blocks.proofs.Orders.{Mem}
-use Rattle.goal_blocks.proofs.Effects.{mem_contains, contains_mem, written_touched, set_slot_here, write_map}
+use Rattle.goal_blocks.proofs.Effects.{mem_contains, contains_mem, written_touched, set_slot_holds_value, write_map}
 use Rattle.goal_blocks.proofs.EntryFacts.{slots_of_span, length_plans, kind_there, needs_there, slots_there, adds_there, kind_only}
 use Rattle.goal_blocks.proofs.Matched.{op_has_kind}
 use Rattle.goal_blocks.proofs.MessagesPaired.{messages_paired, message_of_send, one_channel}
@@ -52,7 +52,7 @@ touches e = touched_in (Some e.kind) (moved e) e.adds
 abbrev pub writes : Entry → List ℕ
 writes e = written_in (Some e.kind) (moved e) e.adds
 
--- of the entries of a rank, i is required by j, or by one that j comes after
+-- entry i of a rank precedes entry j: j requires i, directly or through other entries
 pub data Precedes (w : ℕ → Entry) : ℕ → ℕ → Type 0 where
   now : {i j : ℕ} → Mem i (w j).needs → Precedes w i j
   after : {i j : ℕ} → (k : ℕ) → Mem k (w j).needs → Precedes w i k → Precedes w i j
@@ -285,7 +285,7 @@ module _ (ranks : ℕ) (count : ℕ → ℕ) (e : ℕ → ℕ → Entry) where
           of_message s =
               ap length (slots_are (send s) (send_is_there s)) ∙ sym (length-map (moved (entry_at (send s))) (finds (send s).rank (send s).op)) ∙ ap length (blueprint.kept s) ∙ length-map (moved (entry_at (recv s))) (leaves (recv s).rank (recv s).op) ∙ sym (ap length (slots_are (recv s) (recv_is_there s)))
 
-      -- the values of the operations, by what is told of the entries
+      -- the values of the operations, given by those of the entries
       abbrev found : OpId → ℕ → Value
       found x k = finds x.rank x.op k
 
@@ -364,7 +364,7 @@ module _ (ranks : ℕ) (count : ℕ → ℕ) (e : ℕ → ℕ → Entry) where
 
               at_slot : Mem k (a.to ∷ []) → set_slot x.rank a.to (merge (s x.rank a.to) (s x.rank a.from)) s x.rank k ≡ left_by x k
               at_slot (inl same) =
-                  subst (λ (l : ℕ). set_slot x.rank a.to (merge (s x.rank a.to) (s x.rank a.from)) s x.rank l ≡ left_by x l) same (set_slot_here x.rank a.to (merge (s x.rank a.to) (s x.rank a.from)) s ∙ both ∙ sum)
+                  subst (λ (l : ℕ). set_slot x.rank a.to (merge (s x.rank a.to) (s x.rank a.from)) s x.rank l ≡ left_by x l) same (set_slot_holds_value x.rank a.to (merge (s x.rank a.to) (s x.rank a.from)) s ∙ both ∙ sum)
               at_slot (inr none) = absurd none
 
       moves : (m x : OpId) → AreOfOneChannel made_plans m x → (s : Store) (k : ℕ) → Mem k (written made_plans x) → write x.rank (slots made_plans x) (map (found m) (slots made_plans m)) s x.rank k ≡ left_by x k

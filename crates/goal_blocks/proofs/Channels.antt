@@ -1,4 +1,4 @@
--- What fits is what has one channel, where there are no wildcards.
+-- Without wildcards, a send and a receive fit if and only if they have the same channel.
 use Rattle.std.proofs.Common.{ℕ, ◌≡◌, ◌==◌, ◌&&◌, true, false, List, Option, Some, None, refl, sym, ap, ◌∙◌, eq-eqb}
 use Rattle.std.proofs.lemmas.Bool.{and_parts, and_from, both_ways, eqb-true}
 use Rattle.goal_graph.specs.declared.action.OpId.{OpId}

@@ -8,7 +8,7 @@ use Rattle.goal_graph.specs.declared.plan.Kind.{Kind}
 use Rattle.goal_graph.specs.declared.plan.Kind.TheVariants.{Calc, Send, Recv}
 use Rattle.goal_graph.specs.Schedule.{Plan, kind_at}
 use Rattle.goal_graph.specs.Action.{same_op}
-use Rattle.goal_graph.proofs.ForCallers.{contains_first, contains_more, same_op_true, same_op_false, cases_op}
+use Rattle.goal_graph.proofs.ForCallers.{contains_first, contains_more, same_op_true, same_op_false, same_or_different_op}
 use Rattle.goal_blocks.specs.Slots.{Adding, slots, adds, written_in, touched_in, written, touched}
 use Rattle.goal_blocks.specs.Values.{Value, Store, Held, payload_from, merge, set_slot, write, add_all, read}
 use Rattle.goal_blocks.proofs.Orders.{Mem}
@@ -28,7 +28,7 @@ cases_mem k [] = inr (λ m. m)
 cases_mem k (j ∷ ks) =
     ⊎_elim (λ e. inl (inl e)) (λ n. ⊎_elim (λ m. inl (inr m)) (λ none. inr (λ m. ⊎_elim n none m)) (cases_mem k ks)) (cases_eq j k)
 
--- two lists of slots share one, or none
+-- two lists of slots have a common slot or are disjoint
 pub cases_shared : (ks js : List ℕ) → ((k : ℕ) × Mem k ks × Mem k js) ⊎ ((k : ℕ) → Mem k ks → Mem k js → ⊥)
 cases_shared [] js = inr (λ k m n. m)
 cases_shared (k ∷ ks) js =
@@ -41,9 +41,9 @@ map_same f g (k ∷ ks) each =
     let rest = map_same f g ks (λ j m. each j (inr m)) in
     λ i. first i ∷ rest i
 
-pub set_keeps : (rank slot : ℕ) (v : Value) (s : Store) (r k : ℕ) → (r ≡ rank → slot ≡ k → ⊥) → set_slot rank slot v s r k ≡ s r k
+pub set_slot_keeps_other_slots : (rank slot : ℕ) (v : Value) (s : Store) (r k : ℕ) → (r ≡ rank → slot ≡ k → ⊥) → set_slot rank slot v s r k ≡ s r k
 unfolding set_slot
-set_keeps rank slot v s r k apart = go ((r == rank) && (k == slot)) refl
+set_slot_keeps_other_slots rank slot v s r k apart = go ((r == rank) && (k == slot)) refl
   where
     go : (t : Bool) → ((r == rank) && (k == slot)) ≡ t → (if t then v else s r k) ≡ s r k
     go true e =
@@ -60,33 +60,33 @@ set_slot_alike rank slot v w s t r k e f = go ((r == rank) && (k == slot))
     go false = f
 
 -- a slot that is set holds the value
-pub set_slot_here : (rank slot : ℕ) (v : Value) (s : Store) → set_slot rank slot v s rank slot ≡ v
+pub set_slot_holds_value : (rank slot : ℕ) (v : Value) (s : Store) → set_slot rank slot v s rank slot ≡ v
 unfolding set_slot
-set_slot_here rank slot v s = rw (eq-eqb rank rank refl, eq-eqb slot slot refl) refl
+set_slot_holds_value rank slot v s = rw (eq-eqb rank rank refl, eq-eqb slot slot refl) refl
 
-pub write_keeps : (rank : ℕ) (ks : List ℕ) (vs : List Value) (s : Store) (r k : ℕ) → (r ≡ rank → Mem k ks → ⊥) → write rank ks vs s r k ≡ s r k
+pub write_keeps_other_slots : (rank : ℕ) (ks : List ℕ) (vs : List Value) (s : Store) (r k : ℕ) → (r ≡ rank → Mem k ks → ⊥) → write rank ks vs s r k ≡ s r k
 unfolding write
-write_keeps rank [] vs s r k apart = refl
-write_keeps rank (j ∷ ks) [] s r k apart = refl
-write_keeps rank (j ∷ ks) (v ∷ vs) s r k apart =
-    write_keeps rank ks vs (set_slot rank j v s) r k (λ e m. apart e (inr m)) ∙ set_keeps rank j v s r k (λ e m. apart e (inl m))
+write_keeps_other_slots rank [] vs s r k apart = refl
+write_keeps_other_slots rank (j ∷ ks) [] s r k apart = refl
+write_keeps_other_slots rank (j ∷ ks) (v ∷ vs) s r k apart =
+    write_keeps_other_slots rank ks vs (set_slot rank j v s) r k (λ e m. apart e (inr m)) ∙ set_slot_keeps_other_slots rank j v s r k (λ e m. apart e (inl m))
 
-write_same : (rank : ℕ) (ks : List ℕ) (vs : List Value) (s t : Store) (r k : ℕ) → s r k ≡ t r k → write rank ks vs s r k ≡ write rank ks vs t r k
+write_keeps_equality : (rank : ℕ) (ks : List ℕ) (vs : List Value) (s t : Store) (r k : ℕ) → s r k ≡ t r k → write rank ks vs s r k ≡ write rank ks vs t r k
 unfolding write
-write_same rank [] vs s t r k e = e
-write_same rank (j ∷ ks) [] s t r k e = e
-write_same rank (j ∷ ks) (v ∷ vs) s t r k e =
-    write_same rank ks vs (set_slot rank j v s) (set_slot rank j v t) r k (set_slot_alike rank j v v s t r k refl e)
+write_keeps_equality rank [] vs s t r k e = e
+write_keeps_equality rank (j ∷ ks) [] s t r k e = e
+write_keeps_equality rank (j ∷ ks) (v ∷ vs) s t r k e =
+    write_keeps_equality rank ks vs (set_slot rank j v s) (set_slot rank j v t) r k (set_slot_alike rank j v v s t r k refl e)
 
 -- slots that are written by one rule hold what it gives
 pub write_map : (rank : ℕ) (ks : List ℕ) (f : ℕ → Value) (s : Store) (k : ℕ) → Mem k ks → write rank ks (map f ks) s rank k ≡ f k
 unfolding write
 write_map rank [] f s k m = absurd m
 write_map rank (j ∷ ks) f s k m =
-    ⊎_elim (λ n. write_map rank ks f (set_slot rank j (f j) s) k n) (λ none. write_keeps rank ks (map f ks) (set_slot rank j (f j) s) rank k (λ e n. none n) ∙ first (⊎_elim (λ e. e) (λ n. absurd (none n)) m)) (cases_mem k ks)
+    ⊎_elim (λ n. write_map rank ks f (set_slot rank j (f j) s) k n) (λ none. write_keeps_other_slots rank ks (map f ks) (set_slot rank j (f j) s) rank k (λ e n. none n) ∙ first (⊎_elim (λ e. e) (λ n. absurd (none n)) m)) (cases_mem k ks)
   where
     first : j ≡ k → set_slot rank j (f j) s rank k ≡ f k
-    first e = subst (λ (l : ℕ). set_slot rank j (f j) s rank l ≡ f l) e (set_slot_here rank j (f j) s)
+    first e = subst (λ (l : ℕ). set_slot rank j (f j) s rank l ≡ f l) e (set_slot_holds_value rank j (f j) s)
 
 abbrev targets : List Adding → List ℕ
 targets more = map (λ (a : Adding). a.to) more
@@ -98,17 +98,17 @@ targets_sides : (more : List Adding) (k : ℕ) → Mem k (targets more) → Mem 
 targets_sides [] k m = m
 targets_sides (a ∷ more) k m = ⊎_elim (λ e. inr (inl e)) (λ n. inr (inr (targets_sides more k n))) m
 
-add_keeps : (rank : ℕ) (more : List Adding) (s : Store) (r k : ℕ) → (r ≡ rank → Mem k (targets more) → ⊥) → add_all rank more s r k ≡ s r k
+add_all_keeps_other_slots : (rank : ℕ) (more : List Adding) (s : Store) (r k : ℕ) → (r ≡ rank → Mem k (targets more) → ⊥) → add_all rank more s r k ≡ s r k
 unfolding add_all
-add_keeps rank [] s r k apart = refl
-add_keeps rank (a ∷ more) s r k apart =
-    add_keeps rank more (set_slot rank a.to (merge (s rank a.to) (s rank a.from)) s) r k (λ e m. apart e (inr m)) ∙ set_keeps rank a.to (merge (s rank a.to) (s rank a.from)) s r k (λ e m. apart e (inl m))
+add_all_keeps_other_slots rank [] s r k apart = refl
+add_all_keeps_other_slots rank (a ∷ more) s r k apart =
+    add_all_keeps_other_slots rank more (set_slot rank a.to (merge (s rank a.to) (s rank a.from)) s) r k (λ e m. apart e (inr m)) ∙ set_slot_keeps_other_slots rank a.to (merge (s rank a.to) (s rank a.from)) s r k (λ e m. apart e (inl m))
 
-add_same : (rank : ℕ) (more : List Adding) (s t : Store) (r k : ℕ) → ((j : ℕ) → Mem j (sides more) → s rank j ≡ t rank j) → s r k ≡ t r k → add_all rank more s r k ≡ add_all rank more t r k
+add_all_keeps_equality : (rank : ℕ) (more : List Adding) (s t : Store) (r k : ℕ) → ((j : ℕ) → Mem j (sides more) → s rank j ≡ t rank j) → s r k ≡ t r k → add_all rank more s r k ≡ add_all rank more t r k
 unfolding add_all
-add_same rank [] s t r k each e = e
-add_same rank (a ∷ more) s t r k each e =
-    add_same rank more (set_slot rank a.to (merge (s rank a.to) (s rank a.from)) s) (set_slot rank a.to (merge (t rank a.to) (t rank a.from)) t) r k (λ j m. set_slot_alike rank a.to _ _ s t rank j sums (each j (inr (inr m)))) (set_slot_alike rank a.to _ _ s t r k sums e)
+add_all_keeps_equality rank [] s t r k each e = e
+add_all_keeps_equality rank (a ∷ more) s t r k each e =
+    add_all_keeps_equality rank more (set_slot rank a.to (merge (s rank a.to) (s rank a.from)) s) (set_slot rank a.to (merge (t rank a.to) (t rank a.from)) t) r k (λ j m. set_slot_alike rank a.to _ _ s t rank j sums (each j (inr (inr m)))) (set_slot_alike rank a.to _ _ s t r k sums e)
   where
     sums : merge (s rank a.to) (s rank a.from) ≡ merge (t rank a.to) (t rank a.from)
     sums = let one = each a.to (inr (inl refl)) in let other = each a.from (inl refl) in λ i. merge (one i) (other i)
@@ -141,10 +141,10 @@ module _ (plans : List Plan) where
       where
         go : (kind : Option Kind) → (r ≡ x.rank → Mem k (written_in kind (slots plans x) (adds plans x)) → ⊥) → (effect x kind s).store r k ≡ s.store r k
         go None n = refl
-        go (Some (Calc nanos)) n = add_keeps x.rank (adds plans x) s.store r k n
+        go (Some (Calc nanos)) n = add_all_keeps_other_slots x.rank (adds plans x) s.store r k n
         go (Some (Send bytes to tag)) n = refl
         go (Some (Recv room from tag)) n =
-            write_keeps x.rank (slots plans x) (payload_from s (sender x)) s.store r k n
+            write_keeps_other_slots x.rank (slots plans x) (payload_from s (sender x)) s.store r k n
 
     -- the stores agree on the slots that x touches
     abbrev AgreeFor : OpId → Held → Held → Type 0
@@ -156,10 +156,10 @@ module _ (plans : List Plan) where
       where
         go : (kind : Option Kind) → ((j : ℕ) → Mem j (touched_in kind (slots plans x) (adds plans x)) → s.store x.rank j ≡ t.store x.rank j) → (effect x kind s).store r k ≡ (effect x kind t).store r k
         go None n = e
-        go (Some (Calc nanos)) n = add_same x.rank (adds plans x) s.store t.store r k n e
+        go (Some (Calc nanos)) n = add_all_keeps_equality x.rank (adds plans x) s.store t.store r k n e
         go (Some (Send bytes to tag)) n = e
         go (Some (Recv room from tag)) n =
-            write_same x.rank (slots plans x) (payload_from s (sender x)) s.store t.store r k e ∙ ap (λ (vs : List Value). write x.rank (slots plans x) vs t.store r k) payload
+            write_keeps_equality x.rank (slots plans x) (payload_from s (sender x)) s.store t.store r k e ∙ ap (λ (vs : List Value). write x.rank (slots plans x) vs t.store r k) payload
 
     pub payload_keeps : (x : OpId) (s : Held) (n : OpId) → (x ≡ n → ⊥) → (ended x s).payload n ≡ s.payload n
     unfolding read
@@ -219,7 +219,7 @@ module _ (plans : List Plan) where
 
       payloads : (n : OpId) → (ended x (ended y s)).payload n ≡ (ended y (ended x s)).payload n
       payloads n =
-          ⊎_elim (λ e. at_x e) (λ f. elsewhere (λ e. same_op_false x n f e)) (cases_op x n)
+          ⊎_elim (λ e. at_x e) (λ f. elsewhere (λ e. same_op_false x n f e)) (same_or_different_op x n)
         where
           at_x : x ≡ n → (ended x (ended y s)).payload n ≡ (ended y (ended x s)).payload n
           at_x e =

@@ -26,7 +26,7 @@ use Rattle.goal_blocks.proofs.Race.{always_ends_first}
 use Rattle.goal_blocks.proofs.Orders.{Mem, IsOnce, Keeps, run}
 use Rattle.goal_blocks.proofs.Effects.{effect, ended}
 
--- the message of a receive is its partner's
+-- the send whose message an operation takes: the partner of a receive, and none for other operations
 abbrev sender_in : Option Kind → Option OpId → Option OpId
 sender_in (Some (Recv room from tag)) with = with
 sender_in (Some (Send bytes to tag)) with = None

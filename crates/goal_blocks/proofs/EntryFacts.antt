@@ -17,7 +17,7 @@ use Rattle.goal_graph.specs.declared.plan.When.TheVariants.{AfterEnd}
 use Rattle.goal_graph.specs.Schedule.{Plan, op_at, kind_at, deps_at, needs, earlier_of}
 use Rattle.goal_blocks.specs.Slots.{Adding, slots_from, notes_at, moved_by, added_by, slots, adds}
 use Rattle.goal_blocks.specs.Entries.{Entry, Span, op_of, deps_of, notes_of, plan_by, made_by}
-use Rattle.goal_blocks.proofs.PlanBy.{flat_map_range_more}
+use Rattle.goal_blocks.proofs.PlanBy.{flat_map_of_next_range}
 
 -- lists of which one place alone has items
 
@@ -31,22 +31,22 @@ filter-flat_map p f [] = refl
 filter-flat_map p f (x ∷ xs) =
     rw (flat_map-cons f x xs, filter-append p (f x) (flat_map f xs), flat_map-cons (λ x. filter p (f x)) x xs, filter-flat_map p f xs) refl
 
-one_more : {X : Type 0} (h : ℕ → List X) (n : ℕ) → flat_map h (range_with_len 0 (suc n)) ≡ flat_map h (range_with_len 0 n) ++ h n
-one_more h n = ap (λ (m : ℕ). flat_map h (range_with_len 0 m)) (sym (add-one n)) ∙ flat_map_range_more h n
+flat_map_of_next_number : {X : Type 0} (h : ℕ → List X) (n : ℕ) → flat_map h (range_with_len 0 (suc n)) ≡ flat_map h (range_with_len 0 n) ++ h n
+flat_map_of_next_number h n = ap (λ (m : ℕ). flat_map h (range_with_len 0 m)) (sym (add-one n)) ∙ flat_map_of_next_range h n
 
-none_sifted : {X : Type 0} (h : ℕ → List X) (n : ℕ) → ((j : ℕ) → j < n → h j ≡ []) → flat_map h (range_with_len 0 n) ≡ []
-none_sifted h zero none = refl
-none_sifted h (suc n) none = one_more h n ∙ rw (none_sifted h n (λ j l. none j (omega arith)), none n (omega arith)) refl
+flat_map_of_empty_lists : {X : Type 0} (h : ℕ → List X) (n : ℕ) → ((j : ℕ) → j < n → h j ≡ []) → flat_map h (range_with_len 0 n) ≡ []
+flat_map_of_empty_lists h zero none = refl
+flat_map_of_empty_lists h (suc n) none = flat_map_of_next_number h n ∙ rw (flat_map_of_empty_lists h n (λ j l. none j (omega arith)), none n (omega arith)) refl
 
-sifted : {X : Type 0} (h : ℕ → List X) (i n : ℕ) → ((j : ℕ) → j ≢ i → h j ≡ []) → i < n → flat_map h (range_with_len 0 n) ≡ h i
-sifted h i zero others inside = absurd (omega arith)
-sifted h i (suc n) others inside = go (cases_lt i n) (sifted h i n others)
+flat_map_of_only_nonempty : {X : Type 0} (h : ℕ → List X) (i n : ℕ) → ((j : ℕ) → j ≢ i → h j ≡ []) → i < n → flat_map h (range_with_len 0 n) ≡ h i
+flat_map_of_only_nonempty h i zero others inside = absurd (omega arith)
+flat_map_of_only_nonempty h i (suc n) others inside = go (cases_lt i n) (flat_map_of_only_nonempty h i n others)
   where
     go : (i < n) ⊎ (n ≤ i) → (i < n → flat_map h (range_with_len 0 n) ≡ h i) → flat_map h (range_with_len 0 (suc n)) ≡ h i
-    go (inl lt) rest = one_more h n ∙ rw (rest lt, others n (λ same. omega arith)) (append-nil (h i))
+    go (inl lt) rest = flat_map_of_next_number h n ∙ rw (rest lt, others n (λ same. omega arith)) (append-nil (h i))
     go (inr le) rest =
         let last : n ≡ i = omega arith in
-        one_more h n ∙ rw (none_sifted h n (λ j l. others j (λ same. omega arith))) (ap h last)
+        flat_map_of_next_number h n ∙ rw (flat_map_of_empty_lists h n (λ j l. others j (λ same. omega arith))) (ap h last)
 
 -- the dependencies and notes of an operation are those of its number
 
@@ -125,16 +125,16 @@ module _ (ranks : ℕ) (count : ℕ → ℕ) (e : ℕ → ℕ → Entry) where
   abbrev plans : List Plan
   plans = made_by ranks count e
 
-  plan_there : (r : ℕ) → r < ranks → slice_get plans r ≡ Some (plan_by (count r) (e r))
+  made_plan_of_rank : (r : ℕ) → r < ranks → slice_get plans r ≡ Some (plan_by (count r) (e r))
   unfolding made_by
-  plan_there r inside =
+  made_plan_of_rank r inside =
       let size = length-map-range_with_len (λ (r : ℕ). plan_by (count r) (e r)) 0 ranks in
       slice_get-get_or (map (λ (r : ℕ). plan_by (count r) (e r)) (range_with_len 0 ranks)) r (plan_by (count r) (e r)) (omega arith)
       ∙ ap Some (get_or-map-range_with_len (λ (r : ℕ). plan_by (count r) (e r)) 0 ranks r r (plan_by (count r) (e r)) inside (zero-add r))
 
-  op_there : (r i : ℕ) → i < count r → slice_get (plan_by (count r) (e r)).ops i ≡ Some (op_of (e r i))
+  made_op_of_entry : (r i : ℕ) → i < count r → slice_get (plan_by (count r) (e r)).ops i ≡ Some (op_of (e r i))
   unfolding plan_by
-  op_there r i inside =
+  made_op_of_entry r i inside =
       let size = length-map-range_with_len (λ (i : ℕ). op_of (e r i)) 0 (count r) in
       slice_get-get_or (map (λ (i : ℕ). op_of (e r i)) (range_with_len 0 (count r))) i (op_of (e r i)) (omega arith)
       ∙ ap Some (get_or-map-range_with_len (λ (i : ℕ). op_of (e r i)) 0 (count r) i i (op_of (e r i)) inside (zero-add i))
@@ -143,26 +143,26 @@ module _ (ranks : ℕ) (count : ℕ → ℕ) (e : ℕ → ℕ → Entry) where
     -- what it is
     pub kind_there : kind_at plans (record { rank = r; op = i }) ≡ Some (e r i).kind
     unfolding kind_at op_at
-    kind_there = rw (plan_there r in_rank, op_there r i inside) refl
+    kind_there = rw (made_plan_of_rank r in_rank, made_op_of_entry r i inside) refl
 
     -- what it needs
     pub needs_there : needs plans (record { rank = r; op = i }) ≡ map (λ (k : ℕ). record { op = k; when = AfterEnd }) (e r i).needs
     unfolding needs deps_at plan_by
     needs_there =
-        rw (plan_there r in_rank, filter-flat_map (λ (d : Dep). eqb d.later i) (λ (j : ℕ). deps_of j (e r j)) (range_with_len 0 (count r)), sifted (λ (j : ℕ). filter (λ (d : Dep). eqb d.later i) (deps_of j (e r j))) i (count r) (λ j other. deps_of_others i j other (e r j).needs) inside)
+        rw (made_plan_of_rank r in_rank, filter-flat_map (λ (d : Dep). eqb d.later i) (λ (j : ℕ). deps_of j (e r j)) (range_with_len 0 (count r)), flat_map_of_only_nonempty (λ (j : ℕ). filter (λ (d : Dep). eqb d.later i) (deps_of j (e r j))) i (count r) (λ j other. deps_of_others i j other (e r j).needs) inside)
         (deps_of_own i (e r i).needs)
 
     -- the slots that it moves, and what it adds
     pub slots_there : slots plans (record { rank = r; op = i }) ≡ flat_map slots_of_span (e r i).moves
     unfolding slots notes_at plan_by
     slots_there =
-        rw (plan_there r in_rank, flat_map-flat_map (moved_by i) (λ (j : ℕ). notes_of j (e r j)) (range_with_len 0 (count r)), sifted (λ (j : ℕ). flat_map (moved_by i) (notes_of j (e r j))) i (count r) (λ j other. moves_at_others i j (e r j) other) inside)
+        rw (made_plan_of_rank r in_rank, flat_map-flat_map (moved_by i) (λ (j : ℕ). notes_of j (e r j)) (range_with_len 0 (count r)), flat_map_of_only_nonempty (λ (j : ℕ). flat_map (moved_by i) (notes_of j (e r j))) i (count r) (λ j other. moves_at_others i j (e r j) other) inside)
         (moves_at_own i i (e r i))
 
     pub adds_there : adds plans (record { rank = r; op = i }) ≡ (e r i).adds
     unfolding adds notes_at plan_by
     adds_there =
-        rw (plan_there r in_rank, flat_map-flat_map (added_by i) (λ (j : ℕ). notes_of j (e r j)) (range_with_len 0 (count r)), sifted (λ (j : ℕ). flat_map (added_by i) (notes_of j (e r j))) i (count r) (λ j other. adds_at_others i j (e r j) other) inside)
+        rw (made_plan_of_rank r in_rank, flat_map-flat_map (added_by i) (λ (j : ℕ). notes_of j (e r j)) (range_with_len 0 (count r)), flat_map_of_only_nonempty (λ (j : ℕ). flat_map (added_by i) (notes_of j (e r j))) i (count r) (λ j other. adds_at_others i j (e r j) other) inside)
         (adds_at_own i i (e r i))
 
   -- an operation that is there is one of the entries
@@ -179,22 +179,22 @@ module _ (ranks : ℕ) (count : ℕ → ℕ) (e : ℕ → ℕ → Entry) where
   unfolding plan_by
   length_ops r = length-map-range_with_len (λ (i : ℕ). op_of (e r i)) 0 (count r)
 
-  past_ranks : (x : OpId) (k : Kind) → ranks ≤ x.rank → kind_at plans x ≡ Some k → ⊥
+  no_kind_past_ranks : (x : OpId) (k : Kind) → ranks ≤ x.rank → kind_at plans x ≡ Some k → ⊥
   unfolding kind_at op_at
-  past_ranks x k past h =
+  no_kind_past_ranks x k past h =
       let none = slice_get_past plans x.rank (omega (arith, length_plans)) in
       absurd (cc (rw none at h))
 
-  past_ops : (x : OpId) (k : Kind) → x.rank < ranks → count x.rank ≤ x.op → kind_at plans x ≡ Some k → ⊥
+  no_kind_past_ops : (x : OpId) (k : Kind) → x.rank < ranks → count x.rank ≤ x.op → kind_at plans x ≡ Some k → ⊥
   unfolding kind_at op_at
-  past_ops x k in_rank past h =
+  no_kind_past_ops x k in_rank past h =
       let none = slice_get_past (plan_by (count x.rank) (e x.rank)).ops x.op (omega (arith, length_ops x.rank)) in
-      absurd (cc (rw (plan_there x.rank in_rank, none) at h))
+      absurd (cc (rw (made_plan_of_rank x.rank in_rank, none) at h))
 
   pub kind_only : (x : OpId) (k : Kind) → kind_at plans x ≡ Some k → IsEntry x k
   kind_only x k h = go (cases_lt x.rank ranks) (cases_lt x.op (count x.rank))
     where
       go : (x.rank < ranks) ⊎ (ranks ≤ x.rank) → (x.op < count x.rank) ⊎ (count x.rank ≤ x.op) → IsEntry x k
-      go (inr past) q = absurd (past_ranks x k past h)
-      go (inl in_rank) (inr past) = absurd (past_ops x k in_rank past h)
+      go (inr past) q = absurd (no_kind_past_ranks x k past h)
+      go (inl in_rank) (inr past) = absurd (no_kind_past_ops x k in_rank past h)
       go (inl in_rank) (inl inside) = record { in_rank = in_rank; inside = inside; is = same_Some _ _ (sym (kind_there x.rank x.op in_rank inside) ∙ h) }

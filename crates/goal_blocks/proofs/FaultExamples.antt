@@ -22,7 +22,7 @@ use Rattle.goal_blocks.specs.Weight.{carried}
 use Rattle.goal_blocks.specs.Walk.{no_send, IsWalk}
 use Rattle.goal_blocks.specs.Certification.{NamesLowSlots, moved_count, IsSmall, IsLight, IsCertified}
 use Rattle.goal_blocks.specs.Faults.{op_key, AreDouble, SlotAt, slot_key, IsWrong, HasFault, fault_place, IsCertificationFault}
-use Rattle.goal_blocks.proofs.BcastOfTwo.{two, s, begun, arrived, posted, handed, served, small, matched, lengths, no_race, is_walk, IsThin, thin_light, later}
+use Rattle.goal_blocks.proofs.BcastOfTwo.{two, s, begun, arrived, posted, handed, served, two_is_small, matched, two_has_equal_lengths, no_race, is_walk, IsThin, thin_light, successor_slot_is_not_zero}
 use Rattle.goal_blocks.proofs.Faults.{large_not_small, excludes}
 use Rattle.goal_blocks.proofs.Walk.{one_walk}
 
@@ -41,7 +41,7 @@ thin_other = record { first = low; others = none }
 
     none : (x k : ℕ) → x < 2 → length (initial (Bcast 1) 2 x (suc k)) ≡ 0
     none zero k l = refl
-    none (suc zero) k l = rw (later k) refl
+    none (suc zero) k l = rw (successor_slot_is_not_zero k) refl
     none (suc (suc x)) k l = absurd (omega (arith, l))
 
 thin_end : IsThin (value two no_send other served)
@@ -55,23 +55,23 @@ thin_end = record { first = low; others = none }
 
     none : (x k : ℕ) → x < 2 → length (value two no_send other served x (suc k)) ≡ 0
     none zero k l = refl
-    none (suc zero) k l = rw (later k) refl
+    none (suc zero) k l = rw (successor_slot_is_not_zero k) refl
     none (suc (suc x)) k l = absurd (omega (arith, l))
 
-light : IsLight two other served
+served_is_light_from_other_root : IsLight two other served
 unfolding initial held_after kind_at op_at pairs partner fits oldest happened read write set_slot slots notes_at slots_from carried places_from places_of_rank
-light =
+served_is_light_from_other_root =
     (((((thin_light [] _ thin_other (omega arith), tt, thin_light begun _ thin_other (omega arith)), tt, thin_light arrived _ thin_other (omega arith)), tt, thin_light posted _ thin_other (omega arith)), tt, thin_light handed _ thin_other (omega arith)), tt, thin_light served _ thin_end (omega arith))
 
--- where anything may stand at the end it is certified
-certified : IsCertified two other (λ r k v. true)
+-- it is certified if any value is accepted at the end
+certified_if_anything_wanted : IsCertified two other (λ r k v. true)
 unfolding matched
-certified = record {
-  small = small;
+certified_if_anything_wanted = record {
+  small = two_is_small;
   matched = matched;
-  lengths = lengths;
+  lengths = two_has_equal_lengths;
   no_race = no_race;
-  light = light;
+  light = served_is_light_from_other_root;
   right = λ rank slot l. refl;
 }
 
@@ -90,18 +90,18 @@ wrong_root = record { has = record { holds = (omega arith, holds); none_less = n
     none_less y (inr (e, inr (f, l))) p = l
 
     none_before : (f : CertFault) → fault_place f < 8 → HasFault two other (wanted (Bcast 1) 2) f → ⊥
-    none_before (TooLarge rank) l has = excludes two other (λ r k v. true) (TooLarge rank) has certified
-    none_before (Wildcard op) l has = excludes two other (λ r k v. true) (Wildcard op) has certified
-    none_before (DoubleChannel y x) l has = excludes two other (λ r k v. true) (DoubleChannel y x) has certified
-    none_before (Unpaired op) l has = excludes two other (λ r k v. true) (Unpaired op) has certified
-    none_before (Lengths m x) l has = excludes two other (λ r k v. true) (Lengths m x) has certified
-    none_before (Race rank j k slot) l has = excludes two other (λ r k v. true) (Race rank j k slot) has certified
-    none_before (Stalls op) l has = excludes two other (λ r k v. true) (Stalls op) has certified
-    none_before (Weight total) l has = excludes two other (λ r k v. true) (Weight total) has certified
+    none_before (TooLarge rank) l has = excludes two other (λ r k v. true) (TooLarge rank) has certified_if_anything_wanted
+    none_before (Wildcard op) l has = excludes two other (λ r k v. true) (Wildcard op) has certified_if_anything_wanted
+    none_before (DoubleChannel y x) l has = excludes two other (λ r k v. true) (DoubleChannel y x) has certified_if_anything_wanted
+    none_before (Unpaired op) l has = excludes two other (λ r k v. true) (Unpaired op) has certified_if_anything_wanted
+    none_before (Lengths m x) l has = excludes two other (λ r k v. true) (Lengths m x) has certified_if_anything_wanted
+    none_before (Race rank j k slot) l has = excludes two other (λ r k v. true) (Race rank j k slot) has certified_if_anything_wanted
+    none_before (Stalls op) l has = excludes two other (λ r k v. true) (Stalls op) has certified_if_anything_wanted
+    none_before (Weight total) l has = excludes two other (λ r k v. true) (Weight total) has certified_if_anything_wanted
     none_before (Wrong rank slot) l has = absurd (omega (arith, l))
     none_before NoMemory l has = has
 
--- nothing is less than the first operation
+-- no operation comes before operation 0 of rank 0
 first_op : (y : OpId) → IsLess (op_key y) (0 ∷ 0 ∷ []) → ⊥
 first_op y (inl l) = omega (arith, l)
 first_op y (inr (e, inl l)) = omega (arith, l)
@@ -183,29 +183,29 @@ two_sends first wish = record { has = (record { holds = (s, pair); none_less = l
     none_before _ l has = absurd (omega (arith, l))
 
 -- a send to a rank without operations
-abbrev lone : List Plan
-lone =
+abbrev unreceived_send : List Plan
+unreceived_send =
     ranks_of (record { ops = send 0 ∷ []; deps = []; notes = [] }) (record { ops = []; deps = []; notes = [] })
 
-sole : (x : OpId) (k : Kind) → kind_at lone x ≡ Some k → (x ≡ s) × (k ≡ Send 8 1 0)
+sole : (x : OpId) (k : Kind) → kind_at unreceived_send x ≡ Some k → (x ≡ s) × (k ≡ Send 8 1 0)
 unfolding kind_at op_at
 sole x k e = go x.rank x.op e
   where
-    go : (rank op : ℕ) → kind_at lone (record { rank = rank; op = op }) ≡ Some k → (record { rank = rank; op = op } ≡ s) × (k ≡ Send 8 1 0)
+    go : (rank op : ℕ) → kind_at unreceived_send (record { rank = rank; op = op }) ≡ Some k → (record { rank = rank; op = op } ≡ s) × (k ≡ Send 8 1 0)
     go zero zero e = (refl, cc e)
     go zero (suc n) e = absurd (cc e)
     go (suc zero) op e = absurd (cc e)
     go (suc (suc n)) op e = absurd (cc e)
 
-no_receive : (x : OpId) → IsReceive lone x → ⊥
+no_receive : (x : OpId) → IsReceive unreceived_send x → ⊥
 no_receive x i = let e = (sole x _ i.kind).1 in cc e
 
 -- `unpaired 0 0`
-lost_send : (first : Store) (wish : ℕ → ℕ → Value → Bool) → IsCertificationFault lone first wish (Unpaired s)
+lost_send : (first : Store) (wish : ℕ → ℕ → Value → Bool) → IsCertificationFault unreceived_send first wish (Unpaired s)
 unfolding kind_at op_at
 lost_send first wish = record { has = record { holds = inl (record { bytes = 8; to = 1; tag = 0; kind = refl }, λ y one. no_receive y one.is_receive); none_less = λ y l p. first_op y l }; none_before = none_before }
   where
-    same : (y x : OpId) → ((IsSend lone y × IsSend lone x) ⊎ (IsReceive lone y × IsReceive lone x)) → IsBefore y x → ⊥
+    same : (y x : OpId) → ((IsSend unreceived_send y × IsSend unreceived_send x) ⊎ (IsReceive unreceived_send y × IsReceive unreceived_send x)) → IsBefore y x → ⊥
     same y x (inr p) b = no_receive y p.0
     same y x (inl p) b =
         let e = (sole y _ p.0.kind).0 ∙ sym (sole x _ p.1.kind).0 in
@@ -213,9 +213,9 @@ lost_send first wish = record { has = record { holds = inl (record { bytes = 8; 
         let ops = ap (λ (z : OpId). z.op) e in
         ⊎_elim (λ l. omega (arith, l, ranks)) (λ l. let lower = l.1 in omega (arith, lower, ops)) b
 
-    none_before : (f : CertFault) → fault_place f < 3 → HasFault lone first wish f → ⊥
+    none_before : (f : CertFault) → fault_place f < 3 → HasFault unreceived_send first wish f → ⊥
     none_before (TooLarge rank) l has =
-        large_not_small lone rank (small_two _ _ (omega arith) (omega arith) no_notes no_notes (omega arith)) has.holds
+        large_not_small unreceived_send rank (small_two _ _ (omega arith) (omega arith) no_notes no_notes (omega arith)) has.holds
     none_before (Wildcard op) l has =
         let w = has.holds in no_receive op (record { room = w.room; from = w.from; tag = w.tag; kind = w.kind })
     none_before (DoubleChannel y x) l has = let d = has.1.holds in same y x d.alike d.in_order

@@ -24,13 +24,13 @@ use Rattle.goal_blocks.specs.Slots.{Adding}
 use Rattle.goal_blocks.specs.Entries.{Entry, Span, op_of, deps_of, notes_of, plan_by, made_by}
 use Rattle.goal_blocks.specs.Fitting.{IsFitting, AreFitting, need_total, note_total}
 
--- what holds of the lists of each item holds of them all in a row
+-- if P holds throughout the list of each item, then it holds throughout their concatenation
 pub All-flat_map : {X Y : Type 0} (P : Y → Type 0) (f : X → List Y) (xs : List X) → All (λ x. All P (f x)) xs → All P (flat_map f xs)
 All-flat_map P f [] h = λ k d inside. absurd (omega arith)
 All-flat_map P f (x ∷ xs) h =
     rw (flat_map-cons f x xs) (All-append P (f x) (flat_map f xs) (All-head (λ x. All P (f x)) x xs h) (All-flat_map P f xs (All-tail (λ x. All P (f x)) x xs h)))
 
--- what holds of each number below n holds of the numbers below n
+-- if P holds of each number below n, then it holds throughout the range from 0 to n
 pub All-range : (P : ℕ → Type 0) (n : ℕ) → ((i : ℕ) → i < n → P i) → All P (range_with_len 0 n)
 All-range P n h k d inside =
     let size = length-range_with_len 0 n in
@@ -41,7 +41,7 @@ pub sum_by-map : {X Y : Type 0} (f : Y → ℕ) (g : X → Y) (xs : List X) → 
 sum_by-map f g [] = refl
 sum_by-map f g (x ∷ xs) = rw (sum_by-cons f (g x) (map g xs), sum_by-cons (λ x. f (g x)) x xs, sum_by-map f g xs) refl
 
--- items that have no fault one by one have none
+-- if no item has a fault, then the list has none
 pub first_fault-of_none : {A : Type 0} (P : A → Type 0) (fault : ℕ → A → Option PlanFault) → ((n : ℕ) (x : A) → P x → fault n x ≡ None) → (n : ℕ) (xs : List A) → All P xs → first_fault fault n xs ≡ None
 unfolding first_fault
 first_fault-of_none P fault none n [] h = refl
@@ -57,24 +57,24 @@ module _ (plans : List Plan) (lower : All (λ (p : Plan). All (λ (d : Dep). d.e
     | inr past ↦ rw past.1 (λ k d inside. absurd (omega arith))
   ]
 
-  below_all : (n : ℕ) (x : OpId) → ((y : OpId) → y.op < n → is_below plans n y ≡ true) → x.op ≤ n → (ds : List Dep) → All (λ (d : Dep). d.earlier < d.later) ds → All (λ (d : Dep). eqb d.later x.op ≡ true) ds → list_all (λ (d : Need). is_below plans n (needed x d)) (map earlier_of ds) ≡ true
-  below_all n x deep le [] a b = refl
-  below_all n x deep le (d ∷ ds) a b =
+  needs_are_below_bound : (n : ℕ) (x : OpId) → ((y : OpId) → y.op < n → is_below plans n y ≡ true) → x.op ≤ n → (ds : List Dep) → All (λ (d : Dep). d.earlier < d.later) ds → All (λ (d : Dep). eqb d.later x.op ≡ true) ds → list_all (λ (d : Need). is_below plans n (needed x d)) (map earlier_of ds) ≡ true
+  needs_are_below_bound n x deep le [] a b = refl
+  needs_are_below_bound n x deep le (d ∷ ds) a b =
       let here = All-head (λ (d : Dep). d.earlier < d.later) d ds a in
       let same = All-head (λ (d : Dep). eqb d.later x.op ≡ true) d ds b in
       let small : d.earlier < n = grind (arith, nat_tests) in
-      rw (deep (needed x (earlier_of d)) small) (below_all n x deep le ds (All-tail (λ (d : Dep). d.earlier < d.later) d ds a) (All-tail (λ (d : Dep). eqb d.later x.op ≡ true) d ds b))
+      rw (deep (needed x (earlier_of d)) small) (needs_are_below_bound n x deep le ds (All-tail (λ (d : Dep). d.earlier < d.later) d ds a) (All-tail (λ (d : Dep). eqb d.later x.op ≡ true) d ds b))
 
-  below_next : (n : ℕ) (x : OpId) → x.op < n → is_below plans n x ≡ true
+  operation_is_below_bound : (n : ℕ) (x : OpId) → x.op < n → is_below plans n x ≡ true
   unfolding is_below needs
-  below_next zero x lt = absurd (omega arith)
-  below_next (suc n) x lt =
-      below_all n x (λ y l. below_next n y l) (omega arith) (filter (λ (d : Dep). eqb d.later x.op) (deps_at plans x.rank))
+  operation_is_below_bound zero x lt = absurd (omega arith)
+  operation_is_below_bound (suc n) x lt =
+      needs_are_below_bound n x (λ y l. operation_is_below_bound n y l) (omega arith) (filter (λ (d : Dep). eqb d.later x.op) (deps_at plans x.rank))
       (All-filter (λ (d : Dep). eqb d.later x.op) (λ (d : Dep). d.earlier < d.later) (deps_at plans x.rank) (deps_lower x.rank))
       (filter_passes (λ (d : Dep). eqb d.later x.op) (deps_at plans x.rank))
 
   pub lower_have_depths : (x : OpId) → HasDepth plans x
-  lower_have_depths x = record { bound = suc x.op; below = below_next (suc x.op) x (omega arith) }
+  lower_have_depths x = record { bound = suc x.op; below = operation_is_below_bound (suc x.op) x (omega arith) }
 
 -- the dependencies and notes of an entry that fits, in a rank of n operations
 module _ (ranks n i : ℕ) (e : Entry) (inside : i < n) (fit : IsFitting ranks i e) where
@@ -155,7 +155,7 @@ module _ (ranks : ℕ) (count : ℕ → ℕ) (e : ℕ → ℕ → Entry) (fit : 
   unfolding made_by
   length_made = length-map-range_with_len (λ (r : ℕ). plan_by (count r) (e r)) 0 ranks
 
-  -- what holds of the plan of each rank holds of all
+  -- if P holds of the plan of each rank, then it holds of all plans
   All-made : (P : Plan → Type 0) → ((r : ℕ) → r < ranks → P (plan_by (count r) (e r))) → All P (made_by ranks count e)
   unfolding made_by
   All-made P h = All-map P (λ (r : ℕ). plan_by (count r) (e r)) (range_with_len 0 ranks) (All-range (λ (r : ℕ). P (plan_by (count r) (e r))) ranks h)
@@ -201,25 +201,25 @@ module _ (ranks : ℕ) (count : ℕ → ℕ) (e : ℕ → ℕ → Entry) (fit : 
       sum_made (λ (p : Plan). length p.notes)
       ∙ ap (λ (f : ℕ → ℕ). sum_by f (range_with_len 0 ranks)) (λ i r. length_notes r i)
 
-  not_over : (limit found : ℕ) → found ≤ limit → count_over limit found ≡ None
-  not_over limit found h = grind (arith, nat_tests)
+  no_count_over_limit : (limit found : ℕ) → found ≤ limit → count_over limit found ≡ None
+  no_count_over_limit limit found h = grind (arith, nat_tests)
 
-  counts_within : count_fault (made_by ranks count e) ≡ None
+  made_counts_within_limits : count_fault (made_by ranks count e) ≡ None
   unfolding count_fault
-  counts_within =
-      rw (length_made, op_count_made, dep_count_made, note_count_made, some ranks fit.some_rank, not_over MAX_RANKS ranks fit.few_ranks, not_over MAX_OPS _ fit.few_ops, not_over MAX_DEPS _ fit.few_needs, not_over MAX_NOTES _ fit.few_notes) refl
+  made_counts_within_limits =
+      rw (length_made, op_count_made, dep_count_made, note_count_made, some ranks fit.some_rank, no_count_over_limit MAX_RANKS ranks fit.few_ranks, no_count_over_limit MAX_OPS _ fit.few_ops, no_count_over_limit MAX_DEPS _ fit.few_needs, no_count_over_limit MAX_NOTES _ fit.few_notes) refl
     where
       some : (n : ℕ) → 0 < n → eqb n 0 ≡ false
       some n h = grind (arith, nat_tests)
 
-  made_plain : plain_fault (made_by ranks count e) ≡ None
+  made_has_no_plain_fault : plain_fault (made_by ranks count e) ≡ None
   unfolding plain_fault
-  made_plain =
-      rw (counts_within, length_made)
+  made_has_no_plain_fault =
+      rw (made_counts_within_limits, length_made)
       (first_fault-of_none (λ (p : Plan). (n : ℕ) → rank_fault ranks n p ≡ None) (rank_fault ranks) (λ n p h. h n) 0 (made_by ranks count e) (All-made (λ (p : Plan). (n : ℕ) → rank_fault ranks n p ≡ None) (λ r l. rank_fits r l)))
 
   pub fitting_accepted : IsAccepted (made_by ranks count e)
   fitting_accepted = record {
-    plain = made_plain;
+    plain = made_has_no_plain_fault;
     depths = λ x is_op. lower_have_depths (made_by ranks count e) (All-made (λ (p : Plan). All (λ (d : Dep). d.earlier < d.later) p.deps) (λ r l. deps_lower_in r l)) x;
   }

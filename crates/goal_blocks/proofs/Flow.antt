@@ -7,7 +7,7 @@ use Rattle.goal_graph.specs.declared.plan.Kind.{Kind}
 use Rattle.goal_graph.specs.declared.plan.Kind.TheVariants.{Calc, Send, Recv}
 use Rattle.goal_graph.specs.Schedule.{Plan, kind_at, IsSend, IsReceive}
 use Rattle.goal_graph.specs.Laws.{IsCalc}
-use Rattle.goal_graph.proofs.ForCallers.{cases_op, same_op_false, same_op_itself, not_send_receive, not_receive_calc}
+use Rattle.goal_graph.proofs.ForCallers.{same_or_different_op, same_op_false, same_op_itself, not_send_receive, not_receive_calc}
 use Rattle.goal_blocks.specs.Channels.{AreOfOneChannel}
 use Rattle.goal_blocks.specs.Slots.{slots, adds, written, written_in, touched, touched_in}
 use Rattle.goal_blocks.specs.Values.{Value, Store, Held, payload_from, write, add_all, read}
@@ -113,7 +113,7 @@ module _ (plans : List Plan) (matched : IsMatched plans) (first : Store) where
       other_payload : (m : OpId) → ((state (w ∷ ws)).payload m ≡ (state ws).payload m) ⊎ ((w ≡ m) × IsSend plans m)
       unfolding read
       other_payload m =
-          ⊎_elim (λ e. go e (kind_at plans w) refl) (λ f. inl (payload_keeps plans (sender plans matched) w (state ws) m (λ e. same_op_false w m f e))) (cases_op w m)
+          ⊎_elim (λ e. go e (kind_at plans w) refl) (λ f. inl (payload_keeps plans (sender plans matched) w (state ws) m (λ e. same_op_false w m f e))) (same_or_different_op w m)
         where
           go : w ≡ m → (o : Option Kind) → kind_at plans w ≡ o → ((effect plans (sender plans matched) w o (state ws)).payload m ≡ (state ws).payload m) ⊎ ((w ≡ m) × IsSend plans m)
           go e None f = inl refl

@@ -19,15 +19,15 @@ use Rattle.goal_blocks.specs.Generated.{made}
 use Rattle.goal_blocks.specs.Messages.{AreMessages}
 use Rattle.goal_blocks.proofs.Orders.{Mem}
 use Rattle.goal_blocks.proofs.EntryFacts.{slots_of_span, length_plans}
-use Rattle.goal_blocks.proofs.Ring.{back_same, root_virtual}
+use Rattle.goal_blocks.proofs.Ring.{back_by_root_injective, root_has_virtual_rank_zero}
 use Rattle.goal_blocks.proofs.RingAndTree.{back_below, upward_some, upward_few}
 use Rattle.goal_blocks.proofs.Trees.{rounds_few, child_below}
-use Rattle.goal_blocks.proofs.Tree.{rounds_low, low_zero, IsInRound, round_of, one_round, round_in_block}
+use Rattle.goal_blocks.proofs.Tree.{rounds_low, low_zero, IsInRound, round_of_descendant, round_of_descendant_unique, round_in_block}
 use Rattle.goal_blocks.proofs.TreeSizes.{block_cap, block_load, cap_of_block}
 use Rattle.goal_blocks.proofs.BlockBounds.{IsMoving, own_block, child_block, blocks_small, blocks_bounded}
-use Rattle.goal_blocks.proofs.TreeMessages.{TreeEdge, above, above_is, above_inside, virtual, child_end, parent_end, AreTreeEnds, up_messages}
+use Rattle.goal_blocks.proofs.TreeMessages.{TreeEdge, above, above_is_parent, above_inside, virtual, child_end, parent_end, AreTreeEnds, up_messages}
 use Rattle.goal_blocks.proofs.TreeCases.{gather_hears, gather_sends}
-use Rattle.goal_blocks.proofs.Shares.{IsInShare, share_in, in_share}
+use Rattle.goal_blocks.proofs.Shares.{IsInShare, mem_share_is_in_share, in_share_is_mem_share}
 use Rattle.goal_blocks.proofs.BcastCertified.{tag_of}
 use Rattle.goal_blocks.proofs.Blueprint.{moved, touches, writes, Precedes, now, Origin, Final, IsBlueprint, blueprint_certified}
 
@@ -77,27 +77,27 @@ module _ (ranks root bytes : ℕ) (rooted : root < ranks) (few : ranks ≤ rank_
     each = λ v i inside there. ⊎_elim (λ lt. inr (inr (i, lt, refl))) (λ ge. let is = late_entry_is_giving v i there ge in inr (inl (is.some, is.last))) (cases_lt i (rounds ranks v));
   }
 
-  abbrev give_end : TreeEdge ranks → OpId
-  give_end = child_end ranks root bytes rooted few count_in entry_in (rounds ranks) (λ v j. j)
+  abbrev gather_send : TreeEdge ranks → OpId
+  gather_send = child_end ranks root bytes rooted few count_in entry_in (rounds ranks) (λ v j. j)
 
-  abbrev hear_end : TreeEdge ranks → OpId
-  hear_end = parent_end ranks root bytes rooted few count_in entry_in (rounds ranks) (λ v j. j)
+  abbrev gather_recv : TreeEdge ranks → OpId
+  gather_recv = parent_end ranks root bytes rooted few count_in entry_in (rounds ranks) (λ v j. j)
 
-  tree_messages : AreMessages ranks count entry (TreeEdge ranks) bytes give_end hear_end (λ m. low m.child)
+  tree_messages : AreMessages ranks count entry (TreeEdge ranks) bytes gather_send gather_recv (λ m. low m.child)
   tree_messages = up_messages ranks root bytes rooted few count_in entry_in (rounds ranks) (λ v j. j) tree_ends (λ v some inside. ap (λ (x : Entry). x.kind) (entry_sends v (rounds ranks v) (omega arith))) (λ v j inside lt. ap (λ (x : Entry). x.kind) (entry_receives v j lt))
 
-  in_range : (a n k : ℕ) → Mem k (range_with_len a n) → k < a + n
-  in_range a zero k m = absurd m
-  in_range a (suc n) k (inl e) = omega (arith, e)
-  in_range a (suc n) k (inr m) = let rest = in_range (a + 1) n k m in omega (arith, rest)
+  range_member_below_end : (a n k : ℕ) → Mem k (range_with_len a n) → k < a + n
+  range_member_below_end a zero k m = absurd m
+  range_member_below_end a (suc n) k (inl e) = omega (arith, e)
+  range_member_below_end a (suc n) k (inr m) = let rest = range_member_below_end (a + 1) n k m in omega (arith, rest)
 
-  range_has : (a n k : ℕ) → a ≤ k → k < a + n → Mem k (range_with_len a n)
-  range_has a zero k le lt = absurd (omega (arith, le, lt))
-  range_has a (suc n) k le lt =
-      ⊎_elim (λ l. inr (range_has (a + 1) n k (omega (arith, l)) (omega (arith, lt)))) (λ ge. inl (omega (arith, le, ge))) (cases_lt a k)
+  range_contains_number : (a n k : ℕ) → a ≤ k → k < a + n → Mem k (range_with_len a n)
+  range_contains_number a zero k le lt = absurd (omega (arith, le, lt))
+  range_contains_number a (suc n) k le lt =
+      ⊎_elim (λ l. inr (range_contains_number (a + 1) n k (omega (arith, l)) (omega (arith, lt)))) (λ ge. inl (omega (arith, le, ge))) (cases_lt a k)
 
   needs_are_lower : (v i k : ℕ) → i < count_in v → Mem k (entry_in v i).needs → (k < count_in v) × (tag_of (entry_in v k).kind < tag_of (entry_in v i).kind)
-  needs_are_lower v i k there m = ⊎_elim (λ lt. absurd (subst (λ (x : Entry). Mem k x.needs) (entry_receives v i lt) m)) (λ ge. go ge (in_range 0 (rounds ranks v) k (subst (λ (x : Entry). Mem k x.needs) (entry_sends v i ge) m))) (cases_lt i (rounds ranks v))
+  needs_are_lower v i k there m = ⊎_elim (λ lt. absurd (subst (λ (x : Entry). Mem k x.needs) (entry_receives v i lt) m)) (λ ge. go ge (range_member_below_end 0 (rounds ranks v) k (subst (λ (x : Entry). Mem k x.needs) (entry_sends v i ge) m))) (cases_lt i (rounds ranks v))
     where
       go : rounds ranks v ≤ i → k < 0 + rounds ranks v → (k < count_in v) × (tag_of (entry_in v k).kind < tag_of (entry_in v i).kind)
       go ge lt =
@@ -113,17 +113,17 @@ module _ (ranks root bytes : ℕ) (rooted : root < ranks) (few : ranks ≤ rank_
     round : IsInRound ranks v (back ranks k root) j
 
   writes_round : (v j k : ℕ) → v < ranks → Mem k (writes (entry_in v j)) → IsWritten v j k
-  writes_round v j k inside w = ⊎_elim (λ lt. go lt (share_in ranks root (v + 2 ^ j) (2 ^ j) rooted (child_below ranks few v j inside lt) (pow_pos j) k (subst (λ (x : Entry). Mem k (writes x)) (entry_receives v j lt) w))) (λ ge. absurd (subst (λ (x : Entry). Mem k (writes x)) (entry_sends v j ge) w)) (cases_lt j (rounds ranks v))
+  writes_round v j k inside w = ⊎_elim (λ lt. go lt (mem_share_is_in_share ranks root (v + 2 ^ j) (2 ^ j) rooted (child_below ranks few v j inside lt) (pow_pos j) k (subst (λ (x : Entry). Mem k (writes x)) (entry_receives v j lt) w))) (λ ge. absurd (subst (λ (x : Entry). Mem k (writes x)) (entry_sends v j ge) w)) (cases_lt j (rounds ranks v))
     where
       go : j < rounds ranks v → IsInShare ranks root (v + 2 ^ j) (2 ^ j) k → IsWritten v j k
       go lt is = record { slot = is.slot; round = record { round = lt; from = is.from; before = is.before } }
 
   round_writes : (v j k : ℕ) → v < ranks → k < ranks → IsInRound ranks v (back ranks k root) j → Mem k (writes (entry_in v j))
   round_writes v j k inside slot is =
-      subst (λ (x : Entry). Mem k (writes x)) (sym (entry_receives v j is.round)) (in_share ranks root (v + 2 ^ j) (2 ^ j) rooted (child_below ranks few v j inside is.round) (pow_pos j) k slot is.from is.before)
+      subst (λ (x : Entry). Mem k (writes x)) (sym (entry_receives v j is.round)) (in_share_is_mem_share ranks root (v + 2 ^ j) (2 ^ j) rooted (child_below ranks few v j inside is.round) (pow_pos j) k slot is.from is.before)
 
   conflicts_are_ordered : (v i j k : ℕ) → v < ranks → (i ≡ j → ⊥) → Mem k (touches (entry_in v i)) → Mem k (writes (entry_in v j)) → Precedes (entry_in v) i j ⊎ Precedes (entry_in v) j i
-  conflicts_are_ordered v i j k inside differ t w = ⊎_elim (λ lt. absurd (differ (one_round ranks few v (back ranks k root) i j (heard lt) by_j.round))) (λ ge. inr (now (subst (λ (x : Entry). Mem j x.needs) (sym (entry_sends v i ge)) (range_has 0 (rounds ranks v) j (omega arith) (let lt = by_j.round.round in omega (arith, lt)))))) (cases_lt i (rounds ranks v))
+  conflicts_are_ordered v i j k inside differ t w = ⊎_elim (λ lt. absurd (differ (round_of_descendant_unique ranks few v (back ranks k root) i j (heard lt) by_j.round))) (λ ge. inr (now (subst (λ (x : Entry). Mem j x.needs) (sym (entry_sends v i ge)) (range_contains_number 0 (rounds ranks v) j (omega arith) (let lt = by_j.round.round in omega (arith, lt)))))) (cases_lt i (rounds ranks v))
     where
       by_j : IsWritten v j k
       by_j = writes_round v j k inside w
@@ -143,18 +143,18 @@ module _ (ranks root bytes : ℕ) (rooted : root < ranks) (few : ranks ≤ rank_
 
   touched_has_origin : (r i k : ℕ) → r < ranks → i < count r → ((room : ℕ) (from t : Option ℕ) → (entry r i).kind ≡ Recv room from t → ⊥) → Mem k (touches (entry r i)) → Traced r i k
   touched_has_origin r i k inside there not_receive t =
-      ⊎_elim (λ lt. absurd (not_receive _ _ _ (ap (λ (x : Entry). x.kind) (entry_receives (back ranks r root) i lt)))) (λ ge. given ge (share_in ranks root (back ranks r root) (2 ^ low (back ranks r root)) rooted low_rank (pow_pos (low (back ranks r root))) k (subst (λ (x : Entry). Mem k (touches x)) (entry_sends (back ranks r root) i ge) t))) (cases_lt i (rounds ranks (back ranks r root)))
+      ⊎_elim (λ lt. absurd (not_receive _ _ _ (ap (λ (x : Entry). x.kind) (entry_receives (back ranks r root) i lt)))) (λ ge. given ge (mem_share_is_in_share ranks root (back ranks r root) (2 ^ low (back ranks r root)) rooted low_rank (pow_pos (low (back ranks r root))) k (subst (λ (x : Entry). Mem k (touches x)) (entry_sends (back ranks r root) i ge) t))) (cases_lt i (rounds ranks (back ranks r root)))
     where
       low_rank : back ranks r root < ranks
       low_rank = back_below ranks r root inside
 
       given : rounds ranks (back ranks r root) ≤ i → IsInShare ranks root (back ranks r root) (2 ^ low (back ranks r root)) k → Traced r i k
-      given ge is = ⊎_elim (λ lt. heard ge is (round_of ranks few (back ranks r root) (back ranks k root) lt (back_below ranks k root is.slot) is.before)) (λ le. inl (first_own r k inside (back_same ranks r k root inside is.slot rooted (let from = is.from in omega (arith, le, from))), λ j l w. absurd (let above_v = (writes_round (back ranks r root) j k low_rank w).round.from in let some = pow_pos j in omega (arith, above_v, some, le)))) (cases_lt (back ranks r root) (back ranks k root))
+      given ge is = ⊎_elim (λ lt. heard ge is (round_of_descendant ranks few (back ranks r root) (back ranks k root) lt (back_below ranks k root is.slot) is.before)) (λ le. inl (first_own r k inside (back_by_root_injective ranks r k root inside is.slot rooted (let from = is.from in omega (arith, le, from))), λ j l w. absurd (let above_v = (writes_round (back ranks r root) j k low_rank w).round.from in let some = pow_pos j in omega (arith, above_v, some, le)))) (cases_lt (back ranks r root) (back ranks k root))
         where
           heard : rounds ranks (back ranks r root) ≤ i → IsInShare ranks root (back ranks r root) (2 ^ low (back ranks r root)) k → (j : ℕ) × IsInRound ranks (back ranks r root) (back ranks k root) j → Traced r i k
-          heard ge is (j, at) = inr (j, (let lt = at.round in omega (arith, lt)), round_writes (back ranks r root) j k low_rank is.slot at, now (subst (λ (x : Entry). Mem j x.needs) (sym (entry_sends (back ranks r root) i ge)) (range_has 0 (rounds ranks (back ranks r root)) j (omega arith) (let lt = at.round in omega (arith, lt)))), refl, λ l m w. inl (inr (one_round ranks few (back ranks r root) (back ranks k root) l j (writes_round (back ranks r root) l k low_rank w).round at)))
+          heard ge is (j, at) = inr (j, (let lt = at.round in omega (arith, lt)), round_writes (back ranks r root) j k low_rank is.slot at, now (subst (λ (x : Entry). Mem j x.needs) (sym (entry_sends (back ranks r root) i ge)) (range_contains_number 0 (rounds ranks (back ranks r root)) j (omega arith) (let lt = at.round in omega (arith, lt)))), refl, λ l m w. inl (inr (round_of_descendant_unique ranks few (back ranks r root) (back ranks k root) l j (writes_round (back ranks r root) l k low_rank w).round at)))
 
-  -- the end: the root has each slot, and of the others nothing is wanted
+  -- at the end the root has each slot, and nothing is wanted of the other ranks
 
   nothing_wanted_elsewhere : (r k : ℕ) (u : Value) → (r ≡ root → ⊥) ⊎ (ranks ≤ k) → wanted (Gather root) ranks r k u ≡ true
   unfolding wanted
@@ -176,16 +176,16 @@ module _ (ranks root bytes : ℕ) (rooted : root < ranks) (few : ranks ≤ rank_
   Ended r k = Final ranks count entry first (wanted (Gather root) ranks) item_of_slot item_of_slot r k
 
   final_root : (k : ℕ) → k < ranks → Ended root k
-  final_root k slot = ⊎_elim (λ some. heard (round_of ranks few (back ranks root root) (back ranks k root) (omega (arith, some, none)) (back_below ranks k root slot) (let high = back_below ranks k root slot in let top : low (back ranks root root) ≡ 32 = ap low (root_virtual ranks root) ∙ low_zero in subst (λ (n : ℕ). back ranks k root < back ranks root root + 2 ^ n) (sym top) (omega (arith, high, few))))) (λ zero. inr (inl (λ j l w. absurd (let from = (writes_round (back ranks root root) j k low_root w).round.from in let some = pow_pos j in omega (arith, from, some, zero)), subst (λ (u : Value). wanted (Gather root) ranks root k u ≡ true) (sym (first_own root k rooted (back_same ranks root k root rooted slot rooted (omega (arith, zero, none))))) (wanted_at_root root k rooted slot refl)))) (cases_lt 0 (back ranks k root))
+  final_root k slot = ⊎_elim (λ some. heard (round_of_descendant ranks few (back ranks root root) (back ranks k root) (omega (arith, some, none)) (back_below ranks k root slot) (let high = back_below ranks k root slot in let top : low (back ranks root root) ≡ 32 = ap low (root_has_virtual_rank_zero ranks root) ∙ low_zero in subst (λ (n : ℕ). back ranks k root < back ranks root root + 2 ^ n) (sym top) (omega (arith, high, few))))) (λ zero. inr (inl (λ j l w. absurd (let from = (writes_round (back ranks root root) j k low_root w).round.from in let some = pow_pos j in omega (arith, from, some, zero)), subst (λ (u : Value). wanted (Gather root) ranks root k u ≡ true) (sym (first_own root k rooted (back_by_root_injective ranks root k root rooted slot rooted (omega (arith, zero, none))))) (wanted_at_root root k rooted slot refl)))) (cases_lt 0 (back ranks k root))
     where
       none : back ranks root root ≡ 0
-      none = root_virtual ranks root
+      none = root_has_virtual_rank_zero ranks root
 
       low_root : back ranks root root < ranks
       low_root = back_below ranks root root rooted
 
       heard : (j : ℕ) × IsInRound ranks (back ranks root root) (back ranks k root) j → Ended root k
-      heard (j, at) = inr (inr (j, (let lt = at.round in omega (arith, lt)), round_writes (back ranks root root) j k low_root slot at, λ l m w. inl (one_round ranks few (back ranks root root) (back ranks k root) l j (writes_round (back ranks root root) l k low_root w).round at), wanted_at_root root k rooted slot refl))
+      heard (j, at) = inr (inr (j, (let lt = at.round in omega (arith, lt)), round_writes (back ranks root root) j k low_root slot at, λ l m w. inl (round_of_descendant_unique ranks few (back ranks root root) (back ranks k root) l j (writes_round (back ranks root root) l k low_root w).round at), wanted_at_root root k rooted slot refl))
 
   slots_end_as_wanted : (r k : ℕ) → r < ranks → Ended r k
   slots_end_as_wanted r k inside = ⊎_elim (λ same. ⊎_elim (λ slot. subst (λ (q : ℕ). Ended q k) (sym same) (final_root k slot)) (λ past. inl (λ u. nothing_wanted_elsewhere r k u (inr past))) (cases_lt k ranks)) (λ other. inl (λ u. nothing_wanted_elsewhere r k u (inl other))) (cases_eq r root)
@@ -206,13 +206,13 @@ module _ (ranks root bytes : ℕ) (rooted : root < ranks) (few : ranks ≤ rank_
     heard_slots : moved (entry_in (above ranks root bytes rooted few m) (low m.child)) ≡ block
     unfolding block
     heard_slots =
-        ap moved (entry_receives (above ranks root bytes rooted few m) (low m.child) (above_is ranks root bytes rooted few m).round) ∙ ap (λ (c : ℕ). flat_map slots_of_span (share ranks root c (2 ^ low m.child))) (above_is ranks root bytes rooted few m).child
+        ap moved (entry_receives (above ranks root bytes rooted few m) (low m.child) (above_is_parent ranks root bytes rooted few m).round) ∙ ap (λ (c : ℕ). flat_map slots_of_span (share ranks root c (2 ^ low m.child))) (above_is_parent ranks root bytes rooted few m).child
 
   message_keeps_values : (m : TreeEdge ranks) → map (λ (k : ℕ). single k 0) (moved (entry (ahead ranks m.child root) (rounds ranks m.child))) ≡ map (λ (k : ℕ). single k 0) (moved (entry (ahead ranks (above ranks root bytes rooted few m) root) (low m.child)))
   message_keeps_values m =
       ap (λ (ks : List ℕ). map (λ (k : ℕ). single k 0) ks) (rw (virtual ranks root bytes rooted few m.child m.inside, virtual ranks root bytes rooted few (above ranks root bytes rooted few m) (above_inside ranks root bytes rooted few m)) (given_slots m ∙ sym (heard_slots m)))
 
-  blueprint : IsBlueprint ranks count entry first (wanted (Gather root) ranks) item_of_slot item_of_slot (TreeEdge ranks) bytes give_end hear_end (λ m. low m.child) level
+  blueprint : IsBlueprint ranks count entry first (wanted (Gather root) ranks) item_of_slot item_of_slot (TreeEdge ranks) bytes gather_send gather_recv (λ m. low m.child) level
   blueprint = record {
     messages = tree_messages;
     lower = λ r i k there m. needs_are_lower (back ranks r root) i k there.1 m;
@@ -239,8 +239,8 @@ module _ (ranks root bytes : ℕ) (rooted : root < ranks) (few : ranks ≤ rank_
   count_in_few : (v : ℕ) → count_in v ≤ 17
   count_in_few v = let most = rounds_few ranks few v in let one = upward_few v in omega (arith, most, one)
 
-  moving : (v i n : ℕ) → v < ranks → i < count_in v → IsMoving ranks few root rooted v n (entry_in v i)
-  moving v i n inside there =
+  entry_is_moving : (v i n : ℕ) → v < ranks → i < count_in v → IsMoving ranks few root rooted v n (entry_in v i)
+  entry_is_moving v i n inside there =
       ⊎_elim (λ lt. subst (λ (x : Entry). IsMoving ranks few root rooted v n x) (sym (entry_receives v i lt)) (child_block ranks few root rooted v n (Recv bytes (Some (ahead ranks (v + 2 ^ i) root)) (Some i)) [] inside i lt)) (λ ge. subst (λ (x : Entry). IsMoving ranks few root rooted v n x) (sym (entry_sends v i ge)) (own_block ranks few root rooted v n (Send bytes (parent ranks root v) (low v)) (range_with_len 0 (rounds ranks v)) inside)) (cases_lt i (rounds ranks v))
 
   writes_in_share : (v i k : ℕ) → v < ranks → i < count_in v → Mem k (writes (entry_in v i)) → IsInShare ranks root v (2 ^ low v) k
@@ -252,4 +252,4 @@ module _ (ranks root bytes : ℕ) (rooted : root < ranks) (few : ranks ≤ rank_
   pub gather_certified : IsCertifiedFor (Gather root) (made (Gather root) ranks bytes)
   unfolding made
   gather_certified =
-      subst (λ (n : ℕ). IsCertified (made (Gather root) ranks bytes) (initial (Gather root) n) (wanted (Gather root) n)) (sym (length_plans ranks count entry)) (blueprint_certified ranks count entry first (wanted (Gather root) ranks) item_of_slot item_of_slot (TreeEdge ranks) bytes give_end hear_end (λ m. low m.child) level blueprint (block_cap ranks few root rooted) (block_load ranks few root rooted) (blocks_bounded ranks few root rooted count_in count_in_few entry_in moving first (wanted (Gather root) ranks) (λ (k : ℕ). single k 0) (TreeEdge ranks) give_end (λ k. refl) first_cap writes_in_share tree_messages.send_there) (blocks_small ranks few root rooted count_in count_in_few entry_in moving))
+      subst (λ (n : ℕ). IsCertified (made (Gather root) ranks bytes) (initial (Gather root) n) (wanted (Gather root) n)) (sym (length_plans ranks count entry)) (blueprint_certified ranks count entry first (wanted (Gather root) ranks) item_of_slot item_of_slot (TreeEdge ranks) bytes gather_send gather_recv (λ m. low m.child) level blueprint (block_cap ranks few root rooted) (block_load ranks few root rooted) (blocks_bounded ranks few root rooted count_in count_in_few entry_in entry_is_moving first (wanted (Gather root) ranks) (λ (k : ℕ). single k 0) (TreeEdge ranks) gather_send (λ k. refl) first_cap writes_in_share tree_messages.send_there) (blocks_small ranks few root rooted count_in count_in_few entry_in entry_is_moving))

@@ -12,22 +12,22 @@ use Rattle.goal_graph.specs.Laws.{left}
 use Rattle.goal_graph.proofs.ForCallers.{allowed_listed, left_falls}
 
 module _ (plans : List Plan) (eager : OpId → Bool) where
-  abbrev may : List Act → Class → OpId → Bool
-  may h c x = allowed plans eager h c x
+  abbrev is_allowed_next : List Act → Class → OpId → Bool
+  is_allowed_next h c x = allowed plans eager h c x
 
   -- an operation has an allowed action, or none
-  pub class_of : (h : List Act) (x : OpId) → ((c : Class) × (may h c x ≡ true)) ⊎ ((c : Class) → may h c x ≡ false)
-  class_of h x =
-      go (cases_Bool (may h Arrive x)) (cases_Bool (may h Serve x)) (cases_Bool (may h Data x)) (cases_Bool (may h Post x)) (cases_Bool (may h Begin x))
+  pub allowed_class_or_none : (h : List Act) (x : OpId) → ((c : Class) × (is_allowed_next h c x ≡ true)) ⊎ ((c : Class) → is_allowed_next h c x ≡ false)
+  allowed_class_or_none h x =
+      go (cases_Bool (is_allowed_next h Arrive x)) (cases_Bool (is_allowed_next h Serve x)) (cases_Bool (is_allowed_next h Data x)) (cases_Bool (is_allowed_next h Post x)) (cases_Bool (is_allowed_next h Begin x))
     where
-      none : may h Arrive x ≡ false → may h Serve x ≡ false → may h Data x ≡ false → may h Post x ≡ false → may h Begin x ≡ false → (c : Class) → may h c x ≡ false
+      none : is_allowed_next h Arrive x ≡ false → is_allowed_next h Serve x ≡ false → is_allowed_next h Data x ≡ false → is_allowed_next h Post x ≡ false → is_allowed_next h Begin x ≡ false → (c : Class) → is_allowed_next h c x ≡ false
       none p q r s t Arrive = p
       none p q r s t Serve = q
       none p q r s t Data = r
       none p q r s t Post = s
       none p q r s t Begin = t
 
-      go : ((may h Arrive x ≡ true) ⊎ (may h Arrive x ≡ false)) → ((may h Serve x ≡ true) ⊎ (may h Serve x ≡ false)) → ((may h Data x ≡ true) ⊎ (may h Data x ≡ false)) → ((may h Post x ≡ true) ⊎ (may h Post x ≡ false)) → ((may h Begin x ≡ true) ⊎ (may h Begin x ≡ false)) → ((c : Class) × (may h c x ≡ true)) ⊎ ((c : Class) → may h c x ≡ false)
+      go : ((is_allowed_next h Arrive x ≡ true) ⊎ (is_allowed_next h Arrive x ≡ false)) → ((is_allowed_next h Serve x ≡ true) ⊎ (is_allowed_next h Serve x ≡ false)) → ((is_allowed_next h Data x ≡ true) ⊎ (is_allowed_next h Data x ≡ false)) → ((is_allowed_next h Post x ≡ true) ⊎ (is_allowed_next h Post x ≡ false)) → ((is_allowed_next h Begin x ≡ true) ⊎ (is_allowed_next h Begin x ≡ false)) → ((c : Class) × (is_allowed_next h c x ≡ true)) ⊎ ((c : Class) → is_allowed_next h c x ≡ false)
       go (inl p) q r s t = inl (Arrive, p)
       go (inr p) (inl q) r s t = inl (Serve, q)
       go (inr p) (inr q) (inl r) s t = inl (Data, r)
@@ -36,34 +36,34 @@ module _ (plans : List Plan) (eager : OpId → Bool) where
       go (inr p) (inr q) (inr r) (inr s) (inr t) = inr (none p q r s t)
 
   -- one of these operations has an allowed action, or none of them has
-  some_of : (h : List Act) (os : List OpId) → ((a : Act) × (may h a.class a.op ≡ true)) ⊎ ((y : OpId) → Contains os y → (d : Class) → may h d y ≡ false)
-  some_of h [] = inr (λ y c d. absurd (omega (arith, c.1)))
-  some_of h (x ∷ os) =
-      ⊎_elim (λ found. inl (record { class = found.0; op = x }, found.1)) (λ none. ⊎_elim (λ found. inl found) (λ rest. inr (nowhere none rest)) (some_of h os)) (class_of h x)
+  allowed_action_or_none : (h : List Act) (os : List OpId) → ((a : Act) × (is_allowed_next h a.class a.op ≡ true)) ⊎ ((y : OpId) → Contains os y → (d : Class) → is_allowed_next h d y ≡ false)
+  allowed_action_or_none h [] = inr (λ y c d. absurd (omega (arith, c.1)))
+  allowed_action_or_none h (x ∷ os) =
+      ⊎_elim (λ found. inl (record { class = found.0; op = x }, found.1)) (λ none. ⊎_elim (λ found. inl found) (λ rest. inr (nowhere none rest)) (allowed_action_or_none h os)) (allowed_class_or_none h x)
     where
-      nowhere : ((c : Class) → may h c x ≡ false) → ((y : OpId) → Contains os y → (d : Class) → may h d y ≡ false) → (y : OpId) → Contains (x ∷ os) y → (d : Class) → may h d y ≡ false
-      nowhere none rest y (zero, b, e) d = subst (λ (z : OpId). may h d z ≡ false) e (none d)
+      nowhere : ((c : Class) → is_allowed_next h c x ≡ false) → ((y : OpId) → Contains os y → (d : Class) → is_allowed_next h d y ≡ false) → (y : OpId) → Contains (x ∷ os) y → (d : Class) → is_allowed_next h d y ≡ false
+      nowhere none rest y (zero, b, e) d = subst (λ (z : OpId). is_allowed_next h d z ≡ false) e (none d)
       nowhere none rest y (suc k, b, e) d = rest y (k, omega (arith, b), e) d
 
-  none_at_all : (h : List Act) → ((y : OpId) → Contains (operations plans) y → (d : Class) → may h d y ≡ false) → (a : Act) → may h a.class a.op ≡ false
-  none_at_all h none a =
-      ⊎_elim (λ p. absurd (both_ways _ (none a.op (allowed_listed plans eager h a.class a.op p) a.class) p)) (λ p. p) (cases_Bool (may h a.class a.op))
+  no_action_if_no_operation_has_one : (h : List Act) → ((y : OpId) → Contains (operations plans) y → (d : Class) → is_allowed_next h d y ≡ false) → (a : Act) → is_allowed_next h a.class a.op ≡ false
+  no_action_if_no_operation_has_one h none a =
+      ⊎_elim (λ p. absurd (both_ways _ (none a.op (allowed_listed plans eager h a.class a.op p) a.class) p)) (λ p. p) (cases_Bool (is_allowed_next h a.class a.op))
 
   -- with at most n actions left
-  go_on : (n : ℕ) (h : List Act) → left plans h < n → IsInterleaving plans eager h → (more : List Act) × IsCompleteInterleaving plans eager (more ++ h)
-  go_on zero h few run = absurd (omega (arith, few))
-  go_on (suc n) h few run =
-      ⊎_elim (λ found. let fewer = left_falls plans eager found.0 h found.1 in with found.0 (go_on n (found.0 ∷ h) (omega (arith, few, fewer)) (run, found.1))) (λ none. ([], record { each = run; none_left = none_at_all h none })) (some_of h (operations plans))
+  completes_within_actions_left : (n : ℕ) (h : List Act) → left plans h < n → IsInterleaving plans eager h → (more : List Act) × IsCompleteInterleaving plans eager (more ++ h)
+  completes_within_actions_left zero h few run = absurd (omega (arith, few))
+  completes_within_actions_left (suc n) h few run =
+      ⊎_elim (λ found. let fewer = left_falls plans eager found.0 h found.1 in with found.0 (completes_within_actions_left n (found.0 ∷ h) (omega (arith, few, fewer)) (run, found.1))) (λ none. ([], record { each = run; none_left = no_action_if_no_operation_has_one h none })) (allowed_action_or_none h (operations plans))
     where
       with : (a : Act) → ((more : List Act) × IsCompleteInterleaving plans eager (more ++ (a ∷ h))) → (more : List Act) × IsCompleteInterleaving plans eager (more ++ h)
       with a rest =
           (rest.0 ++ (a ∷ []), subst (λ (l : List Act). IsCompleteInterleaving plans eager l) (sym (append_assoc rest.0 (a ∷ []) h)) rest.1)
 
-  pub goes_on : (h : List Act) → IsInterleaving plans eager h → (more : List Act) × IsCompleteInterleaving plans eager (more ++ h)
-  goes_on h run = go_on (suc (left plans h)) h (omega arith) run
+  pub interleaving_can_be_completed : (h : List Act) → IsInterleaving plans eager h → (more : List Act) × IsCompleteInterleaving plans eager (more ++ h)
+  interleaving_can_be_completed h run = completes_within_actions_left (suc (left plans h)) h (omega arith) run
 
   pub some_complete : (h : List Act) × IsCompleteInterleaving plans eager h
-  some_complete = some (goes_on [] tt)
+  some_complete = some (interleaving_can_be_completed [] tt)
     where
       some : ((more : List Act) × IsCompleteInterleaving plans eager (more ++ [])) → (h : List Act) × IsCompleteInterleaving plans eager h
       some rest = (rest.0 ++ [], rest.1)

@@ -1,5 +1,5 @@
 -- Where no operation adds, and each slot has at most one contribution at the start, each value has at most one after all actions; so
--- what is held is at most what was at the start, and one contribution for each slot that a move names.
+-- at most the contributions of the start are held, plus one for each slot that a move names.
 use Rattle.std.proofs.Common.{⊎_elim, ℕ, ◌+◌, ◌≤◌, ◌≡◌, ◌==◌, ◌&&◌, ◌⊎◌, inl, inr, Bool, true, false, List, [], ◌∷◌, map, flat_map, length, All, slice_index_or, Option, Some, None, if◌then◌else◌, refl, sym, ap, ◌∙◌, subst, arith, ◌++◌}
 use Rattle.std.specs.List.{sum_by}
 use Rattle.std.proofs.lemmas.Bool.{cases_eq}
@@ -21,10 +21,10 @@ use Rattle.goal_blocks.specs.Values.{Value, Store, Held, payload_from, set_slot,
 use Rattle.goal_blocks.specs.Weight.{stored, is_under_way, carried, weight}
 use Rattle.goal_blocks.specs.HeldFew.{AddsNothing, IsSingle, HoldsSingles, held_and_read, moved_slots}
 use Rattle.goal_blocks.proofs.Orders.{Mem}
-use Rattle.goal_blocks.proofs.Effects.{cases_mem, contains_mem, write_keeps}
+use Rattle.goal_blocks.proofs.Effects.{cases_mem, contains_mem, write_keeps_other_slots}
 use Rattle.goal_blocks.proofs.Blueprint.{mem_map}
 use Rattle.goal_blocks.proofs.Totals.{sum_by_le}
-use Rattle.goal_blocks.proofs.MovedSlots.{Place, total_places, sum_both, moves_of_all}
+use Rattle.goal_blocks.proofs.MovedSlots.{Place, total_places, sum_of_pointwise_sums, moves_of_all}
 
 abbrev AreSingle : Store → Type 0
 AreSingle s = (r k : ℕ) → IsSingle (s r k)
@@ -47,7 +47,7 @@ write_single rank (k ∷ ks) (v ∷ vs) s few all =
 map_single : (f : ℕ → Value) (ks : List ℕ) → ((k : ℕ) → IsSingle (f k)) → All IsSingle (map f ks)
 map_single f ks each = All-map IsSingle f ks (λ k d l. each (slice_index_or ks k d))
 
--- values of at most one contribution have no more than there are of them
+-- values of at most one contribution each have together at most as many contributions as values
 singles_few : (vs : List Value) → All IsSingle vs → sum_by (λ (v : Value). length v) vs ≤ length vs
 singles_few [] all = omega arith
 singles_few (v ∷ vs) all =
@@ -73,9 +73,9 @@ module _ (plans : List Plan) (first : Store) (eager : OpId → Bool) (nothing : 
       go (Some (Recv room from tag)) = omega arith
       go (Some (Calc nanos)) = rw (nothing m) (omega arith)
 
-  at_first : Fate (held_after plans eager first [])
+  fate_at_start : Fate (held_after plans eager first [])
   unfolding held_after
-  at_first = record {
+  fate_at_start = record {
     singles = record { slots = single; payloads = λ m. All-nil IsSingle };
     origin = λ r k. inl refl;
     lengths = λ m. let few = written_few m in omega (arith, few);
@@ -110,7 +110,7 @@ module _ (plans : List Plan) (first : Store) (eager : OpId → Bool) (nothing : 
     where
       kept : (r k : ℕ) → (r ≡ x.rank → Mem k (slots plans x) → ⊥) → (write x.rank (slots plans x) vs s.store r k ≡ first r k) ⊎ ((y : OpId) × (y.rank ≡ r) × Mem k (written plans y))
       kept r k apart =
-          let same = write_keeps x.rank (slots plans x) vs s.store r k apart in
+          let same = write_keeps_other_slots x.rank (slots plans x) vs s.store r k apart in
           ⊎_elim (λ e. inl (same ∙ e)) (λ w. inr w) (f.origin r k)
 
   payload_single : (s : Held) (o : Option OpId) → Fate s → All IsSingle (payload_from s o)
@@ -153,7 +153,7 @@ module _ (plans : List Plan) (first : Store) (eager : OpId → Bool) (nothing : 
 
   fate : (h : List Act) → Fate (held_after plans eager first h)
   unfolding held_after
-  fate [] = at_first
+  fate [] = fate_at_start
   fate (a ∷ h) = step_fate (partner (pairs plans h) a.op) a.class a.op (held_after plans eager first h) (fate h)
 
 module _ (plans : List Plan) (first : Store) (eager : OpId → Bool) (nothing : AddsNothing plans) (single : (r k : ℕ) → IsSingle (first r k)) where
@@ -164,10 +164,10 @@ module _ (plans : List Plan) (first : Store) (eager : OpId → Bool) (nothing : 
   abbrev places_of : OpId → List Place
   places_of x = map (λ (k : ℕ). place_of x k) (written plans x)
 
-  -- what writes a slot is an operation
-  listed : (x : OpId) (k : ℕ) → Mem k (written plans x) → Mem x (operations plans)
+  -- whatever writes a slot is a listed operation
+  writer_is_listed : (x : OpId) (k : ℕ) → Mem k (written plans x) → Mem x (operations plans)
   unfolding written
-  listed x k m = go (kind_at plans x) refl m
+  writer_is_listed x k m = go (kind_at plans x) refl m
     where
       go : (o : Option Kind) → kind_at plans x ≡ o → Mem k (written_in o (slots plans x) (adds plans x)) → Mem x (operations plans)
       go None e n = absurd n
@@ -200,7 +200,7 @@ module _ (plans : List Plan) (first : Store) (eager : OpId → Bool) (nothing : 
 
   module _ (s : Held) (f : Fate plans first eager nothing single s) where
     slots_few : (r k : ℕ) → (length (s.store r k) ≤ length (first r k)) ⊎ ((length (s.store r k) ≤ length (first r k) + 1) × Mem (record { rank = r; slot = k }) (flat_map places_of (operations plans)))
-    slots_few r k = ⊎_elim (λ e. let same = ap length e in inl (omega (arith, same))) (λ w. let one = f.singles.slots r k in inr (omega (arith, one), subst (λ (q : ℕ). Mem (record { rank = q; slot = k }) (flat_map places_of (operations plans))) w.1 (written_place (operations plans) w.0 k (listed w.0 k w.2) w.2))) (f.origin r k)
+    slots_few r k = ⊎_elim (λ e. let same = ap length e in inl (omega (arith, same))) (λ w. let one = f.singles.slots r k in inr (omega (arith, one), subst (λ (q : ℕ). Mem (record { rank = q; slot = k }) (flat_map places_of (operations plans))) w.1 (written_place (operations plans) w.0 k (writer_is_listed w.0 k w.2) w.2))) (f.origin r k)
 
     stored_few : stored (length plans) s.store ≤ stored (length plans) first + sum_by (λ x. length (written plans x)) (operations plans)
     unfolding stored
@@ -211,7 +211,7 @@ module _ (plans : List Plan) (first : Store) (eager : OpId → Bool) (nothing : 
 
     read_few : sum_by (λ m. sum_by (λ (v : Value). length v) (s.payload m)) (operations plans) + sum_by (λ x. length (written plans x)) (operations plans) ≤ sum_by (λ x. length (slots plans x)) (operations plans)
     read_few =
-        let both = sum_both (λ m. sum_by (λ (v : Value). length v) (s.payload m)) (λ x. length (written plans x)) (operations plans) in
+        let both = sum_of_pointwise_sums (λ m. sum_by (λ (v : Value). length v) (s.payload m)) (λ x. length (written plans x)) (operations plans) in
         let le = sum_by_le (λ m. sum_by (λ (v : Value). length v) (s.payload m) + length (written plans m)) (λ x. length (slots plans x)) (operations plans) (λ k d l. each (slice_index_or (operations plans) k d)) in
         omega (arith, both, le)
       where

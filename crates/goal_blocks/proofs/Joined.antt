@@ -1,4 +1,4 @@
--- What is held from two starts joined is what is held from the one and from the other, joined.
+-- Starting from two joined stores, a schedule holds the join of what it holds from each store alone.
 use Rattle.std.proofs.Common.{ℕ, ◌≡◌, ◌==◌, ◌&&◌, Bool, true, false, List, [], ◌∷◌, length, map, Option, Some, None, if◌then◌else◌, refl, sym, ap, ◌∙◌, subst, arith}
 use Rattle.std.proofs.lemmas.List.{length-map}
 use Rattle.goal_graph.specs.declared.action.OpId.{OpId}
@@ -14,30 +14,30 @@ use Rattle.goal_blocks.specs.Values.{Contribution, Value, Store, Held, insert_on
 use Rattle.goal_blocks.specs.Joined.{joined}
 use Rattle.goal_blocks.proofs.Gathered.{insert_swap, merge_insert}
 
--- the order in which values are put together does not matter
-merge_other : (c : Contribution) (v w : Value) → merge v (insert_one c w) ≡ insert_one c (merge v w)
+-- merging values is associative, and operands may be swapped
+merge_with_inserted_right : (c : Contribution) (v w : Value) → merge v (insert_one c w) ≡ insert_one c (merge v w)
 unfolding merge
-merge_other c [] w = refl
-merge_other c (d ∷ v) w = ap (insert_one d) (merge_other c v w) ∙ insert_swap d c (merge v w)
+merge_with_inserted_right c [] w = refl
+merge_with_inserted_right c (d ∷ v) w = ap (insert_one d) (merge_with_inserted_right c v w) ∙ insert_swap d c (merge v w)
 
-merge_three : (u v w : Value) → merge (merge u v) w ≡ merge u (merge v w)
+merge_is_associative : (u v w : Value) → merge (merge u v) w ≡ merge u (merge v w)
 unfolding merge
-merge_three [] v w = refl
-merge_three (c ∷ u) v w = merge_insert c (merge u v) w ∙ ap (insert_one c) (merge_three u v w)
+merge_is_associative [] v w = refl
+merge_is_associative (c ∷ u) v w = merge_insert c (merge u v) w ∙ ap (insert_one c) (merge_is_associative u v w)
 
 merge_swap : (u v w : Value) → merge u (merge v w) ≡ merge v (merge u w)
 unfolding merge
 merge_swap [] v w = refl
-merge_swap (c ∷ u) v w = ap (insert_one c) (merge_swap u v w) ∙ sym (merge_other c v (merge u w))
+merge_swap (c ∷ u) v w = ap (insert_one c) (merge_swap u v w) ∙ sym (merge_with_inserted_right c v (merge u w))
 
-merge_four : (a b c d : Value) → merge (merge a b) (merge c d) ≡ merge (merge a c) (merge b d)
-merge_four a b c d =
-    merge_three a b (merge c d) ∙ (ap (merge a) (merge_swap b c d) ∙ sym (merge_three a c (merge b d)))
+merge_middle_operands_swap : (a b c d : Value) → merge (merge a b) (merge c d) ≡ merge (merge a c) (merge b d)
+merge_middle_operands_swap a b c d =
+    merge_is_associative a b (merge c d) ∙ (ap (merge a) (merge_swap b c d) ∙ sym (merge_is_associative a c (merge b d)))
 
-merge_all : List Value → List Value → List Value
-merge_all [] ws = []
-merge_all (v ∷ vs) [] = []
-merge_all (v ∷ vs) (w ∷ ws) = merge v w ∷ merge_all vs ws
+merge_pairwise : List Value → List Value → List Value
+merge_pairwise [] ws = []
+merge_pairwise (v ∷ vs) [] = []
+merge_pairwise (v ∷ vs) (w ∷ ws) = merge v w ∷ merge_pairwise vs ws
 
 -- stores
 abbrev IsJoin : Store → Store → Store → Type 0
@@ -51,8 +51,8 @@ set_joined rank slot u v w both first more e is r k = go ((r == rank) && (k == s
     go true = e
     go false = is r k
 
-write_joined : (rank : ℕ) (ks : List ℕ) (vs ws : List Value) (both first more : Store) → length vs ≡ length ws → IsJoin both first more → IsJoin (write rank ks (merge_all vs ws) both) (write rank ks vs first) (write rank ks ws more)
-unfolding write merge_all
+write_joined : (rank : ℕ) (ks : List ℕ) (vs ws : List Value) (both first more : Store) → length vs ≡ length ws → IsJoin both first more → IsJoin (write rank ks (merge_pairwise vs ws) both) (write rank ks vs first) (write rank ks ws more)
+unfolding write merge_pairwise
 write_joined rank [] vs ws both first more e is = is
 write_joined rank (k ∷ ks) [] [] both first more e is = is
 write_joined rank (k ∷ ks) [] (w ∷ ws) both first more e is = absurd (omega (arith, e))
@@ -68,10 +68,10 @@ add_joined rank (a ∷ rest) both first more is =
   where
     sum : merge (both rank a.to) (both rank a.from) ≡ merge (merge (first rank a.to) (first rank a.from)) (merge (more rank a.to) (more rank a.from))
     sum =
-        (λ i. merge (is rank a.to i) (is rank a.from i)) ∙ merge_four (first rank a.to) (more rank a.to) (first rank a.from) (more rank a.from)
+        (λ i. merge (is rank a.to i) (is rank a.from i)) ∙ merge_middle_operands_swap (first rank a.to) (more rank a.to) (first rank a.from) (more rank a.from)
 
-reads_joined : (rank : ℕ) (ks : List ℕ) (both first more : Store) → IsJoin both first more → map (both rank) ks ≡ merge_all (map (first rank) ks) (map (more rank) ks)
-unfolding merge_all
+reads_joined : (rank : ℕ) (ks : List ℕ) (both first more : Store) → IsJoin both first more → map (both rank) ks ≡ merge_pairwise (map (first rank) ks) (map (more rank) ks)
+unfolding merge_pairwise
 reads_joined rank [] both first more is = refl
 reads_joined rank (k ∷ ks) both first more is =
     λ i. is rank k i ∷ reads_joined rank ks both first more is i
@@ -79,7 +79,7 @@ reads_joined rank (k ∷ ks) both first more is =
 -- what is held
 record IsHeldBoth (both first more : Held) : Type 0 where
   stores : IsJoin both.store first.store more.store
-  payloads : (m : OpId) → both.payload m ≡ merge_all (first.payload m) (more.payload m)
+  payloads : (m : OpId) → both.payload m ≡ merge_pairwise (first.payload m) (more.payload m)
   lengths : (m : OpId) → length (first.payload m) ≡ length (more.payload m)
 
 module _ (plans : List Plan) where
@@ -91,7 +91,7 @@ module _ (plans : List Plan) where
     lengths = λ n. size n (same_op n m);
   }
     where
-      payload : (n : OpId) (b : Bool) → (if b then map (both.store m.rank) (slots plans m) else both.payload n) ≡ merge_all (if b then map (first.store m.rank) (slots plans m) else first.payload n) (if b then map (more.store m.rank) (slots plans m) else more.payload n)
+      payload : (n : OpId) (b : Bool) → (if b then map (both.store m.rank) (slots plans m) else both.payload n) ≡ merge_pairwise (if b then map (first.store m.rank) (slots plans m) else first.payload n) (if b then map (more.store m.rank) (slots plans m) else more.payload n)
       payload n true =
           reads_joined m.rank (slots plans m) both.store first.store more.store is.stores
       payload n false = is.payloads n
@@ -102,7 +102,7 @@ module _ (plans : List Plan) where
       size n false = is.lengths n
 
   taken_joined : (rank : ℕ) (ks : List ℕ) (o : Option OpId) (both first more : Held) → IsHeldBoth both first more → IsJoin (write rank ks (payload_from both o) both.store) (write rank ks (payload_from first o) first.store) (write rank ks (payload_from more o) more.store)
-  unfolding merge_all
+  unfolding merge_pairwise
   taken_joined rank ks None both first more is =
       write_joined rank ks [] [] both.store first.store more.store refl is.stores
   taken_joined rank ks (Some m) both first more is =
@@ -138,7 +138,7 @@ module _ (plans : List Plan) where
   change_joined eager with Post x kind both first more is = is
 
   held_joined : (eager : OpId → Bool) (first more : Store) (h : List Act) → IsHeldBoth (held_after plans eager (joined first more) h) (held_after plans eager first h) (held_after plans eager more h)
-  unfolding held_after merge_all
+  unfolding held_after merge_pairwise
   held_joined eager first more [] = record { stores = λ r k. refl; payloads = λ m. refl; lengths = λ m. refl }
   held_joined eager first more (a ∷ h) =
       change_joined eager (partner (pairs plans h) a.op) a.class a.op (kind_at plans a.op) (held_after plans eager (joined first more) h) (held_after plans eager first h) (held_after plans eager more h) (held_joined eager first more h)

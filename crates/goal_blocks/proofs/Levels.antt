@@ -65,9 +65,9 @@ module _ (plans : List Plan) (level : OpId → ℕ) (eager : OpId → Bool) (h :
       ⊎_elim (λ e. e) (λ e. absurd (⊎_elim (λ f. both_ways _ f (ready_send_starts m one.is_send r)) free_send (fitting_taken plans eager h done x m s e (inl fit)))) (cases_Bool (has_ended plans eager x h)),
     )
 
-  -- each operation of a level ends, where all those of lower levels do
-  ends_at : (n : ℕ) → AllBelow n → (x : OpId) → IsOp plans x → level x ≡ n → has_ended plans eager x h ≡ true
-  ends_at n all x is_op e = go (op_has_kind plans x is_op).0 (op_has_kind plans x is_op).1
+  -- if all operations of lower levels have ended, then each operation of this level has ended
+  operations_of_level_end : (n : ℕ) → AllBelow n → (x : OpId) → IsOp plans x → level x ≡ n → has_ended plans eager x h ≡ true
+  operations_of_level_end n all x is_op e = go (op_has_kind plans x is_op).0 (op_has_kind plans x is_op).1
     where
       low : (y : OpId) → level y ≡ n → AllBelow (level y)
       low y f z z_op l = all z z_op (subst (λ (k : ℕ). level z < k) f l)
@@ -84,4 +84,4 @@ module _ (plans : List Plan) (level : OpId → ℕ) (eager : OpId → Bool) (h :
 
   pub levels_end : AllEnd plans eager h
   levels_end x is_op =
-      strong_induction (λ n. (y : OpId) → IsOp plans y → level y ≡ n → has_ended plans eager y h ≡ true) (λ n before. ends_at n (λ z z_op l. before (level z) l z z_op refl)) (level x) x is_op refl
+      strong_induction (λ n. (y : OpId) → IsOp plans y → level y ≡ n → has_ended plans eager y h ≡ true) (λ n before. operations_of_level_end n (λ z z_op l. before (level z) l z z_op refl)) (level x) x is_op refl

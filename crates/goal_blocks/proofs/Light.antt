@@ -1,4 +1,4 @@
--- Where each value and each payload has a bound, and the bounds are together not too much, what is held is never too much.
+-- If each value and payload is bounded, and the bounds sum to at most the limit, the weight never exceeds it.
 use Rattle.std.proofs.Common.{⊎_elim, ℕ, zero, suc, ◌+◌, ◌≤◌, ◌^◌, ◌≡◌, ◌⊎◌, inl, inr, Bool, true, false, List, [], ◌∷◌, map, length, take, slice_index_or, Option, Some, None, if◌then◌else◌, refl, sym, ap, ◌∙◌, subst, arith}
 use Rattle.std.specs.List.{sum_by}
 use Rattle.std.proofs.lemmas.Bool.{both_ways}
@@ -32,20 +32,20 @@ unfolding stored
 stored_le ranks s cap each =
     sum_below_le (λ r. sum_below (2 ^ 32) (λ k. length (s r k))) (λ r. sum_below (2 ^ 32) (cap r)) ranks (λ r l. sum_below_le (λ k. length (s r k)) (cap r) (2 ^ 32) (λ k m. each r k))
 
--- of a list of at most one, the first few are none or all
-take_few : {A : Type 0} (n : ℕ) (xs : List A) → length xs ≤ 1 → (take n xs ≡ []) ⊎ (take n xs ≡ xs)
-take_few n [] few = inl (go n)
+-- a prefix of a list of at most one element is empty or the whole list
+take_of_at_most_one : {A : Type 0} (n : ℕ) (xs : List A) → length xs ≤ 1 → (take n xs ≡ []) ⊎ (take n xs ≡ xs)
+take_of_at_most_one n [] few = inl (go n)
   where
     go : {A : Type 0} (n : ℕ) → take {A = A} n [] ≡ []
     go zero = refl
     go (suc n) = refl
-take_few zero (x ∷ xs) few = inl refl
-take_few (suc n) (x ∷ []) few = inr (ap (λ (ys : List _). x ∷ ys) (go n))
+take_of_at_most_one zero (x ∷ xs) few = inl refl
+take_of_at_most_one (suc n) (x ∷ []) few = inr (ap (λ (ys : List _). x ∷ ys) (go n))
   where
     go : {A : Type 0} (n : ℕ) → take {A = A} n [] ≡ []
     go zero = refl
     go (suc n) = refl
-take_few (suc n) (x ∷ y ∷ xs) few = absurd (omega (arith, few))
+take_of_at_most_one (suc n) (x ∷ y ∷ xs) few = absurd (omega (arith, few))
 
 -- bounds of values and payloads
 pub record AreBounds (plans : List Plan) (first : Store) (finds leaves : OpId → ℕ → Value) (cap : ℕ → ℕ → ℕ) (load : OpId → ℕ) : Type 0 where
@@ -63,16 +63,16 @@ module _ (plans : List Plan) (matched : IsMatched plans) (first : Store) (finds 
   flows_of h i =
       all_flows plans matched first finds leaves flow (ends plans no_send h) (ends_keep plans matched no_send h i) (ends_once plans no_send h i)
 
-  held_is : (h : List Act) → IsInterleaving plans no_send h → state plans matched first (ends plans no_send h) ≡ held h
-  held_is h i = sym (held_by_ends plans matched no_send first h i)
+  state_is_held : (h : List Act) → IsInterleaving plans no_send h → state plans matched first (ends plans no_send h) ≡ held h
+  state_is_held h i = sym (held_by_ends plans matched no_send first h i)
 
   value_few : (h : List Act) → IsInterleaving plans no_send h → (r k : ℕ) → length ((held h).store r k) ≤ cap r k
   value_few h i r k =
-      subst (λ (s : Held). length (s.store r k) ≤ cap r k) (held_is h i) (⊎_elim (λ e. subst (λ (v : Value). length v ≤ cap r k) (sym e) (bounds.first_cap r k)) (λ was. subst (λ (v : Value). length v ≤ cap r k) (sym was.3) (subst (λ (q : ℕ). length (leaves was.0 k) ≤ cap q k) was.2.0 (bounds.leaves_cap was.0 k was.2.1))) ((flows_of h i).some_value r k))
+      subst (λ (s : Held). length (s.store r k) ≤ cap r k) (state_is_held h i) (⊎_elim (λ e. subst (λ (v : Value). length v ≤ cap r k) (sym e) (bounds.first_cap r k)) (λ was. subst (λ (v : Value). length v ≤ cap r k) (sym was.3) (subst (λ (q : ℕ). length (leaves was.0 k) ≤ cap q k) was.2.0 (bounds.leaves_cap was.0 k was.2.1))) ((flows_of h i).some_value r k))
 
   payload_few : (h : List Act) → IsInterleaving plans no_send h → (m : OpId) → sum_by (λ (v : Value). length v) ((held h).payload m) ≤ load m
   payload_few h i m =
-      subst (λ (s : Held). sum_by (λ (v : Value). length v) (s.payload m) ≤ load m) (held_is h i) (⊎_elim (λ e. subst (λ (vs : List Value). sum_by (λ (v : Value). length v) vs ≤ load m) (sym e) (omega arith)) (λ is. subst (λ (vs : List Value). sum_by (λ (v : Value). length v) vs ≤ load m) (sym ((flows_of h i).payloads m is.0 is.1)) (bounds.finds_load m is.1)) ((flows_of h i).some_payload m))
+      subst (λ (s : Held). sum_by (λ (v : Value). length v) (s.payload m) ≤ load m) (state_is_held h i) (⊎_elim (λ e. subst (λ (vs : List Value). sum_by (λ (v : Value). length v) vs ≤ load m) (sym e) (omega arith)) (λ is. subst (λ (vs : List Value). sum_by (λ (v : Value). length v) vs ≤ load m) (sym ((flows_of h i).payloads m is.0 is.1)) (bounds.finds_load m is.1)) ((flows_of h i).some_payload m))
 
   carried_few : (g h : List Act) → IsInterleaving plans no_send h → carried plans g (held h) ≤ sum_by load (operations plans)
   unfolding carried
@@ -90,10 +90,10 @@ module _ (plans : List Plan) (matched : IsMatched plans) (first : Store) (finds 
       let t = bounds.total in
       omega (arith, a, b, t)
 
-  -- the action of a calc adds what its notes say
-  added_now : (a : Act) (h : List Act) → IsInterleaving plans no_send (a ∷ h) → (nanos : ℕ) → kind_at plans a.op ≡ Some (Calc nanos) → (held (a ∷ h)).store ≡ add_all a.op.rank (adds plans a.op) (held h).store
+  -- the action of a calc does the additions of its notes
+  calc_action_adds_its_notes : (a : Act) (h : List Act) → IsInterleaving plans no_send (a ∷ h) → (nanos : ℕ) → kind_at plans a.op ≡ Some (Calc nanos) → (held (a ∷ h)).store ≡ add_all a.op.rank (adds plans a.op) (held h).store
   unfolding held_after
-  added_now a h i nanos e =
+  calc_action_adds_its_notes a h i nanos e =
       ap (λ (k : Option Kind). (change plans no_send (partner (pairs plans h) a.op) a.class a.op k (held h)).store) e ∙ go a.class (subst (λ (k : Option Kind). may plans no_send h a.class a.op k ≡ true) e (allowed_may plans no_send h a.class a.op i.1))
     where
       go : (c : Class) → may plans no_send h c a.op (Some (Calc nanos)) ≡ true → (change plans no_send (partner (pairs plans h) a.op) c a.op (Some (Calc nanos)) (held h)).store ≡ add_all a.op.rank (adds plans a.op) (held h).store
@@ -108,12 +108,12 @@ module _ (plans : List Plan) (matched : IsMatched plans) (first : Store) (finds 
   added_few a h i None e = tt
   added_few a h i (Some (Send bytes to tag)) e = tt
   added_few a h i (Some (Recv room from tag)) e = tt
-  added_few a h i (Some (Calc nanos)) e = λ n. each n (take_few n (adds plans a.op) (bounds.one_adding a.op (record { nanos = nanos; kind = e })))
+  added_few a h i (Some (Calc nanos)) e = λ n. each n (take_of_at_most_one n (adds plans a.op) (bounds.one_adding a.op (record { nanos = nanos; kind = e })))
     where
       whole : stored (length plans) (add_all a.op.rank (adds plans a.op) (held h).store) + carried plans h (held h) ≤ weight_limit
       whole =
           let s = stored_le (length plans) (held (a ∷ h)).store cap (value_few (a ∷ h) i) in
-          let now = subst (λ (t : Store). stored (length plans) t ≤ sum_below (length plans) (λ r. sum_below (2 ^ 32) (cap r))) (added_now a h i nanos e) s in
+          let now = subst (λ (t : Store). stored (length plans) t ≤ sum_below (length plans) (λ r. sum_below (2 ^ 32) (cap r))) (calc_action_adds_its_notes a h i nanos e) s in
           let b = carried_few h h i.0 in
           let t = bounds.total in
           omega (arith, now, b, t)

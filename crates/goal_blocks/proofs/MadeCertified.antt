@@ -42,7 +42,7 @@ pub made_right : (what : Collective) (ranks bytes : ℕ) → IsPossible what ran
 made_right what ranks bytes p small proved =
     certified_right (made what ranks bytes) (initial what (length (made what ranks bytes))) (wanted what (length (made what ranks bytes))) (made_certified what ranks bytes p small proved)
 
--- only those of few ranks are, of the two that hold more and more
+-- a barrier or an allreduce is certified only if it has few ranks: with each round it holds more
 pub certified_only_by_proof : (what : Collective) (ranks bytes : ℕ) → IsPossible what ranks → IsCertifiedFor what (made what ranks bytes) → IsCertifiedByProof what ranks
 certified_only_by_proof Barrier ranks bytes p c =
     let few = p.few_ranks in
@@ -58,7 +58,7 @@ certified_only_by_proof (Scatter root) ranks bytes p c = tt
 certified_only_by_proof ReduceScatter ranks bytes p c = tt
 certified_only_by_proof Scan ranks bytes p c = tt
 
--- all are right everywhere, whatever they weigh
+-- all generated schedules are right everywhere, whatever their weight
 pub made_right_at_any_weight : (what : Collective) (ranks bytes : ℕ) → IsPossible what ranks → bytes ≤ MAX_BYTES → IsRightFor what (made what ranks bytes)
 made_right_at_any_weight Barrier ranks bytes p small = let few = p.few_ranks in barrier_right ranks bytes p.some_rank (omega (arith, few))
 made_right_at_any_weight Allreduce ranks bytes p small =

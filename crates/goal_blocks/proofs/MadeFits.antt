@@ -14,13 +14,13 @@ use Rattle.goal_blocks.specs.Made.{bcast_in, bcast_count, before_round, round_in
 use Rattle.goal_blocks.specs.MadeRooted.{part_in, reduce_scatter_in, scan_in, scan_count}
 use Rattle.std.specs.Int.{IsPowerOfTwo}
 use Rattle.goal_limits.specs.Limits.{rank_limit}
-use Rattle.goal_blocks.proofs.RingAndTree.{ahead_below, back_below, flipped_below, digits_low, digits_few, digits_some, upward_some, upward_few}
+use Rattle.goal_blocks.proofs.RingAndTree.{ahead_below, back_below, flipped_below, power_below_digits_at_most, digits_few, digits_some, upward_some, upward_few}
 use Rattle.goal_blocks.proofs.Totals.{sum_range_few}
 use Rattle.goal_blocks.proofs.Slim.{IsSlim, All_one, All_two, slot_in_order, sending_slim, receiving_slim, summing_slim, slim_fitting}
 
--- where each of at most `most` ranks has at most c operations, they have at most most * c
-even_total : (ranks most c : ℕ) (count : ℕ → ℕ) → ranks ≤ most → ((r : ℕ) → r < ranks → count r ≤ c) → sum_by count (range_with_len 0 ranks) ≤ most * c
-even_total ranks most c count few h = le_trans (sum_range_few count ranks c h) (mul-le-mul_right c few)
+-- at most `most` ranks with at most c operations each have at most most * c operations
+total_of_bounded_counts : (ranks most c : ℕ) (count : ℕ → ℕ) → ranks ≤ most → ((r : ℕ) → r < ranks → count r ≤ c) → sum_by count (range_with_len 0 ranks) ≤ most * c
+total_of_bounded_counts ranks most c count few h = le_trans (sum_range_few count ranks c h) (mul-le-mul_right c few)
 
 -- rounds and steps of three
 
@@ -82,9 +82,9 @@ module _ (ranks bytes : ℕ) (small : bytes ≤ MAX_BYTES) where
       let rounds_few = digits_few (ranks - 1) 14 (omega arith) (omega arith) in
       slim_fitting ranks (λ r. 3 * digits (ranks - 1)) (λ r i. barrier_in ranks bytes r i) 2 1 (16384 * 42) some (omega arith)
       (λ r i in_rank inside.
-      let low = digits_low (ranks - 1) (i / 3) (omega arith) (omega arith) in
+      let low = power_below_digits_at_most (ranks - 1) (i / 3) (omega arith) (omega arith) in
       round_slim (ahead ranks r (2 ^ (i / 3))) (back ranks r (2 ^ (i / 3))) (i / 3) (i % 3) i (ahead_below ranks r (2 ^ (i / 3)) in_rank (omega arith)) (back_below ranks r (2 ^ (i / 3)) in_rank) (omega arith))
-      (even_total ranks 16384 42 (λ r. 3 * digits (ranks - 1)) few (λ r in_rank. omega arith)) (omega arith) (omega arith) (omega arith)
+      (total_of_bounded_counts ranks 16384 42 (λ r. 3 * digits (ranks - 1)) few (λ r in_rank. omega arith)) (omega arith) (omega arith) (omega arith)
 
   -- the allreduce
   pub allreduce_fits : ranks ≤ 16384 → IsPowerOfTwo ranks → AreFitting ranks (λ r. 3 * digits (ranks - 1)) (λ r i. allreduce_in bytes r i)
@@ -98,7 +98,7 @@ module _ (ranks bytes : ℕ) (small : bytes ≤ MAX_BYTES) where
       (λ r i in_rank inside.
       let other = flipped_below p.0 r (i / 3) (omega arith) (omega arith) in
       round_slim (flipped r (i / 3)) (flipped r (i / 3)) (i / 3) (i % 3) i (omega arith) (omega arith) (omega arith))
-      (even_total ranks 16384 42 (λ r. 3 * digits (ranks - 1)) few (λ r in_rank. omega arith)) (omega arith) (omega arith) (omega arith)
+      (total_of_bounded_counts ranks 16384 42 (λ r. 3 * digits (ranks - 1)) few (λ r in_rank. omega arith)) (omega arith) (omega arith) (omega arith)
 
   -- the allgather
   pub allgather_fits : 0 < ranks → ranks ≤ 512 → AreFitting ranks (λ r. 2 * (ranks - 1)) (λ r i. allgather_in ranks bytes r i)
@@ -106,7 +106,7 @@ module _ (ranks bytes : ℕ) (small : bytes ≤ MAX_BYTES) where
   allgather_fits some few =
       slim_fitting ranks (λ r. 2 * (ranks - 1)) (λ r i. allgather_in ranks bytes r i) 1 1 (512 * 1022) some (omega arith)
       (λ r i in_rank inside. ring_slim r (i / 2) (i % 2) i in_rank (omega arith))
-      (even_total ranks 512 1022 (λ r. 2 * (ranks - 1)) few (λ r in_rank. omega arith)) (omega arith) (omega arith) (omega arith)
+      (total_of_bounded_counts ranks 512 1022 (λ r. 2 * (ranks - 1)) few (λ r in_rank. omega arith)) (omega arith) (omega arith) (omega arith)
 
   -- the alltoall
   alltoall_slim : (r i : ℕ) → r < ranks → i < 1 + 2 * (ranks - 1) → IsSlim ranks i 0 1 (alltoall_in ranks bytes r i)
@@ -117,7 +117,7 @@ module _ (ranks bytes : ℕ) (small : bytes ≤ MAX_BYTES) where
   pub alltoall_fits : 0 < ranks → ranks ≤ 512 → AreFitting ranks (λ r. 1 + 2 * (ranks - 1)) (λ r i. alltoall_in ranks bytes r i)
   alltoall_fits some few =
       slim_fitting ranks (λ r. 1 + 2 * (ranks - 1)) (λ r i. alltoall_in ranks bytes r i) 0 1 (512 * 1023) some (omega arith)
-      alltoall_slim (even_total ranks 512 1023 (λ r. 1 + 2 * (ranks - 1)) few (λ r in_rank. omega arith)) (omega arith) (omega arith) (omega arith)
+      alltoall_slim (total_of_bounded_counts ranks 512 1023 (λ r. 1 + 2 * (ranks - 1)) few (λ r in_rank. omega arith)) (omega arith) (omega arith) (omega arith)
 
   -- the reduce_scatter
   pub reduce_scatter_fits : 0 < ranks → ranks ≤ 128 → AreFitting ranks (λ r. 3 * (ranks - 1)) (λ r i. reduce_scatter_in ranks bytes r i)
@@ -125,20 +125,20 @@ module _ (ranks bytes : ℕ) (small : bytes ≤ MAX_BYTES) where
   reduce_scatter_fits some few =
       slim_fitting ranks (λ r. 3 * (ranks - 1)) (λ r i. reduce_scatter_in ranks bytes r i) 2 1 (128 * 381) some (omega arith)
       (λ r i in_rank inside. part_slim r (i / 3) (i % 3) i in_rank (omega arith))
-      (even_total ranks 128 381 (λ r. 3 * (ranks - 1)) few (λ r in_rank. omega arith)) (omega arith) (omega arith) (omega arith)
+      (total_of_bounded_counts ranks 128 381 (λ r. 3 * (ranks - 1)) few (λ r in_rank. omega arith)) (omega arith) (omega arith) (omega arith)
 
   -- the scan
-  last_sends : (n b : ℕ) → b < (if ltb n ranks then 1 else 0) → n < ranks
-  last_sends n b h = grind (arith, nat_tests)
+  send_exists_only_below_ranks : (n b : ℕ) → b < (if ltb n ranks then 1 else 0) → n < ranks
+  send_exists_only_below_ranks n b h = grind (arith, nat_tests)
 
-  at_most_one : (b : Bool) → (if b then 1 else 0) ≤ 1
-  at_most_one true = omega arith
-  at_most_one false = omega arith
+  indicator_at_most_one : (b : Bool) → (if b then 1 else 0) ≤ 1
+  indicator_at_most_one true = omega arith
+  indicator_at_most_one false = omega arith
 
   scan_slim : (r i : ℕ) → r < ranks → i < scan_count ranks r → IsSlim ranks i 1 1 (scan_in bytes r i)
   unfolding scan_in scan_count
   scan_slim zero i in_rank inside =
-      let two = last_sends 1 i (omega arith) in
+      let two = send_exists_only_below_ranks 1 i (omega arith) in
       sending_slim ranks i bytes small 1 1 1 0 [] (slot 0) two (All-nil (λ (n : ℕ). n < i)) (omega arith) (slot_in_order 0) (omega arith)
   scan_slim (suc w) zero in_rank inside =
       receiving_slim ranks 0 bytes small 1 1 w 0 (slot 1) (omega arith) (slot_in_order 1) (omega arith)
@@ -146,34 +146,34 @@ module _ (ranks bytes : ℕ) (small : bytes ≤ MAX_BYTES) where
       summing_slim ranks 1 1 1 (0 ∷ []) 1 0 (All_one (λ (n : ℕ). n < 1) 0 (omega arith)) (omega arith) (omega arith)
   scan_slim (suc w) (suc (suc b)) in_rank inside =
       let one = upward_some (suc w) (omega arith) in
-      let next = last_sends (suc w + 1) b (omega arith) in
+      let next = send_exists_only_below_ranks (suc w + 1) b (omega arith) in
       sending_slim ranks (suc (suc b)) bytes small 1 1 (suc w + 1) 0 (1 ∷ []) (slot 0) next (All_one (λ (n : ℕ). n < suc (suc b)) 1 (omega arith)) (omega arith) (slot_in_order 0) (omega arith)
 
   scan_few : (r : ℕ) → scan_count ranks r ≤ 3
   unfolding scan_count
   scan_few r =
-      let one = at_most_one (ltb (r + 1) ranks) in
+      let one = indicator_at_most_one (ltb (r + 1) ranks) in
       let up = upward_few r in
       omega arith
 
   pub scan_fits : 0 < ranks → ranks ≤ 2048 → AreFitting ranks (λ r. scan_count ranks r) (λ r i. scan_in bytes r i)
   scan_fits some few =
       slim_fitting ranks (λ r. scan_count ranks r) (λ r i. scan_in bytes r i) 1 1 (2048 * 3) some (omega arith)
-      scan_slim (even_total ranks 2048 3 (λ r. scan_count ranks r) few (λ r in_rank. scan_few r)) (omega arith) (omega arith) (omega arith)
+      scan_slim (total_of_bounded_counts ranks 2048 3 (λ r. scan_count ranks r) few (λ r in_rank. scan_few r)) (omega arith) (omega arith) (omega arith)
 
   -- the broadcast
   module _ (root : ℕ) (rooted : root < ranks) (few : ranks ≤ rank_limit) where
     bcast_slim : (v i : ℕ) → v < ranks → i < bcast_count ranks v → IsSlim ranks i 1 1 (bcast_in ranks root bytes v i)
     unfolding bcast_in bcast_count
     bcast_slim zero i in_rank inside =
-        let low = digits_low (ranks - 1) i (omega arith) inside in
+        let low = power_below_digits_at_most (ranks - 1) i (omega arith) inside in
         sending_slim ranks i bytes small 1 1 (ahead ranks (0 + 2 ^ i) root) i [] (slot 0) (ahead_below ranks (0 + 2 ^ i) root (omega arith) (omega arith)) (All-nil (λ (n : ℕ). n < i)) (omega arith) (slot_in_order 0) (omega arith)
     bcast_slim (suc w) zero in_rank inside =
         let j = digits (suc w) - 1 in
         receiving_slim ranks 0 bytes small 1 1 (ahead ranks (suc w - 2 ^ j) root) j (slot 0) (ahead_below ranks (suc w - 2 ^ j) root (omega arith) (omega arith)) (slot_in_order 0) (omega arith)
     bcast_slim (suc w) (suc i) in_rank inside =
         let j = digits (suc w) + i in
-        let low = digits_low (ranks - 1 - suc w) (digits (suc w) + i) (omega arith) (omega arith) in
+        let low = power_below_digits_at_most (ranks - 1 - suc w) (digits (suc w) + i) (omega arith) (omega arith) in
         sending_slim ranks (suc i) bytes small 1 1 (ahead ranks (suc w + 2 ^ j) root) j (0 ∷ []) (slot 0) (ahead_below ranks (suc w + 2 ^ j) root (omega arith) (omega arith)) (All_one (λ (n : ℕ). n < suc i) 0 (omega arith)) (omega arith) (slot_in_order 0) (omega arith)
 
     pub bcast_few : (v : ℕ) → v < ranks → bcast_count ranks v ≤ 16
@@ -188,4 +188,4 @@ module _ (ranks bytes : ℕ) (small : bytes ≤ MAX_BYTES) where
     bcast_fits =
         slim_fitting ranks (λ r. bcast_count ranks (back ranks r root)) (λ r i. bcast_in ranks root bytes (back ranks r root) i) 1 1 (65536 * 16) (omega arith) (omega arith)
         (λ r i in_rank inside. bcast_slim (back ranks r root) i (back_below ranks r root in_rank) inside)
-        (even_total ranks 65536 16 (λ r. bcast_count ranks (back ranks r root)) few (λ r in_rank. bcast_few (back ranks r root) (back_below ranks r root in_rank))) (omega arith) (omega arith) (omega arith)
+        (total_of_bounded_counts ranks 65536 16 (λ r. bcast_count ranks (back ranks r root)) few (λ r in_rank. bcast_few (back ranks r root) (back_below ranks r root in_rank))) (omega arith) (omega arith) (omega arith)

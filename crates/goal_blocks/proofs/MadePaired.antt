@@ -17,8 +17,8 @@ use Rattle.goal_blocks.proofs.RingAndTree.{ahead_below, back_below, upward_some}
 abbrev pub at : ℕ → ℕ → OpId
 at rank op = record { rank = rank; op = op }
 
-pub same_place : (a b c d : ℕ) → a ≡ c → b ≡ d → at a b ≡ at c d
-same_place a b c d p q = ap (λ (n : ℕ). at n b) p ∙ ap (λ (n : ℕ). at c n) q
+pub at_of_equal_numbers : (a b c d : ℕ) → a ≡ c → b ≡ d → at a b ≡ at c d
+at_of_equal_numbers a b c d p q = ap (λ (n : ℕ). at n b) p ∙ ap (λ (n : ℕ). at c n) q
 
 -- the allgather: in each step but the last, each rank sends to the next one
 module _ (ranks bytes : ℕ) where
@@ -50,9 +50,9 @@ module _ (ranks bytes : ℕ) where
 
   ring_cases : (x : OpId) → x.rank < ranks → x.op < 2 * (ranks - 1) → (d : ℕ) → x.op % 2 ≡ d → ((nanos : ℕ) × ((allgather_in ranks bytes x.rank x.op).kind ≡ Calc nanos)) ⊎ (((h : RingHop) × (ring_send h ≡ x)) ⊎ ((h : RingHop) × (ring_recv h ≡ x)))
   ring_cases x in_rank inside zero even =
-      inr (inl (record { from = x.rank; step = x.op / 2; inside = in_rank; few = omega arith }, same_place x.rank (2 * (x.op / 2)) x.rank x.op refl (omega arith)))
+      inr (inl (record { from = x.rank; step = x.op / 2; inside = in_rank; few = omega arith }, at_of_equal_numbers x.rank (2 * (x.op / 2)) x.rank x.op refl (omega arith)))
   ring_cases x in_rank inside (suc d) odd =
-      inr (inr (record { from = back ranks x.rank 1; step = x.op / 2; inside = back_below ranks x.rank 1 in_rank; few = omega arith }, same_place (ahead ranks (back ranks x.rank 1) 1) (2 * (x.op / 2) + 1) x.rank x.op (ahead_back ranks x.rank 1 in_rank (omega arith)) (omega arith)))
+      inr (inr (record { from = back ranks x.rank 1; step = x.op / 2; inside = back_below ranks x.rank 1 in_rank; few = omega arith }, at_of_equal_numbers (ahead ranks (back ranks x.rank 1) 1) (2 * (x.op / 2) + 1) x.rank x.op (ahead_back ranks x.rank 1 in_rank (omega arith)) (omega arith)))
 
   pub ring_messages : AreMessages ranks (λ r. 2 * (ranks - 1)) (λ r i. allgather_in ranks bytes r i) RingHop bytes ring_send ring_recv (λ h. h.step)
   ring_messages = record {
@@ -62,8 +62,8 @@ module _ (ranks bytes : ℕ) where
     received = λ h. let few = h.few in ring_odd (ahead ranks h.from 1) h.step (2 * h.step + 1) refl ∙ ap (λ (r : ℕ). Recv bytes (Some r) (Some h.step)) (back_ahead ranks h.from 1 h.inside (omega arith));
     cases = λ x in_rank inside. ring_cases x in_rank inside (x.op % 2) refl;
     apart = λ h k source target tag. (
-      same_place h.from (2 * h.step) k.from (2 * k.step) source (ap (λ (s : ℕ). 2 * s) tag),
-      same_place (ahead ranks h.from 1) (2 * h.step + 1) (ahead ranks k.from 1) (2 * k.step + 1) target (ap (λ (s : ℕ). 2 * s + 1) tag),
+      at_of_equal_numbers h.from (2 * h.step) k.from (2 * k.step) source (ap (λ (s : ℕ). 2 * s) tag),
+      at_of_equal_numbers (ahead ranks h.from 1) (2 * h.step + 1) (ahead ranks k.from 1) (2 * k.step + 1) target (ap (λ (s : ℕ). 2 * s + 1) tag),
     );
   }
 
@@ -83,13 +83,13 @@ module _ (ranks bytes : ℕ) where
   abbrev pub line_recv : LineHop → OpId
   line_recv h = at (h.from + 1) 0
 
-  sends_one : (n : ℕ) → n < ranks → ◌≡◌ {A = ℕ} (if ltb n ranks then 1 else 0) 1
-  sends_one n h =
+  one_send_below_ranks : (n : ℕ) → n < ranks → ◌≡◌ {A = ℕ} (if ltb n ranks then 1 else 0) 1
+  one_send_below_ranks n h =
       let t : ltb n ranks ≡ true = grind (arith, nat_tests) in
       rw t refl
 
-  sends_few : (n b : ℕ) → b < (if ltb n ranks then 1 else 0) → (n < ranks) × (b ≡ 0)
-  sends_few n b h = go (ltb n ranks) refl h
+  only_send_has_index_zero : (n b : ℕ) → b < (if ltb n ranks then 1 else 0) → (n < ranks) × (b ≡ 0)
+  only_send_has_index_zero n b h = go (ltb n ranks) refl h
     where
       go : (t : Bool) → ltb n ranks ≡ t → b < (if t then 1 else 0) → (n < ranks) × (b ≡ 0)
       go true e lt = (grind (arith, nat_tests), omega arith)
@@ -97,7 +97,7 @@ module _ (ranks bytes : ℕ) where
 
   line_send_there : (h : LineHop) → 2 * upward h.from < scan_count ranks h.from
   unfolding scan_count
-  line_send_there h = let one = sends_one (h.from + 1) h.below in omega (arith, one)
+  line_send_there h = let one = one_send_below_ranks (h.from + 1) h.below in omega (arith, one)
 
   line_recv_there : (h : LineHop) → 0 < scan_count ranks (h.from + 1)
   unfolding scan_count
@@ -118,16 +118,16 @@ module _ (ranks bytes : ℕ) where
   unfolding scan_in scan_count
   line_cases x in_rank inside zero i p q =
       let op : x.op < 2 * upward 0 + (if ltb (0 + 1) ranks then 1 else 0) = rw p at inside in
-      let last = sends_few (0 + 1) i (omega (arith, q, op)) in
-      inr (inl (record { from = 0; below = last.0 }, same_place 0 (2 * upward 0) 0 i refl (omega (arith, last.1))))
+      let last = only_send_has_index_zero (0 + 1) i (omega (arith, q, op)) in
+      inr (inl (record { from = 0; below = last.0 }, at_of_equal_numbers 0 (2 * upward 0) 0 i refl (omega (arith, last.1))))
   line_cases x in_rank inside (suc w) zero p q =
-      inr (inr (record { from = w; below = omega arith }, same_place (w + 1) 0 (suc w) 0 (add-one w) refl))
+      inr (inr (record { from = w; below = omega arith }, at_of_equal_numbers (w + 1) 0 (suc w) 0 (add-one w) refl))
   line_cases x in_rank inside (suc w) (suc zero) p q = inl (0, refl)
   line_cases x in_rank inside (suc w) (suc (suc b)) p q =
       let one = upward_some (suc w) (omega arith) in
       let op : x.op < 2 * upward (suc w) + (if ltb (suc w + 1) ranks then 1 else 0) = rw p at inside in
-      let last = sends_few (suc w + 1) b (omega (arith, q, op, one)) in
-      inr (inl (record { from = suc w; below = last.0 }, same_place (suc w) (2 * upward (suc w)) (suc w) (suc (suc b)) refl (omega (arith, last.1, one))))
+      let last = only_send_has_index_zero (suc w + 1) b (omega (arith, q, op, one)) in
+      inr (inl (record { from = suc w; below = last.0 }, at_of_equal_numbers (suc w) (2 * upward (suc w)) (suc w) (suc (suc b)) refl (omega (arith, last.1, one))))
 
   pub line_messages : AreMessages ranks (λ r. scan_count ranks r) (λ r i. scan_in bytes r i) LineHop bytes line_send line_recv (λ h. 0)
   line_messages = record {
@@ -137,8 +137,8 @@ module _ (ranks bytes : ℕ) where
     received = λ h. line_received h.from;
     cases = λ x in_rank inside. line_cases x in_rank inside x.rank x.op refl refl;
     apart = λ h k source target tag. (
-      same_place h.from (2 * upward h.from) k.from (2 * upward k.from) source (ap (λ (r : ℕ). 2 * upward r) source),
-      same_place (h.from + 1) 0 (k.from + 1) 0 target refl,
+      at_of_equal_numbers h.from (2 * upward h.from) k.from (2 * upward k.from) source (ap (λ (r : ℕ). 2 * upward r) source),
+      at_of_equal_numbers (h.from + 1) 0 (k.from + 1) 0 target refl,
     );
   }
 

@@ -1,4 +1,4 @@
--- What is matched ends in its pairs, in each complete interleaving and whatever is eager.
+-- A matched schedule ends in its pairs, in each complete interleaving and for each choice of eager sends.
 use Rattle.std.proofs.Common.{◌≡◌, Bool, true, false, List, Option, Some, None, refl, sym, ap, ◌∙◌, is_some}
 use Rattle.std.specs.Option.{option_map}
 use Rattle.std.proofs.lemmas.Bool.{both_ways}

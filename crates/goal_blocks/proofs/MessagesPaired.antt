@@ -13,8 +13,8 @@ module _ (ranks : ℕ) (count : ℕ → ℕ) (e : ℕ → ℕ → Entry) (M : Ty
   abbrev plans : List Plan
   plans = made_by ranks count e
 
-  abbrev line : M → Channel
-  line m = record { source = (send m).rank; target = (recv m).rank; tag = tag m }
+  abbrev channel_of_message : M → Channel
+  channel_of_message m = record { source = (send m).rank; target = (recv m).rank; tag = tag m }
 
   kind_of_send : (m : M) → kind_at plans (send m) ≡ Some (Send bytes (recv m).rank (tag m))
   kind_of_send m = kind_there ranks count e (send m).rank (send m).op (told.send_there m).0 (told.send_there m).1 ∙ ap Some (told.sent m)
@@ -28,18 +28,18 @@ module _ (ranks : ℕ) (count : ℕ → ℕ) (e : ℕ → ℕ → Entry) (M : Ty
   is_recv : (m : M) → IsReceive plans (recv m)
   is_recv m = record { room = bytes; from = Some (send m).rank; tag = Some (tag m); kind = kind_of_recv m }
 
-  line_of_send : (m : M) → channel plans (send m) ≡ Some (line m)
+  line_of_send : (m : M) → channel plans (send m) ≡ Some (channel_of_message m)
   unfolding channel
   line_of_send m = rw (kind_of_send m) refl
 
-  line_of_recv : (m : M) → channel plans (recv m) ≡ Some (line m)
+  line_of_recv : (m : M) → channel plans (recv m) ≡ Some (channel_of_message m)
   unfolding channel
   line_of_recv m = rw (kind_of_recv m) refl
 
   pub one_channel : (m : M) → AreOfOneChannel plans (send m) (recv m)
-  one_channel m = record { is_send = is_send m; is_receive = is_recv m; shared = line m; of_send = line_of_send m; of_receive = line_of_recv m }
+  one_channel m = record { is_send = is_send m; is_receive = is_recv m; shared = channel_of_message m; of_send = line_of_send m; of_receive = line_of_recv m }
 
-  -- a send is that of a message, and so is a receive
+  -- each send is the send of some message, and each receive the receive of one
   pub message_of_send : (x : OpId) → IsSend plans x → (m : M) × (send m ≡ x)
   message_of_send x is =
       let there = kind_only ranks count e x _ is.kind in
@@ -60,15 +60,15 @@ module _ (ranks : ℕ) (count : ℕ → ℕ) (e : ℕ → ℕ → Entry) (M : Ty
       go (inr (inr m)) k = m
       go (inr (inl m)) k = absurd (cc (sym (told.sent m.0) ∙ subst (λ (y : OpId). (e y.rank y.op).kind ≡ Recv is.room is.from is.tag) (sym m.1) k))
 
-  one_message : (m n : M) (c : Channel) → Some (line m) ≡ Some c → Some (line n) ≡ Some c → (send m ≡ send n) × (recv m ≡ recv n)
+  one_message : (m n : M) (c : Channel) → Some (channel_of_message m) ≡ Some c → Some (channel_of_message n) ≡ Some c → (send m ≡ send n) × (recv m ≡ recv n)
   one_message m n c p q =
-      let same = same_Some (line m) (line n) (p ∙ sym q) in
+      let same = same_Some (channel_of_message m) (channel_of_message n) (p ∙ sym q) in
       told.apart m n (ap (λ (l : Channel). l.source) same) (ap (λ (l : Channel). l.target) same) (ap (λ (l : Channel). l.tag) same)
 
-  line_at_send : (x : OpId) (c : Channel) (m : M) → send m ≡ x → channel plans x ≡ Some c → Some (line m) ≡ Some c
+  line_at_send : (x : OpId) (c : Channel) (m : M) → send m ≡ x → channel plans x ≡ Some c → Some (channel_of_message m) ≡ Some c
   line_at_send x c m is at = sym (line_of_send m) ∙ ap (λ (y : OpId). channel plans y) is ∙ at
 
-  line_at_recv : (x : OpId) (c : Channel) (m : M) → recv m ≡ x → channel plans x ≡ Some c → Some (line m) ≡ Some c
+  line_at_recv : (x : OpId) (c : Channel) (m : M) → recv m ≡ x → channel plans x ≡ Some c → Some (channel_of_message m) ≡ Some c
   line_at_recv x c m is at = sym (line_of_recv m) ∙ ap (λ (y : OpId). channel plans y) is ∙ at
 
   pub messages_paired : AreChannelsPaired plans

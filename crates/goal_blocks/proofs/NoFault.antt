@@ -29,8 +29,8 @@ use Rattle.goal_blocks.specs.Certification.{NamesLowSlots, moved_count, IsSmall,
 use Rattle.goal_blocks.specs.Faults.{IsLeast, rank_key, op_key, IsLarge, too_many, too_high, too_much, IsWildcard, AreDouble, IsUnpaired, HaveOtherLengths, RaceAt, race_key, IsRace, IsStalled, AddsTooMuch, IsFirstTooHeavy, slot_key, IsWrong, HasFault, fault_place, IsCertificationFault}
 use Rattle.goal_blocks.proofs.Channels.{fits_channel, channel_fits}
 use Rattle.goal_blocks.proofs.Effects.{mem_contains, contains_mem, written_touched}
-use Rattle.goal_blocks.proofs.EndsBefore.{search_in, cases_before}
-use Rattle.goal_blocks.proofs.Least.{strong_induction, none_holds}
+use Rattle.goal_blocks.proofs.EndsBefore.{some_or_none_in_list, cases_before}
+use Rattle.goal_blocks.proofs.Least.{strong_induction, holds_of_none_without_least}
 use Rattle.goal_blocks.proofs.SomeWalk.{some_walk}
 use Rattle.goal_blocks.proofs.Walk.{one_walk}
 
@@ -50,15 +50,15 @@ module _ (plans : List Plan) where
   moves_small (p ∷ ps) none =
       ⊎_elim (λ over. absurd (none (length ps) (omega arith) (subst (λ (qs : List Plan). moved_limit < sum_by (λ (p : Plan). sum_by moved_count p.notes) qs) (sym (take_all (length ps + 1) (p ∷ ps) (omega arith))) over))) (λ few. few) (cases_lt moved_limit (sum_by (λ (p : Plan). sum_by moved_count p.notes) (p ∷ ps)))
 
-  pub small_from : ((rank : ℕ) → IsLarge plans rank → ⊥) → IsSmall plans
-  small_from none = record {
+  pub small_if_no_rank_large : ((rank : ℕ) → IsLarge plans rank → ⊥) → IsSmall plans
+  small_if_no_rank_large none = record {
     operations = λ k d l. ⊎_elim (λ over. absurd (none k (too_many (subst (λ (n : ℕ). certified_op_limit < n) (sym (ap length (ops_at_some plans k (get_or plans k d) (slice_get-get_or plans k d l)))) over)))) (λ few. few) (cases_lt certified_op_limit (length (get_or plans k d).ops));
     slots = λ k d l j e m. ⊎_elim (λ low. low) (λ high. absurd (none k (too_high (get_or (get_or plans k d).notes j e) (subst (λ (ns : List Note). Contains ns (get_or (get_or plans k d).notes j e)) (sym (notes_of_rank k d l)) (All-contains_itself (get_or plans k d).notes j e m)) high))) (cases_low (get_or (get_or plans k d).notes j e));
     moves = moves_small plans (λ rank l over. none rank (too_much l over));
   }
 
-  pub wildcard_from : ((x : OpId) → IsWildcard plans x → ⊥) → HasNoWildcard plans
-  wildcard_from none x room from tag e = (known (is_some from) refl, told (is_some tag) refl)
+  pub no_wildcard_if_no_fault : ((x : OpId) → IsWildcard plans x → ⊥) → HasNoWildcard plans
+  no_wildcard_if_no_fault none x room from tag e = (known (is_some from) refl, told (is_some tag) refl)
     where
       known : (b : Bool) → is_some from ≡ b → b ≡ true
       known true f = refl
@@ -68,23 +68,23 @@ module _ (plans : List Plan) where
       told true f = refl
       told false f = absurd (none x (record { room = room; from = from; tag = tag; kind = e; any = inr f }))
 
-  pub double_from : ((y x : OpId) → AreDouble plans y x → ⊥) → HasNoDoubleChannel plans
-  double_from none = record {
+  pub no_double_channel_if_no_fault : ((y x : OpId) → AreDouble plans y x → ⊥) → HasNoDoubleChannel plans
+  no_double_channel_if_no_fault none = record {
     sends = λ m n c p q e f. ⊎_elim (λ b. absurd (none m n (record { in_order = b; alike = inl (p, q); shared = c; of_first = e; of_second = f }))) (λ r. ⊎_elim (λ b. absurd (none n m (record { in_order = b; alike = inl (q, p); shared = c; of_first = f; of_second = e }))) (λ s. s) r) (before_cases m n);
     receives = λ m n c p q e f. ⊎_elim (λ b. absurd (none m n (record { in_order = b; alike = inr (p, q); shared = c; of_first = e; of_second = f }))) (λ r. ⊎_elim (λ b. absurd (none n m (record { in_order = b; alike = inr (q, p); shared = c; of_first = f; of_second = e }))) (λ s. s) r) (before_cases m n);
   }
 
-  pub unpaired_from : HasNoWildcard plans → ((x : OpId) → IsUnpaired plans x → ⊥) → HasNoUnpaired plans
-  unpaired_from known none = record {
-    sends = λ m p. ⊎_elim (λ found. (found.0, fits_channel plans found.0 m known found.2)) (λ nothing. absurd (none m (inl (p, λ y one. nothing y (kind_listed plans y _ one.is_receive.kind) (channel_fits plans y m one))))) (search_in (λ (x : OpId). fits plans x m ≡ true) (operations plans) (λ x c. cases_fit x m));
-    receives = λ x p. ⊎_elim (λ found. (found.0, fits_channel plans x found.0 known found.2)) (λ nothing. absurd (none x (inr (p, λ m one. nothing m (kind_listed plans m _ one.is_send.kind) (channel_fits plans x m one))))) (search_in (λ (m : OpId). fits plans x m ≡ true) (operations plans) (λ m c. cases_fit x m));
+  pub no_unpaired_if_no_fault : HasNoWildcard plans → ((x : OpId) → IsUnpaired plans x → ⊥) → HasNoUnpaired plans
+  no_unpaired_if_no_fault known none = record {
+    sends = λ m p. ⊎_elim (λ found. (found.0, fits_channel plans found.0 m known found.2)) (λ nothing. absurd (none m (inl (p, λ y one. nothing y (kind_listed plans y _ one.is_receive.kind) (channel_fits plans y m one))))) (some_or_none_in_list (λ (x : OpId). fits plans x m ≡ true) (operations plans) (λ x c. cases_fit x m));
+    receives = λ x p. ⊎_elim (λ found. (found.0, fits_channel plans x found.0 known found.2)) (λ nothing. absurd (none x (inr (p, λ m one. nothing m (kind_listed plans m _ one.is_send.kind) (channel_fits plans x m one))))) (some_or_none_in_list (λ (m : OpId). fits plans x m ≡ true) (operations plans) (λ m c. cases_fit x m));
   }
     where
       cases_fit : (x m : OpId) → (fits plans x m ≡ true) ⊎ (fits plans x m ≡ true → ⊥)
       cases_fit x m = ⊎_elim (λ e. inl e) (λ e. inr (λ f. both_ways _ e f)) (cases_Bool (fits plans x m))
 
-  pub lengths_from : ((m x : OpId) → HaveOtherLengths plans m x → ⊥) → HasEqualLengths plans
-  lengths_from none m x one =
+  pub equal_lengths_if_no_fault : ((m x : OpId) → HaveOtherLengths plans m x → ⊥) → HasEqualLengths plans
+  equal_lengths_if_no_fault none m x one =
       ⊎_elim (λ e. e) (λ differ. absurd (none m x (record { one = one; differ = differ }))) (cases_eq (length (slots plans m)) (length (slots plans x)))
 
   touching_op : (x : OpId) (k : ℕ) → Contains (touched plans x) k → IsOp plans x
@@ -144,32 +144,32 @@ module _ (plans : List Plan) where
     module _ (wanted : ℕ → ℕ → Value → Bool) (none : (fault : CertFault) → HasFault plans first wanted fault → ⊥) where
       no_wildcard : HasNoWildcard plans
       no_wildcard =
-          wildcard_from (none_holds 2 op_key (λ x. refl) (IsWildcard plans) (λ x l. none (Wildcard x) l))
+          no_wildcard_if_no_fault (holds_of_none_without_least 2 op_key (λ x. refl) (IsWildcard plans) (λ x l. none (Wildcard x) l))
 
       small : IsSmall plans
-      small = small_from (none_holds 1 rank_key (λ n. refl) (IsLarge plans) (λ n l. none (TooLarge n) l))
+      small = small_if_no_rank_large (holds_of_none_without_least 1 rank_key (λ n. refl) (IsLarge plans) (λ n l. none (TooLarge n) l))
 
       no_double : HasNoDoubleChannel plans
-      no_double = double_from (λ y x d. none_holds 2 op_key (λ x. refl) (λ x. (y : OpId) × AreDouble plans y x) (λ x l. least x l) x (y, d))
+      no_double = no_double_channel_if_no_fault (λ y x d. holds_of_none_without_least 2 op_key (λ x. refl) (λ x. (y : OpId) × AreDouble plans y x) (λ x l. least x l) x (y, d))
         where
           least : (x : OpId) → IsLeast op_key (λ x. (y : OpId) × AreDouble plans y x) x → ⊥
           least x l =
-              none_holds 2 op_key (λ y. refl) (λ y. AreDouble plans y x) (λ y f. none (DoubleChannel y x) (l, f)) l.holds.0 l.holds.1
+              holds_of_none_without_least 2 op_key (λ y. refl) (λ y. AreDouble plans y x) (λ y f. none (DoubleChannel y x) (l, f)) l.holds.0 l.holds.1
 
       no_unpaired : HasNoUnpaired plans
       no_unpaired =
-          unpaired_from no_wildcard (none_holds 2 op_key (λ x. refl) (IsUnpaired plans) (λ x l. none (Unpaired x) l))
+          no_unpaired_if_no_fault no_wildcard (holds_of_none_without_least 2 op_key (λ x. refl) (IsUnpaired plans) (λ x l. none (Unpaired x) l))
 
       lengths : HasEqualLengths plans
-      lengths = lengths_from (λ m x d. none_holds 2 op_key (λ m. refl) (λ m. (x : OpId) × HaveOtherLengths plans m x) (λ m l. least m l) m (x, d))
+      lengths = equal_lengths_if_no_fault (λ m x d. holds_of_none_without_least 2 op_key (λ m. refl) (λ m. (x : OpId) × HaveOtherLengths plans m x) (λ m l. least m l) m (x, d))
         where
           least : (m : OpId) → IsLeast op_key (λ m. (x : OpId) × HaveOtherLengths plans m x) m → ⊥
           least m l =
-              none_holds 2 op_key (λ x. refl) (λ x. HaveOtherLengths plans m x) (λ x f. none (Lengths m x) (l, f)) l.holds.0 l.holds.1
+              holds_of_none_without_least 2 op_key (λ x. refl) (λ x. HaveOtherLengths plans m x) (λ x f. none (Lengths m x) (l, f)) l.holds.0 l.holds.1
 
       no_race : IsAccepted plans → HasNoRace plans
       no_race accepted =
-          race_from (none_holds 4 race_key (λ a. refl) (IsRace plans) (λ a l. none (Race a.rank a.first a.second a.slot) l)) accepted
+          race_from (holds_of_none_without_least 4 race_key (λ a. refl) (IsRace plans) (λ a l. none (Race a.rank a.first a.second a.slot) l)) accepted
 
       abbrev walk : List Act
       walk = (some_walk plans).0
@@ -182,7 +182,7 @@ module _ (plans : List Plan) where
         where
           stalled : (x : OpId) → IsOp plans x → has_ended plans no_send x walk ≡ false → ⊥
           stalled x is_op f =
-              none_holds 2 op_key (λ x. refl) (IsStalled plans) (λ x l. none (Stalls x) l) x (is_op, λ w is_walk. subst (λ (v : List Act). has_ended plans no_send x v ≡ false) (same_walk w is_walk) f)
+              holds_of_none_without_least 2 op_key (λ x. refl) (IsStalled plans) (λ x l. none (Stalls x) l) x (is_op, λ w is_walk. subst (λ (v : List Act). has_ended plans no_send x v ≡ false) (same_walk w is_walk) f)
 
       light : IsLight plans first walk
       light =
@@ -190,7 +190,7 @@ module _ (plans : List Plan) where
 
       right : HoldsWanted plans wanted (value plans no_send first walk)
       right rank slot inside =
-          ⊎_elim (λ e. e) (λ f. absurd (none_holds 2 slot_key (λ a. refl) (IsWrong plans first wanted) (λ a l. none (Wrong a.rank a.slot) l) (record { rank = rank; slot = slot }) (inside, λ w is_walk. subst (λ (v : List Act). wanted rank slot (value plans no_send first v rank slot) ≡ false) (same_walk w is_walk) f))) (cases_Bool (wanted rank slot (value plans no_send first walk rank slot)))
+          ⊎_elim (λ e. e) (λ f. absurd (holds_of_none_without_least 2 slot_key (λ a. refl) (IsWrong plans first wanted) (λ a l. none (Wrong a.rank a.slot) l) (record { rank = rank; slot = slot }) (inside, λ w is_walk. subst (λ (v : List Act). wanted rank slot (value plans no_send first v rank slot) ≡ false) (same_walk w is_walk) f))) (cases_Bool (wanted rank slot (value plans no_send first walk rank slot)))
 
       certified : IsAccepted plans → IsCertified plans first wanted
       unfolding no_stall

@@ -16,7 +16,7 @@ use Rattle.goal_blocks.specs.Faults.{IsLeast, rank_key, op_key, IsLarge, IsWildc
 use Rattle.goal_blocks.proofs.Faults.{adds_not, heavy_not}
 use Rattle.goal_blocks.proofs.SomeWalk.{some_walk}
 
--- of two keys of one length one is less, or they are the same
+-- of two keys of one length, one is less or they are equal
 cases_key : (j k : List ℕ) → length j ≡ length k → IsLess j k ⊎ (IsLess k j ⊎ (j ≡ k))
 cases_key [] [] e = inr (inr refl)
 cases_key [] (n ∷ k) e = absurd (omega (arith, e))
@@ -28,16 +28,16 @@ one_least : {A : Type 0} (n : ℕ) (key : A → List ℕ) → ((x : A) → lengt
 one_least n key long P x y l m =
     ⊎_elim (λ b. absurd (m.none_less x b l.holds)) (λ r. ⊎_elim (λ b. absurd (l.none_less y b m.holds)) (λ e. e) r) (cases_key (key x) (key y) (long x ∙ sym (long y)))
 
-at : ℕ → List ℕ → ℕ
-at n [] = 0
-at zero (m ∷ k) = m
-at (suc n) (m ∷ k) = at n k
+nth_number : ℕ → List ℕ → ℕ
+nth_number n [] = 0
+nth_number zero (m ∷ k) = m
+nth_number (suc n) (m ∷ k) = nth_number n k
 
-same_op : (P : OpId → Type 0) (x y : OpId) → IsLeast op_key P x → IsLeast op_key P y → x ≡ y
-unfolding at
-same_op P x y l m =
+least_operation_is_unique : (P : OpId → Type 0) (x y : OpId) → IsLeast op_key P x → IsLeast op_key P y → x ≡ y
+unfolding nth_number
+least_operation_is_unique P x y l m =
     let e = one_least 2 op_key (λ x. refl) P x y l m in
-    λ i. record { rank = at 0 (e i); op = at 1 (e i) }
+    λ i. record { rank = nth_number 0 (e i); op = nth_number 1 (e i) }
 
 module _ (plans : List Plan) (first : Store) where
   one_addition : (h : List Act) (held : Held) (x : OpId) (k : Option Kind) (m n : ℕ) → AddsTooMuch plans h held x k m → AddsTooMuch plans h held x k n → m ≡ n
@@ -62,28 +62,28 @@ module _ (plans : List Plan) (first : Store) where
 
   module _ (wanted : ℕ → ℕ → Value → Bool) where
     same_fault : (f g : CertFault) → fault_place f ≡ fault_place g → HasFault plans first wanted f → HasFault plans first wanted g → f ≡ g
-    unfolding at
+    unfolding nth_number
     same_fault (TooLarge r) (TooLarge q) e a b =
-        let s = one_least 1 rank_key (λ n. refl) (IsLarge plans) r q a b in λ i. TooLarge (at 0 (s i))
-    same_fault (Wildcard x) (Wildcard y) e a b = ap (λ (z : OpId). Wildcard z) (same_op (IsWildcard plans) x y a b)
+        let s = one_least 1 rank_key (λ n. refl) (IsLarge plans) r q a b in λ i. TooLarge (nth_number 0 (s i))
+    same_fault (Wildcard x) (Wildcard y) e a b = ap (λ (z : OpId). Wildcard z) (least_operation_is_unique (IsWildcard plans) x y a b)
     same_fault (DoubleChannel y x) (DoubleChannel v u) e a b =
-        let s = same_op (λ x. (y : OpId) × AreDouble plans y x) x u a.0 b.0 in
-        let t = same_op (λ y. AreDouble plans y x) y v a.1 (subst (λ (z : OpId). IsLeast op_key (λ y. AreDouble plans y z) v) (sym s) b.1) in
+        let s = least_operation_is_unique (λ x. (y : OpId) × AreDouble plans y x) x u a.0 b.0 in
+        let t = least_operation_is_unique (λ y. AreDouble plans y x) y v a.1 (subst (λ (z : OpId). IsLeast op_key (λ y. AreDouble plans y z) v) (sym s) b.1) in
         λ i. DoubleChannel (t i) (s i)
-    same_fault (Unpaired x) (Unpaired y) e a b = ap (λ (z : OpId). Unpaired z) (same_op (IsUnpaired plans) x y a b)
+    same_fault (Unpaired x) (Unpaired y) e a b = ap (λ (z : OpId). Unpaired z) (least_operation_is_unique (IsUnpaired plans) x y a b)
     same_fault (Lengths m x) (Lengths n y) e a b =
-        let s = same_op (λ m. (x : OpId) × HaveOtherLengths plans m x) m n a.0 b.0 in
-        let t = same_op (λ x. HaveOtherLengths plans m x) x y a.1 (subst (λ (z : OpId). IsLeast op_key (λ x. HaveOtherLengths plans z x) y) (sym s) b.1) in
+        let s = least_operation_is_unique (λ m. (x : OpId) × HaveOtherLengths plans m x) m n a.0 b.0 in
+        let t = least_operation_is_unique (λ x. HaveOtherLengths plans m x) x y a.1 (subst (λ (z : OpId). IsLeast op_key (λ x. HaveOtherLengths plans z x) y) (sym s) b.1) in
         λ i. Lengths (s i) (t i)
     same_fault (Race r j k s) (Race q l n t) e a b =
         let same = one_least 4 race_key (λ a. refl) (IsRace plans) (record { rank = r; first = j; second = k; slot = s }) (record { rank = q; first = l; second = n; slot = t }) a b in
-        λ i. Race (at 0 (same i)) (at 1 (same i)) (at 2 (same i)) (at 3 (same i))
-    same_fault (Stalls x) (Stalls y) e a b = ap (λ (z : OpId). Stalls z) (same_op (IsStalled plans) x y a b)
+        λ i. Race (nth_number 0 (same i)) (nth_number 1 (same i)) (nth_number 2 (same i)) (nth_number 3 (same i))
+    same_fault (Stalls x) (Stalls y) e a b = ap (λ (z : OpId). Stalls z) (least_operation_is_unique (IsStalled plans) x y a b)
     same_fault (Weight m) (Weight n) e a b =
         let walk = some_walk plans in ap (λ (k : ℕ). Weight k) (one_heavy walk.0 m n (a walk.0 walk.1) (b walk.0 walk.1))
     same_fault (Wrong r s) (Wrong q t) e a b =
         let same = one_least 2 slot_key (λ a. refl) (IsWrong plans first wanted) (record { rank = r; slot = s }) (record { rank = q; slot = t }) a b in
-        λ i. Wrong (at 0 (same i)) (at 1 (same i))
+        λ i. Wrong (nth_number 0 (same i)) (nth_number 1 (same i))
     same_fault NoMemory NoMemory e a b = absurd a
     same_fault _ _ e a b = absurd (omega (arith, e))
 

@@ -18,11 +18,11 @@ picked_few p b a (suc m) = go (picked_few p b (a + 1) m) (p a)
     go rest true = omega (arith, rest)
     go rest false = omega (arith, rest)
 
-pub lower_here : (a c b : ℕ) → a < c → is_lower (record { rank = a; item = b }) (record { rank = c; item = b }) ≡ true
-lower_here a c b l = rw (lt-ltb a c l) refl
+pub is_lower_by_rank : (a c b : ℕ) → a < c → is_lower (record { rank = a; item = b }) (record { rank = c; item = b }) ≡ true
+is_lower_by_rank a c b l = rw (lt-ltb a c l) refl
 
-pub not_lower_here : (a c b : ℕ) → c < a → is_lower (record { rank = a; item = b }) (record { rank = c; item = b }) ≡ false
-not_lower_here a c b l = rw (higher, ne_eqb a c (λ e. omega (arith, e, l))) refl
+pub not_lower_by_rank : (a c b : ℕ) → c < a → is_lower (record { rank = a; item = b }) (record { rank = c; item = b }) ≡ false
+not_lower_by_rank a c b l = rw (higher, ne_eqb a c (λ e. omega (arith, e, l))) refl
   where
     higher : nat_lt a c ≡ false
     higher = go (nat_lt a c) refl
@@ -38,7 +38,7 @@ insert_low p r b a zero l = refl
 insert_low p r b a (suc m) l = go (insert_low p r b (a + 1) m (omega (arith, l))) (p a)
   where
     go : insert_one (record { rank = r; item = b }) (picked p b (a + 1) m) ≡ record { rank = r; item = b } ∷ picked p b (a + 1) m → (t : Bool) → insert_one (record { rank = r; item = b }) (if t then record { rank = a; item = b } ∷ picked p b (a + 1) m else picked p b (a + 1) m) ≡ record { rank = r; item = b } ∷ (if t then record { rank = a; item = b } ∷ picked p b (a + 1) m else picked p b (a + 1) m)
-    go rest true = rw (lower_here r a b l) refl
+    go rest true = rw (is_lower_by_rank r a b l) refl
     go rest false = rest
 
 pub picked_same : (p q : ℕ → Bool) (b a m : ℕ) → ((k : ℕ) → a ≤ k → k < a + m → p k ≡ q k) → picked p b a m ≡ picked q b a m
@@ -47,7 +47,7 @@ picked_same p q b a zero same = refl
 picked_same p q b a (suc m) same =
     rw (same a (omega arith) (omega arith), picked_same p q b (a + 1) m (λ k l g. same k (omega (arith, l)) (omega (arith, g)))) refl
 
--- a rank that was not picked is also picked
+-- inserting a rank that is not picked gives the value in which it is picked
 pub insert_picked : (p q : ℕ → Bool) (r b a m : ℕ) → a ≤ r → r < a + m → p r ≡ false → q r ≡ true → ((k : ℕ) → (k ≡ r → ⊥) → p k ≡ q k) → insert_one (record { rank = r; item = b }) (picked p b a m) ≡ picked q b a m
 unfolding picked insert_one
 insert_picked p q r b a zero l g left taken same = absurd (omega (arith, l, g))
@@ -56,7 +56,7 @@ insert_picked p q r b a (suc m) l g left taken same =
   where
     later : a < r → insert_one (record { rank = r; item = b }) (picked p b (a + 1) m) ≡ picked q b (a + 1) m → p a ≡ q a → (t : Bool) → p a ≡ t → insert_one (record { rank = r; item = b }) (if p a then record { rank = a; item = b } ∷ picked p b (a + 1) m else picked p b (a + 1) m) ≡ (if q a then record { rank = a; item = b } ∷ picked q b (a + 1) m else picked q b (a + 1) m)
     later less rest e true f =
-        rw (sym e ∙ f, f, not_lower_here r a b less) (ap (λ (v : Value). record { rank = a; item = b } ∷ v) rest)
+        rw (sym e ∙ f, f, not_lower_by_rank r a b less) (ap (λ (v : Value). record { rank = a; item = b } ∷ v) rest)
     later less rest e false f = rw (sym e ∙ f, f) rest
 
 pub picked_none : (p : ℕ → Bool) (b a m : ℕ) → ((k : ℕ) → p k ≡ false) → picked p b a m ≡ []

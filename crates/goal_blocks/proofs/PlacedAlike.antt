@@ -21,8 +21,8 @@ use Rattle.goal_blocks.specs.Placed.{IsPermutation, placed_op, placed_act, place
 
 module _ (ranks : ℕ) (to back : ℕ → ℕ) (perm : IsPermutation ranks to back) where
   -- numbers of ranks are the same where the renamed ones are
-  pub same_number : (r s : ℕ) → (to r == to s) ≡ (r == s)
-  same_number r s = go (to r == to s) (r == s) refl refl
+  pub renaming_keeps_rank_equality : (r s : ℕ) → (to r == to s) ≡ (r == s)
+  renaming_keeps_rank_equality r s = go (to r == to s) (r == s) refl refl
     where
       go : (a b : Bool) → (to r == to s) ≡ a → (r == s) ≡ b → a ≡ b
       go true true e f = refl
@@ -34,7 +34,7 @@ module _ (ranks : ℕ) (to back : ℕ → ℕ) (perm : IsPermutation ranks to ba
           absurd (true≢false (sym (eq-eqb (to r) (to s) (ap to (eqb-true r s f))) ∙ e))
 
   pub same_place_op : (x y : OpId) → same_op (placed_op to x) (placed_op to y) ≡ same_op x y
-  same_place_op x y = ap (λ (b : Bool). b && (x.op == y.op)) (same_number x.rank y.rank)
+  same_place_op x y = ap (λ (b : Bool). b && (x.op == y.op)) (renaming_keeps_rank_equality x.rank y.rank)
 
   pub happened_placed : (class : Class) (x : OpId) (h : List Act) → happened class (placed_op to x) (map (placed_act to) h) ≡ happened class x h
   unfolding happened
@@ -48,7 +48,7 @@ module _ (ranks : ℕ) (to back : ℕ → ℕ) (perm : IsPermutation ranks to ba
 
   accepts_placed : (source : Option ℕ) (r : ℕ) → accepts (option_map to source) (to r) ≡ accepts source r
   accepts_placed None r = refl
-  accepts_placed (Some s) r = same_number s r
+  accepts_placed (Some s) r = renaming_keeps_rank_equality s r
 
   fits_placed_kinds : (x : OpId) (k : Option Kind) (m : OpId) (l : Option Kind) → fits_kinds (placed_op to x) (option_map (placed_kind to) k) (placed_op to m) (option_map (placed_kind to) l) ≡ fits_kinds x k m l
   fits_placed_kinds x None m l = refl
@@ -58,7 +58,7 @@ module _ (ranks : ℕ) (to back : ℕ → ℕ) (perm : IsPermutation ranks to ba
   fits_placed_kinds x (Some (Recv room source tag)) m (Some (Calc nanos)) = refl
   fits_placed_kinds x (Some (Recv room source tag)) m (Some (Recv room2 source2 tag2)) = refl
   fits_placed_kinds x (Some (Recv room source tag)) m (Some (Send bytes target with_tag)) =
-      λ i. same_number target x.rank i && accepts_placed source m.rank i && accepts tag with_tag
+      λ i. renaming_keeps_rank_equality target x.rank i && accepts_placed source m.rank i && accepts tag with_tag
 
   -- the pairs of the renamed operations
   abbrev pub placed_pair : Pair → Pair

@@ -1,4 +1,4 @@
--- What is certified is certified on other ranks, where few enough contributions are held along its walk there.
+-- A certified schedule stays certified on other ranks if its walk there holds few enough contributions.
 use Rattle.std.proofs.Common.{ℕ, zero, suc, ◌+◌, ◌^◌, ◌<◌, ◌≤◌, ◌≡◌, inl, inr, ⊎_elim, Bool, true, List, [], ◌∷◌, length, All, Contains, Option, Some, None, is_some, get_or, slice_get, unwrap_or, refl, sym, ap, ◌∙◌, subst, arith}
 use Rattle.std.specs.Option.{option_map}
 use Rattle.std.specs.List.{sum_by}
@@ -25,32 +25,32 @@ use Rattle.goal_blocks.proofs.Matched.{ends_in_its_pairs}
 use Rattle.goal_blocks.proofs.SomeWalk.{some_walk}
 use Rattle.goal_blocks.proofs.Right.{certified_right}
 use Rattle.goal_blocks.proofs.SumPermuted.{sum_permuted}
-use Rattle.goal_blocks.proofs.SlotSums.{sum_same}
-use Rattle.goal_blocks.proofs.PlacedPlans.{inverse_permutation, length_placed, plan_placed_at, placed_is, there_and_back, placed_back}
-use Rattle.goal_blocks.proofs.PlacedRight.{kinds, send_placed, receive_placed, placed_channel, channel_placed, joined_placed, before, complete_before, ends_placed, placed_right}
+use Rattle.goal_blocks.proofs.SlotSums.{sum_below_of_equal_terms}
+use Rattle.goal_blocks.proofs.PlacedPlans.{inverse_permutation, length_placed, plan_placed_at, placed_plans_are_placed, placed_op_after_back, placed_back}
+use Rattle.goal_blocks.proofs.PlacedRight.{kinds, send_placed, receive_placed, placed_channel, channel_placed, one_channel_placed, before, complete_on_original_ranks, ends_placed, placed_right}
 
 -- sums over plans, by rank
 module _ (f : Plan → ℕ) where
-  sum_first : (n : ℕ) (g : ℕ → ℕ) → sum_below (suc n) g ≡ g 0 + sum_below n (λ k. g (suc k))
+  sum_below_from_first : (n : ℕ) (g : ℕ → ℕ) → sum_below (suc n) g ≡ g 0 + sum_below n (λ k. g (suc k))
   unfolding sum_below
-  sum_first zero g = omega arith
-  sum_first (suc n) g = let rest = sum_first n g in omega (arith, rest)
+  sum_below_from_first zero g = omega arith
+  sum_below_from_first (suc n) g = let rest = sum_below_from_first n g in omega (arith, rest)
 
-  sum_nothing : (g : ℕ → ℕ) → 0 ≡ sum_below 0 g
+  sum_below_zero_is_zero : (g : ℕ → ℕ) → 0 ≡ sum_below 0 g
   unfolding sum_below
-  sum_nothing g = refl
+  sum_below_zero_is_zero g = refl
 
   sum_by_rank : (plans : List Plan) → sum_by f plans ≡ sum_below (length plans) (λ r. f (plan_at plans r))
-  sum_by_rank [] = sum_nothing (λ r. f (plan_at [] r))
+  sum_by_rank [] = sum_below_zero_is_zero (λ r. f (plan_at [] r))
   sum_by_rank (p ∷ ps) =
-      sum_by-cons f p ps ∙ (ap (λ (n : ℕ). f p + n) (sum_by_rank ps) ∙ sym (sum_first (length ps) (λ r. f (plan_at (p ∷ ps) r))))
+      sum_by-cons f p ps ∙ (ap (λ (n : ℕ). f p + n) (sum_by_rank ps) ∙ sym (sum_below_from_first (length ps) (λ r. f (plan_at (p ∷ ps) r))))
 
-  -- of the plans on other ranks
+  -- placing plans on other ranks keeps the sum over them
   sum_placed : (to back : ℕ → ℕ) (plans : List Plan) → IsPermutation (length plans) to back → ((p : Plan) → f (placed_plan to p) ≡ f p) → sum_by f (placed to back plans) ≡ sum_by f plans
   sum_placed to back plans perm same =
       sum_by_rank (placed to back plans)
       ∙ (ap (λ (n : ℕ). sum_below n (λ r. f (plan_at (placed to back plans) r))) (length_placed to back plans perm)
-      ∙ (sum_same (length plans) (λ r. f (plan_at (placed to back plans) r)) (λ r. f (plan_at plans (back r))) each
+      ∙ (sum_below_of_equal_terms (length plans) (λ r. f (plan_at (placed to back plans) r)) (λ r. f (plan_at plans (back r))) each
       ∙ (sum_permuted (length plans) to back perm.back_to perm.to_back (inverse_permutation (length plans) to back perm).within perm.within (λ r. f (plan_at plans r)) ∙ sym (sum_by_rank plans))))
     where
       each : (r : ℕ) → r < length plans → f (plan_at (placed to back plans) r) ≡ f (plan_at plans (back r))
@@ -64,7 +64,7 @@ module _ (to back : ℕ → ℕ) (plans : List Plan) (perm : IsPermutation (leng
   placed_plans = placed to back plans
 
   abbrev placed_is_placed : IsPlaced to plans placed_plans
-  placed_is_placed = placed_is to back plans perm
+  placed_is_placed = placed_plans_are_placed to back plans perm
 
   abbrev perm_back : IsPermutation (length plans) back to
   perm_back = inverse_permutation (length plans) to back perm
@@ -72,7 +72,7 @@ module _ (to back : ℕ → ℕ) (plans : List Plan) (perm : IsPermutation (leng
   abbrev placed_is_back : IsPlaced back placed_plans plans
   placed_is_back = placed_back (length plans) to back perm plans placed_plans placed_is_placed
 
-  -- what is true of each plan is true of each on other ranks
+  -- a property that placing keeps holds of all placed plans if it holds of all plans
   all_placed : (P : Plan → Type 0) → ((p : Plan) → P p → P (placed_plan to p)) → All P plans → All P placed_plans
   all_placed P same all r d low =
       let size = length_placed to back plans perm in
@@ -94,9 +94,9 @@ module _ (to back : ℕ → ℕ) (plans : List Plan) (perm : IsPermutation (leng
     moves = subst (λ (n : ℕ). n ≤ moved_limit) (sym (sum_placed (λ (p : Plan). sum_by moved_count p.notes) to back plans perm (λ p. refl))) small.moves;
   }
 
-  same_op_of : (x y : OpId) → placed_op back x ≡ placed_op back y → x ≡ y
-  same_op_of x y e =
-      sym (there_and_back (length plans) to back perm x) ∙ (ap (placed_op to) e ∙ there_and_back (length plans) to back perm y)
+  placed_back_is_injective : (x y : OpId) → placed_op back x ≡ placed_op back y → x ≡ y
+  placed_back_is_injective x y e =
+      sym (placed_op_after_back (length plans) to back perm x) ∙ (ap (placed_op to) e ∙ placed_op_after_back (length plans) to back perm y)
 
   -- an operation, seen from the original ranks
   send_back : (m : OpId) → IsSend placed_plans m → IsSend plans (placed_op back m)
@@ -112,18 +112,18 @@ module _ (to back : ℕ → ℕ) (plans : List Plan) (perm : IsPermutation (leng
 
   channel_joined_to : (m x : OpId) → AreOfOneChannel plans (placed_op back m) x → AreOfOneChannel placed_plans m (placed_op to x)
   channel_joined_to m x one =
-      subst (λ (z : OpId). AreOfOneChannel placed_plans z (placed_op to x)) (there_and_back (length plans) to back perm m) (joined_placed (length plans) to back perm plans placed_plans placed_is_placed (placed_op back m) x one)
+      subst (λ (z : OpId). AreOfOneChannel placed_plans z (placed_op to x)) (placed_op_after_back (length plans) to back perm m) (one_channel_placed (length plans) to back perm plans placed_plans placed_is_placed (placed_op back m) x one)
 
   channel_joined_from : (m x : OpId) → AreOfOneChannel plans m (placed_op back x) → AreOfOneChannel placed_plans (placed_op to m) x
   channel_joined_from m x one =
-      subst (λ (z : OpId). AreOfOneChannel placed_plans (placed_op to m) z) (there_and_back (length plans) to back perm x) (joined_placed (length plans) to back perm plans placed_plans placed_is_placed m (placed_op back x) one)
+      subst (λ (z : OpId). AreOfOneChannel placed_plans (placed_op to m) z) (placed_op_after_back (length plans) to back perm x) (one_channel_placed (length plans) to back perm plans placed_plans placed_is_placed m (placed_op back x) one)
 
   abbrev matched_placed : IsMatched plans → IsMatched placed_plans
   matched_placed m = record {
     no_wildcard = λ x room from tag e. wildcard from tag (m.no_wildcard (placed_op back x) room (option_map back from) tag (kinds (length plans) back to perm_back placed_plans plans placed_is_back x ∙ ap (option_map (placed_kind back)) e));
     no_double_channel = record {
-      sends = λ x y c is_x is_y of_x of_y. same_op_of x y (m.no_double_channel.sends (placed_op back x) (placed_op back y) (placed_channel (length plans) back to perm_back placed_plans plans placed_is_back c) (send_back x is_x) (send_back y is_y) (channel_back x c of_x) (channel_back y c of_y));
-      receives = λ x y c is_x is_y of_x of_y. same_op_of x y (m.no_double_channel.receives (placed_op back x) (placed_op back y) (placed_channel (length plans) back to perm_back placed_plans plans placed_is_back c) (receive_back x is_x) (receive_back y is_y) (channel_back x c of_x) (channel_back y c of_y));
+      sends = λ x y c is_x is_y of_x of_y. placed_back_is_injective x y (m.no_double_channel.sends (placed_op back x) (placed_op back y) (placed_channel (length plans) back to perm_back placed_plans plans placed_is_back c) (send_back x is_x) (send_back y is_y) (channel_back x c of_x) (channel_back y c of_y));
+      receives = λ x y c is_x is_y of_x of_y. placed_back_is_injective x y (m.no_double_channel.receives (placed_op back x) (placed_op back y) (placed_channel (length plans) back to perm_back placed_plans plans placed_is_back c) (receive_back x is_x) (receive_back y is_y) (channel_back x c of_x) (channel_back y c of_y));
     };
     no_unpaired = record {
       sends = λ x s. let p = m.no_unpaired.sends (placed_op back x) (send_back x s) in (placed_op to p.0, channel_joined_to x p.0 p.1);
@@ -132,7 +132,7 @@ module _ (to back : ℕ → ℕ) (plans : List Plan) (perm : IsPermutation (leng
     no_stall = let w = some_walk placed_plans in record {
       walk = w.0;
       is_walk = w.1;
-      all_end = (ends_placed (length plans) to back perm plans placed_plans placed_is_placed no_send w.0 (ends_in_its_pairs plans no_send (before (length plans) to back perm plans placed_plans placed_is_placed no_send w.0) m (complete_before (length plans) to back perm plans placed_plans placed_is_placed no_send w.0 w.1.complete))).all_end;
+      all_end = (ends_placed (length plans) to back perm plans placed_plans placed_is_placed no_send w.0 (ends_in_its_pairs plans no_send (before (length plans) to back perm plans placed_plans placed_is_placed no_send w.0) m (complete_on_original_ranks (length plans) to back perm plans placed_plans placed_is_placed no_send w.0 w.1.complete))).all_end;
     };
   }
     where
@@ -142,7 +142,7 @@ module _ (to back : ℕ → ℕ) (plans : List Plan) (perm : IsPermutation (leng
 
   lengths_placed : HasEqualLengths plans → HasEqualLengths placed_plans
   lengths_placed same m x one =
-      ap length (sym (placed_is_back.moves m)) ∙ (same (placed_op back m) (placed_op back x) (joined_placed (length plans) back to perm_back placed_plans plans placed_is_back m x one) ∙ ap length (placed_is_back.moves x))
+      ap length (sym (placed_is_back.moves m)) ∙ (same (placed_op back m) (placed_op back x) (one_channel_placed (length plans) back to perm_back placed_plans plans placed_is_back m x one) ∙ ap length (placed_is_back.moves x))
 
   touched_back : (x : OpId) → touched plans (placed_op back x) ≡ touched placed_plans x
   unfolding touched
@@ -183,12 +183,12 @@ module _ (to back : ℕ → ℕ) (plans : List Plan) (perm : IsPermutation (leng
 
   ends_before_from_original : (x y : OpId) → EndsBefore plans (placed_op back x) (placed_op back y) → EndsBefore placed_plans x y
   ends_before_from_original x y b =
-      subst (λ (z : OpId). EndsBefore placed_plans z y) (there_and_back (length plans) to back perm x) (subst (λ (z : OpId). EndsBefore placed_plans (placed_op to (placed_op back x)) z) (there_and_back (length plans) to back perm y) (ends_before_placed (placed_op back x) (placed_op back y) b))
+      subst (λ (z : OpId). EndsBefore placed_plans z y) (placed_op_after_back (length plans) to back perm x) (subst (λ (z : OpId). EndsBefore placed_plans (placed_op to (placed_op back x)) z) (placed_op_after_back (length plans) to back perm y) (ends_before_placed (placed_op back x) (placed_op back y) b))
 
   conflict_back : (x y : OpId) → Conflict placed_plans x y → Conflict plans (placed_op back x) (placed_op back y)
   conflict_back x y c = record {
     one_rank = ap back c.one_rank;
-    two = λ e. c.two (same_op_of x y e);
+    two = λ e. c.two (placed_back_is_injective x y e);
     slot = c.slot;
     is_touched = subst (λ (ks : List ℕ). Contains ks c.slot) (sym (touched_back x)) c.is_touched;
     is_written = subst (λ (ks : List ℕ). Contains ks c.slot) (sym (written_back y)) c.is_written;

@@ -1,4 +1,4 @@
--- What does a collective everywhere does it on other ranks, with the root moved along.
+-- A schedule that does a collective everywhere also does it on other ranks, with the root moved along.
 use Rattle.std.proofs.Common.{ℕ, zero, suc, ◌+◌, ◌-◌, ◌<◌, ◌≤◌, ◌==◌, ◌&&◌, ◌≡◌, ⊎_elim, Bool, true, false, nat_lt, nat_le, List, [], ◌∷◌, length, map, if◌then◌else◌, refl, sym, ap, ◌∙◌, subst, arith, zero-add}
 use Rattle.std.specs.List.{range_with_len, list_all}
 use Rattle.std.proofs.lemmas.Bool.{lt-ltb, le-ltb, le-leb, lt-leb, ltb-true, leb-true, both_ways, cases_lt, cases_Bool}
@@ -15,9 +15,9 @@ use Rattle.goal_blocks.proofs.BarrierCertified.{has_one_inserted, has_one_kept_b
 use Rattle.goal_blocks.proofs.Wishes.{is_one_means_equal, is_one_reflexive, value_equal, is_value_reflexive, each_item_passes, one_item_fails}
 use Rattle.goal_blocks.proofs.Picked.{picked, insert_picked, picked_none, picked_all}
 use Rattle.goal_blocks.proofs.RenamedNotes.{renamed_is, renamed_back}
-use Rattle.goal_blocks.proofs.RenamedRight.{right_into}
-use Rattle.goal_blocks.proofs.PlacedAlike.{same_number}
-use Rattle.goal_blocks.proofs.PlacedPlans.{inverse_permutation, placed_is}
+use Rattle.goal_blocks.proofs.RenamedRight.{right_under_renaming}
+use Rattle.goal_blocks.proofs.PlacedAlike.{renaming_keeps_rank_equality}
+use Rattle.goal_blocks.proofs.PlacedPlans.{inverse_permutation, placed_plans_are_placed}
 use Rattle.goal_blocks.proofs.PlacedRight.{placed_right}
 
 -- where items belong to ranks, the item of the permuted rank
@@ -50,14 +50,14 @@ module _ (n : ℕ) (to back : ℕ → ℕ) (perm : IsPermutation n to back) wher
   perm_back = inverse_permutation n to back perm
 
   -- a number is a rank where the renamed one is
-  rank_test : (r : ℕ) → nat_lt (to r) n ≡ nat_lt r n
-  rank_test r =
+  renamed_is_rank : (r : ℕ) → nat_lt (to r) n ≡ nat_lt r n
+  renamed_is_rank r =
       ⊎_elim (λ low. lt-ltb (to r) n (perm.within r low) ∙ sym (lt-ltb r n low)) (λ high. let same = perm.others r high in ap (λ (k : ℕ). nat_lt k n) same) (cases_lt r n)
 
-  -- and one is that of a rank where it is renamed from it
-  back_test : (k r : ℕ) → (k == to r) ≡ (back k == r)
-  back_test k r =
-      ap (λ (q : ℕ). q == to r) (sym (perm.to_back k)) ∙ same_number n to back perm (back k) r
+  -- k is the renamed rank r if and only if renaming k back gives r
+  renamed_equals_if_back_equals : (k r : ℕ) → (k == to r) ≡ (back k == r)
+  renamed_equals_if_back_equals k r =
+      ap (λ (q : ℕ). q == to r) (sym (perm.to_back k)) ∙ renaming_keeps_rank_equality n to back perm (back k) r
 
   -- of each rank the same item, relabelled
   module _ (label : Contribution → Contribution) (i j : ℕ) (labels : (q : ℕ) → label (record { rank = q; item = i }) ≡ record { rank = to q; item = j }) where
@@ -136,16 +136,16 @@ module _ (n : ℕ) (to back : ℕ → ℕ) (perm : IsPermutation n to back) wher
   one_placed label r i c e = ap (λ (d : Contribution). d ∷ []) e
 
   -- the start on other ranks
-  starts_at : (what : Collective) → CanBePlaced what n → (r k : ℕ) → initial_at (moved_along to what) n (to r) k ≡ relabelled (label_for to what) (initial_at what n r (placed_slot back what n k))
-  starts_at (Bcast root) can r k =
-      (λ i. if same_number n to back perm r root i && (k == 0) then single (to root) 0 else []) ∙ if_placed (label_for to (Bcast root)) (single root 0) (single (to root) 0) (one_placed (label_for to (Bcast root)) root 0 (record { rank = to root; item = 0 }) refl) ((r == root) && (k == 0))
-  starts_at Barrier can r k =
+  initial_at_placed : (what : Collective) → CanBePlaced what n → (r k : ℕ) → initial_at (moved_along to what) n (to r) k ≡ relabelled (label_for to what) (initial_at what n r (placed_slot back what n k))
+  initial_at_placed (Bcast root) can r k =
+      (λ i. if renaming_keeps_rank_equality n to back perm r root i && (k == 0) then single (to root) 0 else []) ∙ if_placed (label_for to (Bcast root)) (single root 0) (single (to root) 0) (one_placed (label_for to (Bcast root)) root 0 (record { rank = to root; item = 0 }) refl) ((r == root) && (k == 0))
+  initial_at_placed Barrier can r k =
       if_placed (label_for to Barrier) (single r 0) (single (to r) 0) (one_placed (label_for to Barrier) r 0 (record { rank = to r; item = 0 }) refl) (k == 0)
-  starts_at Allgather can r k =
-      (λ i. if back_test k r i then single (to r) 0 else []) ∙ if_placed (label_for to Allgather) (single r 0) (single (to r) 0) (one_placed (label_for to Allgather) r 0 (record { rank = to r; item = 0 }) refl) (back k == r)
-  starts_at Allreduce can r k =
+  initial_at_placed Allgather can r k =
+      (λ i. if renamed_equals_if_back_equals k r i then single (to r) 0 else []) ∙ if_placed (label_for to Allgather) (single r 0) (single (to r) 0) (one_placed (label_for to Allgather) r 0 (record { rank = to r; item = 0 }) refl) (back k == r)
+  initial_at_placed Allreduce can r k =
       if_placed (label_for to Allreduce) (single r 0) (single (to r) 0) (one_placed (label_for to Allreduce) r 0 (record { rank = to r; item = 0 }) refl) (k == 0)
-  starts_at Alltoall can r k = ⊎_elim first second (cases_lt k n)
+  initial_at_placed Alltoall can r k = ⊎_elim first second (cases_lt k n)
     where
       first : k < n → initial_at Alltoall n (to r) k ≡ relabelled (label_for to Alltoall) (initial_at Alltoall n r (placed_slot back Alltoall n k))
       first low =
@@ -160,26 +160,26 @@ module _ (n : ℕ) (to back : ℕ → ℕ) (perm : IsPermutation n to back) wher
           ap (λ (b : Bool). if b then single (to r) k else []) (le-ltb k n high)
           ∙ (if_placed (label_for to Alltoall) (single r (n + back (k - n))) (relabelled (label_for to Alltoall) (single r (n + back (k - n)))) refl false
           ∙ (ap (λ (b : Bool). relabelled (label_for to Alltoall) (if b then single r (n + back (k - n)) else [])) (sym (le-ltb (n + back (k - n)) n (omega arith))) ∙ ap (λ (q : ℕ). relabelled (label_for to Alltoall) (initial_at Alltoall n r q)) (sym there)))
-  starts_at (Reduce root) can r k =
+  initial_at_placed (Reduce root) can r k =
       if_placed (label_for to (Reduce root)) (single r 0) (single (to r) 0) (one_placed (label_for to (Reduce root)) r 0 (record { rank = to r; item = 0 }) refl) (k == 0)
-  starts_at (Gather root) can r k =
-      (λ i. if back_test k r i then single (to r) 0 else []) ∙ if_placed (label_for to (Gather root)) (single r 0) (single (to r) 0) (one_placed (label_for to (Gather root)) r 0 (record { rank = to r; item = 0 }) refl) (back k == r)
-  starts_at (Scatter root) can r k =
-      (λ i. if same_number n to back perm r root i && sym (rank_back k) i then single (to root) k else []) ∙ if_placed (label_for to (Scatter root)) (single root (back k)) (single (to root) k) (one_placed (label_for to (Scatter root)) root (back k) (record { rank = to root; item = k }) (λ i. record { rank = to root; item = perm.to_back k i })) ((r == root) && nat_lt (back k) n)
+  initial_at_placed (Gather root) can r k =
+      (λ i. if renamed_equals_if_back_equals k r i then single (to r) 0 else []) ∙ if_placed (label_for to (Gather root)) (single r 0) (single (to r) 0) (one_placed (label_for to (Gather root)) r 0 (record { rank = to r; item = 0 }) refl) (back k == r)
+  initial_at_placed (Scatter root) can r k =
+      (λ i. if renaming_keeps_rank_equality n to back perm r root i && sym (rank_back k) i then single (to root) k else []) ∙ if_placed (label_for to (Scatter root)) (single root (back k)) (single (to root) k) (one_placed (label_for to (Scatter root)) root (back k) (record { rank = to root; item = k }) (λ i. record { rank = to root; item = perm.to_back k i })) ((r == root) && nat_lt (back k) n)
     where
       rank_back : (q : ℕ) → nat_lt (back q) n ≡ nat_lt q n
-      rank_back q = sym (rank_test (back q)) ∙ ap (λ (p : ℕ). nat_lt p n) (perm.to_back q)
-  starts_at ReduceScatter can r k =
+      rank_back q = sym (renamed_is_rank (back q)) ∙ ap (λ (p : ℕ). nat_lt p n) (perm.to_back q)
+  initial_at_placed ReduceScatter can r k =
       (λ i. if sym (rank_back k) i then single (to r) k else []) ∙ if_placed (label_for to ReduceScatter) (single r (back k)) (single (to r) k) (one_placed (label_for to ReduceScatter) r (back k) (record { rank = to r; item = k }) (λ i. record { rank = to r; item = perm.to_back k i })) (nat_lt (back k) n)
     where
       rank_back : (q : ℕ) → nat_lt (back q) n ≡ nat_lt q n
-      rank_back q = sym (rank_test (back q)) ∙ ap (λ (p : ℕ). nat_lt p n) (perm.to_back q)
-  starts_at Scan can r k = absurd can
+      rank_back q = sym (renamed_is_rank (back q)) ∙ ap (λ (p : ℕ). nat_lt p n) (perm.to_back q)
+  initial_at_placed Scan can r k = absurd can
 
-  placed_starts : (what : Collective) → CanBePlaced what n → (r k : ℕ) → initial (moved_along to what) n (to r) k ≡ relabelled (label_for to what) (initial what n r (placed_slot back what n k))
+  initial_placed : (what : Collective) → CanBePlaced what n → (r k : ℕ) → initial (moved_along to what) n (to r) k ≡ relabelled (label_for to what) (initial what n r (placed_slot back what n k))
   unfolding initial
-  placed_starts what can r k =
-      (λ i. if rank_test r i then initial_at (moved_along to what) n (to r) k else []) ∙ if_placed (label_for to what) (initial_at what n r (placed_slot back what n k)) (initial_at (moved_along to what) n (to r) k) (sym (starts_at what can r k)) (nat_lt r n)
+  initial_placed what can r k =
+      (λ i. if renamed_is_rank r i then initial_at (moved_along to what) n (to r) k else []) ∙ if_placed (label_for to what) (initial_at what n r (placed_slot back what n k)) (initial_at (moved_along to what) n (to r) k) (sym (initial_at_placed what can r k)) (nat_lt r n)
 
   -- what is wanted of a value, and of it relabelled
   module _ (label : Contribution → Contribution) where
@@ -203,28 +203,28 @@ module _ (n : ℕ) (to back : ℕ → ℕ) (perm : IsPermutation n to back) wher
             ap (has_one (relabelled label v)) (sym (labels (back q) ∙ λ i. record { rank = perm.to_back q i; item = 0 })) ∙ has_placed label v (record { rank = back q; item = 0 }) had
 
   rank_back : (q : ℕ) → nat_lt (back q) n ≡ nat_lt q n
-  rank_back q = sym (rank_test (back q)) ∙ ap (λ (p : ℕ). nat_lt p n) (perm.to_back q)
+  rank_back q = sym (renamed_is_rank (back q)) ∙ ap (λ (p : ℕ). nat_lt p n) (perm.to_back q)
 
-  -- what is asked under one test, and what under another that tells the same
-  asked_so : (a b asked told : Bool) → a ≡ b → (asked ≡ true → told ≡ true) → (if a then asked else true) ≡ true → (if b then told else true) ≡ true
-  asked_so a b asked told e so is =
+  -- an implication between two conditions carries over when equal tests guard them
+  implication_under_equal_tests : (a b asked told : Bool) → a ≡ b → (asked ≡ true → told ≡ true) → (if a then asked else true) ≡ true → (if b then told else true) ≡ true
+  implication_under_equal_tests a b asked told e so is =
       ap (λ (c : Bool). if c then told else true) (sym e) ∙ when_asked (λ (c : Contribution). c) a asked told so is
 
   -- at a root that is a rank
-  root_is : (root r : ℕ) (k : Bool) (u v : Bool) → root < n → (if nat_lt root n then (if r == root then u else true) else (if (r == 0) && k then v else true)) ≡ (if r == root then u else true)
-  root_is root r k u v inside =
+  condition_at_valid_root : (root r : ℕ) (k : Bool) (u v : Bool) → root < n → (if nat_lt root n then (if r == root then u else true) else (if (r == 0) && k then v else true)) ≡ (if r == root then u else true)
+  condition_at_valid_root root r k u v inside =
       ap (λ (b : Bool). if b then (if r == root then u else true) else (if (r == 0) && k then v else true)) (lt-ltb root n inside)
 
-  asks_at : (what : Collective) → CanBePlaced what n → (r k : ℕ) (v : Value) → wanted_at what n r (placed_slot back what n k) v ≡ true → wanted_at (moved_along to what) n (to r) k (relabelled (label_for to what) v) ≡ true
-  asks_at (Bcast root) can r k v is =
-      asked_so (k == 0) (k == 0) (is_value v (single root 0)) (is_value (relabelled (label_for to (Bcast root)) v) (single (to root) 0)) refl (is_placed (label_for to (Bcast root)) v (single root 0) (single (to root) 0) (one_placed (label_for to (Bcast root)) root 0 (record { rank = to root; item = 0 }) refl)) is
-  asks_at Barrier can r k v is =
-      asked_so (k == 0) (k == 0) (list_all (has_one v) (of_each n 0)) (list_all (has_one (relabelled (label_for to Barrier) v)) (of_each n 0)) refl (all_placed (label_for to Barrier) v (λ q. refl)) is
-  asks_at Allgather can r k v is =
-      asked_so (nat_lt (back k) n) (nat_lt k n) (is_value v (single (back k) 0)) (is_value (relabelled (label_for to Allgather) v) (single k 0)) (rank_back k) (is_placed (label_for to Allgather) v (single (back k) 0) (single k 0) (one_placed (label_for to Allgather) (back k) 0 (record { rank = k; item = 0 }) (λ i. record { rank = perm.to_back k i; item = 0 }))) is
-  asks_at Allreduce can r k v is =
-      asked_so (k == 0) (k == 0) (is_value v (of_each n 0)) (is_value (relabelled (label_for to Allreduce) v) (of_each n 0)) refl (is_placed (label_for to Allreduce) v (of_each n 0) (of_each n 0) (each_placed (label_for to Allreduce) 0 0 (λ q. refl))) is
-  asks_at Alltoall can r k v is = ⊎_elim first second (cases_lt k n)
+  wanted_at_placed : (what : Collective) → CanBePlaced what n → (r k : ℕ) (v : Value) → wanted_at what n r (placed_slot back what n k) v ≡ true → wanted_at (moved_along to what) n (to r) k (relabelled (label_for to what) v) ≡ true
+  wanted_at_placed (Bcast root) can r k v is =
+      implication_under_equal_tests (k == 0) (k == 0) (is_value v (single root 0)) (is_value (relabelled (label_for to (Bcast root)) v) (single (to root) 0)) refl (is_placed (label_for to (Bcast root)) v (single root 0) (single (to root) 0) (one_placed (label_for to (Bcast root)) root 0 (record { rank = to root; item = 0 }) refl)) is
+  wanted_at_placed Barrier can r k v is =
+      implication_under_equal_tests (k == 0) (k == 0) (list_all (has_one v) (of_each n 0)) (list_all (has_one (relabelled (label_for to Barrier) v)) (of_each n 0)) refl (all_placed (label_for to Barrier) v (λ q. refl)) is
+  wanted_at_placed Allgather can r k v is =
+      implication_under_equal_tests (nat_lt (back k) n) (nat_lt k n) (is_value v (single (back k) 0)) (is_value (relabelled (label_for to Allgather) v) (single k 0)) (rank_back k) (is_placed (label_for to Allgather) v (single (back k) 0) (single k 0) (one_placed (label_for to Allgather) (back k) 0 (record { rank = k; item = 0 }) (λ i. record { rank = perm.to_back k i; item = 0 }))) is
+  wanted_at_placed Allreduce can r k v is =
+      implication_under_equal_tests (k == 0) (k == 0) (is_value v (of_each n 0)) (is_value (relabelled (label_for to Allreduce) v) (of_each n 0)) refl (is_placed (label_for to Allreduce) v (of_each n 0) (of_each n 0) (each_placed (label_for to Allreduce) 0 0 (λ q. refl))) is
+  wanted_at_placed Alltoall can r k v is = ⊎_elim first second (cases_lt k n)
     where
       label : Contribution → Contribution
       label = label_for to Alltoall
@@ -235,7 +235,7 @@ module _ (n : ℕ) (to back : ℕ → ℕ) (perm : IsPermutation n to back) wher
 
       second : n ≤ k → wanted_at Alltoall n (to r) k (relabelled (label_for to Alltoall) v) ≡ true
       second high =
-          asked_so (nat_le n (n + back (k - n)) && nat_lt (n + back (k - n)) (n + n)) (nat_le n k && nat_lt k (n + n)) (is_value v (single (n + back (k - n) - n) r)) (is_value (relabelled (label_for to Alltoall) v) (single (k - n) (to r))) tests (is_placed (label_for to Alltoall) v (single (n + back (k - n) - n) r) (single (k - n) (to r)) (one_placed (label_for to Alltoall) (n + back (k - n) - n) r (record { rank = k - n; item = to r }) (λ i. record { rank = name i; item = to r }))) (ap (λ (q : ℕ). wanted_at Alltoall n r q v) (sym there) ∙ is)
+          implication_under_equal_tests (nat_le n (n + back (k - n)) && nat_lt (n + back (k - n)) (n + n)) (nat_le n k && nat_lt k (n + n)) (is_value v (single (n + back (k - n) - n) r)) (is_value (relabelled (label_for to Alltoall) v) (single (k - n) (to r))) tests (is_placed (label_for to Alltoall) v (single (n + back (k - n) - n) r) (single (k - n) (to r)) (one_placed (label_for to Alltoall) (n + back (k - n) - n) r (record { rank = k - n; item = to r }) (λ i. record { rank = name i; item = to r }))) (ap (λ (q : ℕ). wanted_at Alltoall n r q v) (sym there) ∙ is)
         where
           there : placed_slot back Alltoall n k ≡ n + back (k - n)
           there =
@@ -257,62 +257,62 @@ module _ (n : ℕ) (to back : ℕ → ℕ) (perm : IsPermutation n to back) wher
           tests : (nat_le n (n + back (k - n)) && nat_lt (n + back (k - n)) (n + n)) ≡ (nat_le n k && nat_lt k (n + n))
           tests =
               (λ i. le-leb n (n + back (k - n)) (omega arith) i && (both (back (k - n)) ∙ (rank_back (k - n) ∙ (sym (both (k - n)) ∙ ap (λ (q : ℕ). nat_lt q (n + n)) end))) i) ∙ (λ i. sym (le-leb n k high) i && nat_lt k (n + n))
-  asks_at (Reduce root) can r k v is =
-      asked_so (k == 0) (k == 0) (if nat_lt root n then (if r == root then is_value v (of_each n 0) else true) else (if (r == 0) && (k == 0) then is_value v (single root 0) else true)) (if nat_lt (to root) n then (if to r == to root then is_value (relabelled (label_for to (Reduce root)) v) (of_each n 0) else true) else (if (to r == 0) && (k == 0) then is_value (relabelled (label_for to (Reduce root)) v) (single (to root) 0) else true)) refl inner is
+  wanted_at_placed (Reduce root) can r k v is =
+      implication_under_equal_tests (k == 0) (k == 0) (if nat_lt root n then (if r == root then is_value v (of_each n 0) else true) else (if (r == 0) && (k == 0) then is_value v (single root 0) else true)) (if nat_lt (to root) n then (if to r == to root then is_value (relabelled (label_for to (Reduce root)) v) (of_each n 0) else true) else (if (to r == 0) && (k == 0) then is_value (relabelled (label_for to (Reduce root)) v) (single (to root) 0) else true)) refl inner is
     where
       inner : (if nat_lt root n then (if r == root then is_value v (of_each n 0) else true) else (if (r == 0) && (k == 0) then is_value v (single root 0) else true)) ≡ true → (if nat_lt (to root) n then (if to r == to root then is_value (relabelled (label_for to (Reduce root)) v) (of_each n 0) else true) else (if (to r == 0) && (k == 0) then is_value (relabelled (label_for to (Reduce root)) v) (single (to root) 0) else true)) ≡ true
       inner asked =
-          root_is (to root) (to r) (k == 0) (is_value (relabelled (label_for to (Reduce root)) v) (of_each n 0)) (is_value (relabelled (label_for to (Reduce root)) v) (single (to root) 0)) (perm.within root can)
-          ∙ asked_so (r == root) (to r == to root) (is_value v (of_each n 0)) (is_value (relabelled (label_for to (Reduce root)) v) (of_each n 0)) (sym (same_number n to back perm r root)) (is_placed (label_for to (Reduce root)) v (of_each n 0) (of_each n 0) (each_placed (label_for to (Reduce root)) 0 0 (λ q. refl))) (sym (root_is root r (k == 0) (is_value v (of_each n 0)) (is_value v (single root 0)) can) ∙ asked)
-  asks_at (Gather root) can r k v is =
-      asked_so (nat_lt (back k) n) (nat_lt k n) (if nat_lt root n then (if r == root then is_value v (single (back k) 0) else true) else (if (r == 0) && (back k == 0) then is_value v (single root 0) else true)) (if nat_lt (to root) n then (if to r == to root then is_value (relabelled (label_for to (Gather root)) v) (single k 0) else true) else (if (to r == 0) && (k == 0) then is_value (relabelled (label_for to (Gather root)) v) (single (to root) 0) else true)) (rank_back k) inner is
+          condition_at_valid_root (to root) (to r) (k == 0) (is_value (relabelled (label_for to (Reduce root)) v) (of_each n 0)) (is_value (relabelled (label_for to (Reduce root)) v) (single (to root) 0)) (perm.within root can)
+          ∙ implication_under_equal_tests (r == root) (to r == to root) (is_value v (of_each n 0)) (is_value (relabelled (label_for to (Reduce root)) v) (of_each n 0)) (sym (renaming_keeps_rank_equality n to back perm r root)) (is_placed (label_for to (Reduce root)) v (of_each n 0) (of_each n 0) (each_placed (label_for to (Reduce root)) 0 0 (λ q. refl))) (sym (condition_at_valid_root root r (k == 0) (is_value v (of_each n 0)) (is_value v (single root 0)) can) ∙ asked)
+  wanted_at_placed (Gather root) can r k v is =
+      implication_under_equal_tests (nat_lt (back k) n) (nat_lt k n) (if nat_lt root n then (if r == root then is_value v (single (back k) 0) else true) else (if (r == 0) && (back k == 0) then is_value v (single root 0) else true)) (if nat_lt (to root) n then (if to r == to root then is_value (relabelled (label_for to (Gather root)) v) (single k 0) else true) else (if (to r == 0) && (k == 0) then is_value (relabelled (label_for to (Gather root)) v) (single (to root) 0) else true)) (rank_back k) inner is
     where
       inner : (if nat_lt root n then (if r == root then is_value v (single (back k) 0) else true) else (if (r == 0) && (back k == 0) then is_value v (single root 0) else true)) ≡ true → (if nat_lt (to root) n then (if to r == to root then is_value (relabelled (label_for to (Gather root)) v) (single k 0) else true) else (if (to r == 0) && (k == 0) then is_value (relabelled (label_for to (Gather root)) v) (single (to root) 0) else true)) ≡ true
       inner asked =
-          root_is (to root) (to r) (k == 0) (is_value (relabelled (label_for to (Gather root)) v) (single k 0)) (is_value (relabelled (label_for to (Gather root)) v) (single (to root) 0)) (perm.within root can)
-          ∙ asked_so (r == root) (to r == to root) (is_value v (single (back k) 0)) (is_value (relabelled (label_for to (Gather root)) v) (single k 0)) (sym (same_number n to back perm r root)) (is_placed (label_for to (Gather root)) v (single (back k) 0) (single k 0) (one_placed (label_for to (Gather root)) (back k) 0 (record { rank = k; item = 0 }) (λ i. record { rank = perm.to_back k i; item = 0 }))) (sym (root_is root r (back k == 0) (is_value v (single (back k) 0)) (is_value v (single root 0)) can) ∙ asked)
-  asks_at (Scatter root) can r k v is =
-      asked_so (back k == r) (k == to r) (is_value v (single root r)) (is_value (relabelled (label_for to (Scatter root)) v) (single (to root) (to r))) (sym (back_test k r)) (is_placed (label_for to (Scatter root)) v (single root r) (single (to root) (to r)) (one_placed (label_for to (Scatter root)) root r (record { rank = to root; item = to r }) refl)) is
-  asks_at ReduceScatter can r k v is =
-      asked_so (back k == r) (k == to r) (is_value v (of_each n r)) (is_value (relabelled (label_for to ReduceScatter) v) (of_each n (to r))) (sym (back_test k r)) (is_placed (label_for to ReduceScatter) v (of_each n r) (of_each n (to r)) (each_placed (label_for to ReduceScatter) r (to r) (λ q. refl))) is
-  asks_at Scan can r k v is = absurd can
+          condition_at_valid_root (to root) (to r) (k == 0) (is_value (relabelled (label_for to (Gather root)) v) (single k 0)) (is_value (relabelled (label_for to (Gather root)) v) (single (to root) 0)) (perm.within root can)
+          ∙ implication_under_equal_tests (r == root) (to r == to root) (is_value v (single (back k) 0)) (is_value (relabelled (label_for to (Gather root)) v) (single k 0)) (sym (renaming_keeps_rank_equality n to back perm r root)) (is_placed (label_for to (Gather root)) v (single (back k) 0) (single k 0) (one_placed (label_for to (Gather root)) (back k) 0 (record { rank = k; item = 0 }) (λ i. record { rank = perm.to_back k i; item = 0 }))) (sym (condition_at_valid_root root r (back k == 0) (is_value v (single (back k) 0)) (is_value v (single root 0)) can) ∙ asked)
+  wanted_at_placed (Scatter root) can r k v is =
+      implication_under_equal_tests (back k == r) (k == to r) (is_value v (single root r)) (is_value (relabelled (label_for to (Scatter root)) v) (single (to root) (to r))) (sym (renamed_equals_if_back_equals k r)) (is_placed (label_for to (Scatter root)) v (single root r) (single (to root) (to r)) (one_placed (label_for to (Scatter root)) root r (record { rank = to root; item = to r }) refl)) is
+  wanted_at_placed ReduceScatter can r k v is =
+      implication_under_equal_tests (back k == r) (k == to r) (is_value v (of_each n r)) (is_value (relabelled (label_for to ReduceScatter) v) (of_each n (to r))) (sym (renamed_equals_if_back_equals k r)) (is_placed (label_for to ReduceScatter) v (of_each n r) (of_each n (to r)) (each_placed (label_for to ReduceScatter) r (to r) (λ q. refl))) is
+  wanted_at_placed Scan can r k v is = absurd can
 
-  placed_wishes : (what : Collective) → CanBePlaced what n → (r k : ℕ) (v : Value) → wanted what n r (placed_slot back what n k) v ≡ true → wanted (moved_along to what) n (to r) k (relabelled (label_for to what) v) ≡ true
+  wanted_values_placed : (what : Collective) → CanBePlaced what n → (r k : ℕ) (v : Value) → wanted what n r (placed_slot back what n k) v ≡ true → wanted (moved_along to what) n (to r) k (relabelled (label_for to what) v) ≡ true
   unfolding wanted
-  placed_wishes what can r k v is =
-      asked_so (nat_lt r n) (nat_lt (to r) n) (wanted_at what n r (placed_slot back what n k) v) (wanted_at (moved_along to what) n (to r) k (relabelled (label_for to what) v)) (sym (rank_test r)) (asks_at what can r k v) is
+  wanted_values_placed what can r k v is =
+      implication_under_equal_tests (nat_lt r n) (nat_lt (to r) n) (wanted_at what n r (placed_slot back what n k) v) (wanted_at (moved_along to what) n (to r) k (relabelled (label_for to what) v)) (sym (renamed_is_rank r)) (wanted_at_placed what can r k v) is
 
 module _ (what : Collective) (to back : ℕ → ℕ) (plans : List Plan) (perm : IsPermutation (length plans) to back) where
   -- the names of the slots, and the schedule with these
   abbrev name : ℕ → ℕ → ℕ
   name rank slot = placed_slot to what (length plans) slot
 
-  abbrev old : ℕ → ℕ → ℕ
-  old rank slot = placed_slot back what (length plans) slot
+  abbrev old_slot_number : ℕ → ℕ → ℕ
+  old_slot_number rank slot = placed_slot back what (length plans) slot
 
-  abbrev mid : List Plan
-  mid = renamed name plans
+  abbrev plans_with_new_slots : List Plan
+  plans_with_new_slots = renamed name plans
 
-  mid_is : IsRenamed name plans mid
-  mid_is = renamed_is name plans
+  new_slots_are_renamed : IsRenamed name plans plans_with_new_slots
+  new_slots_are_renamed = renamed_is name plans
 
-  exchange_is_undone : IsUndoneBy name old
+  exchange_is_undone : IsUndoneBy name old_slot_number
   exchange_is_undone = record {
     back = λ rank slot. slot_back (length plans) to back perm what slot;
     forth = λ rank slot. slot_back (length plans) back to (inverse_permutation (length plans) to back perm) what slot;
   }
 
   -- right with the slots renamed
-  mid_right : IsRightFor what plans → IsRightEverywhere mid (under old (initial what (length plans))) (under old (wanted what (length plans)))
-  mid_right right =
-      right_into old name mid plans (record { back = exchange_is_undone.forth; forth = exchange_is_undone.back }) (renamed_back name old plans mid exchange_is_undone mid_is) (initial what (length plans)) (wanted what (length plans)) right
+  new_slots_are_right : IsRightFor what plans → IsRightEverywhere plans_with_new_slots (under old_slot_number (initial what (length plans))) (under old_slot_number (wanted what (length plans)))
+  new_slots_are_right right =
+      right_under_renaming old_slot_number name plans_with_new_slots plans (record { back = exchange_is_undone.forth; forth = exchange_is_undone.back }) (renamed_back name old_slot_number plans plans_with_new_slots exchange_is_undone new_slots_are_renamed) (initial what (length plans)) (wanted what (length plans)) right
 
-  perm_mid : IsPermutation (length mid) to back
-  perm_mid = subst (λ (n : ℕ). IsPermutation n to back) (sym mid_is.ranks) perm
+  permutation_with_new_slots : IsPermutation (length plans_with_new_slots) to back
+  permutation_with_new_slots = subst (λ (n : ℕ). IsPermutation n to back) (sym new_slots_are_renamed.ranks) perm
 
-  placed_mid : IsPlaced to mid (placed to back mid)
-  placed_mid = placed_is to back mid perm_mid
+  placed_with_new_slots : IsPlaced to plans_with_new_slots (placed to back plans_with_new_slots)
+  placed_with_new_slots = placed_plans_are_placed to back plans_with_new_slots permutation_with_new_slots
 
   pub placed_for_right : CanBePlaced what (length plans) → IsRightFor what plans → IsRightFor (moved_along to what) (placed_for what to back plans)
   placed_for_right can right =
-      subst (λ (n : ℕ). IsRightEverywhere (placed to back mid) (initial (moved_along to what) n) (wanted (moved_along to what) n)) (sym (placed_mid.ranks ∙ mid_is.ranks)) (placed_right to back mid (placed to back mid) (label_for to what) (under old (initial what (length plans))) (initial (moved_along to what) (length plans)) (under old (wanted what (length plans))) (wanted (moved_along to what) (length plans)) perm_mid placed_mid (λ r k. placed_starts (length plans) to back perm what can r k) (λ r k v low is. placed_wishes (length plans) to back perm what can r k v is) (mid_right right))
+      subst (λ (n : ℕ). IsRightEverywhere (placed to back plans_with_new_slots) (initial (moved_along to what) n) (wanted (moved_along to what) n)) (sym (placed_with_new_slots.ranks ∙ new_slots_are_renamed.ranks)) (placed_right to back plans_with_new_slots (placed to back plans_with_new_slots) (label_for to what) (under old_slot_number (initial what (length plans))) (initial (moved_along to what) (length plans)) (under old_slot_number (wanted what (length plans))) (wanted (moved_along to what) (length plans)) permutation_with_new_slots placed_with_new_slots (λ r k. initial_placed (length plans) to back perm what can r k) (λ r k v low is. wanted_values_placed (length plans) to back perm what can r k v is) (new_slots_are_right right))

@@ -44,8 +44,8 @@ module _ (to back : ℕ → ℕ) (plans : List Plan) (perm : IsPermutation (leng
   unfolding placed
   plan_placed_at r d low = get_or-map-range_with_len plan_of 0 (length plans) r r d low (zero-add r)
 
-  plan_known : (r : ℕ) → r < length plans → slice_get plans r ≡ Some (plan_at plans r)
-  plan_known r low = go (slice_get plans r) (slice_get-get_or plans r (plan_at plans r) low)
+  slice_get_is_plan_at : (r : ℕ) → r < length plans → slice_get plans r ≡ Some (plan_at plans r)
+  slice_get_is_plan_at r low = go (slice_get plans r) (slice_get-get_or plans r (plan_at plans r) low)
     where
       go : (o : Option Plan) → o ≡ Some (get_or plans r (plan_at plans r)) → o ≡ Some (unwrap_or o (record { ops = []; deps = []; notes = [] }))
       go None e = cc e
@@ -60,7 +60,7 @@ module _ (to back : ℕ → ℕ) (plans : List Plan) (perm : IsPermutation (leng
           let there = perm.within r low in
           let size = length_placed in
           slice_get-get_or (placed to back plans) (to r) (plan_of (to r)) (omega (arith, there, size))
-          ∙ (ap (λ (p : Plan). Some p) (plan_placed_at (to r) (plan_of (to r)) there) ∙ (ap (λ (q : ℕ). Some (placed_plan to (plan_at plans q))) (perm.back_to r) ∙ ap (option_map (placed_plan to)) (sym (plan_known r low))))
+          ∙ (ap (λ (p : Plan). Some p) (plan_placed_at (to r) (plan_of (to r)) there) ∙ (ap (λ (q : ℕ). Some (placed_plan to (plan_at plans q))) (perm.back_to r) ∙ ap (option_map (placed_plan to)) (sym (slice_get_is_plan_at r low))))
 
       outside : length plans ≤ r → slice_get (placed to back plans) (to r) ≡ option_map (placed_plan to) (slice_get plans r)
       outside high =
@@ -108,8 +108,8 @@ module _ (to back : ℕ → ℕ) (plans : List Plan) (perm : IsPermutation (leng
   unfolding adds
   added_placed x = ap (flat_map (added_by x.op)) (notes_placed x.rank)
 
-  pub placed_is : IsPlaced to plans (placed to back plans)
-  placed_is = record {
+  pub placed_plans_are_placed : IsPlaced to plans (placed to back plans)
+  placed_plans_are_placed = record {
     ranks = length_placed;
     ops = ops_placed;
     needs = needs_placed;
@@ -132,19 +132,19 @@ module _ (ranks : ℕ) (to back : ℕ → ℕ) (perm : IsPermutation ranks to ba
   op_of_back (Some p) =
       λ i. Some (record { kind = kind_back p.kind i; cpu = p.cpu; nic = p.nic })
 
-  pub there_and_back : (x : OpId) → placed_op to (placed_op back x) ≡ x
-  there_and_back x = λ i. record { rank = perm.to_back x.rank i; op = x.op }
+  pub placed_op_after_back : (x : OpId) → placed_op to (placed_op back x) ≡ x
+  placed_op_after_back x = λ i. record { rank = perm.to_back x.rank i; op = x.op }
 
   pub acts_back : (h : List Act) → map (placed_act to) (map (placed_act back) h) ≡ h
   acts_back [] = refl
   acts_back (a ∷ h) =
-      λ i. record { class = a.class; op = there_and_back a.op i } ∷ acts_back h i
+      λ i. record { class = a.class; op = placed_op_after_back a.op i } ∷ acts_back h i
 
   pub placed_back : (plans other : List Plan) → IsPlaced to plans other → IsPlaced back other plans
   placed_back plans other is = record {
     ranks = sym is.ranks;
-    ops = λ y. sym (op_of_back (op_at plans (placed_op back y))) ∙ (ap (option_map (placed_of back)) (sym (is.ops (placed_op back y))) ∙ ap (λ (x : OpId). option_map (placed_of back) (op_at other x)) (there_and_back y));
-    needs = λ y. sym (is.needs (placed_op back y)) ∙ ap (needs other) (there_and_back y);
-    moves = λ y. sym (is.moves (placed_op back y)) ∙ ap (slots other) (there_and_back y);
-    adds = λ y. sym (is.adds (placed_op back y)) ∙ ap (adds other) (there_and_back y);
+    ops = λ y. sym (op_of_back (op_at plans (placed_op back y))) ∙ (ap (option_map (placed_of back)) (sym (is.ops (placed_op back y))) ∙ ap (λ (x : OpId). option_map (placed_of back) (op_at other x)) (placed_op_after_back y));
+    needs = λ y. sym (is.needs (placed_op back y)) ∙ ap (needs other) (placed_op_after_back y);
+    moves = λ y. sym (is.moves (placed_op back y)) ∙ ap (slots other) (placed_op_after_back y);
+    adds = λ y. sym (is.adds (placed_op back y)) ∙ ap (adds other) (placed_op_after_back y);
   }

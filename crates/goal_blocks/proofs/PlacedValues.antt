@@ -13,7 +13,7 @@ use Rattle.goal_blocks.specs.Slots.{Adding, slots, adds}
 use Rattle.goal_blocks.specs.Values.{Contribution, Value, Store, Held, is_lower, insert_one, merge, set_slot, write, add_all, payload_from, read, change, held_after}
 use Rattle.goal_blocks.specs.Placed.{IsPermutation, IsPlaced, placed_op, placed_act, placed_kind, relabelled}
 use Rattle.goal_blocks.proofs.Gathered.{insert_swap, merge_insert}
-use Rattle.goal_blocks.proofs.PlacedAlike.{same_number, same_place_op, kind_placed, mate_placed}
+use Rattle.goal_blocks.proofs.PlacedAlike.{renaming_keeps_rank_equality, same_place_op, kind_placed, mate_placed}
 
 module _ (label : Contribution → Contribution) where
   relabelled_insert : (c : Contribution) (v : Value) → relabelled label (insert_one c v) ≡ insert_one (label c) (relabelled label v)
@@ -41,7 +41,7 @@ module _ (label : Contribution → Contribution) where
     set_placed : (rank slot : ℕ) (v w : Value) (store other : Store) → w ≡ relabelled label v → IsStoreOf store other → IsStoreOf (set_slot rank slot v store) (set_slot (to rank) slot w other)
     unfolding set_slot
     set_placed rank slot v w store other same is r k =
-        (λ i. if same_number ranks to back perm r rank i && (k == slot) then same i else is r k i) ∙ go ((r == rank) && (k == slot))
+        (λ i. if renaming_keeps_rank_equality ranks to back perm r rank i && (k == slot) then same i else is r k i) ∙ go ((r == rank) && (k == slot))
       where
         go : (b : Bool) → (if b then relabelled label v else relabelled label (store r k)) ≡ relabelled label (if b then v else store r k)
         go true = refl

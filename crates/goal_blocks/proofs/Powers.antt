@@ -18,21 +18,21 @@ ones_of_one : count_ones 1 ≡ 1
 unfolding ones ones_in
 ones_of_one = refl
 
-same_test : (m : ℕ) → eqb m 1 ≡ true → m ≡ 1
-same_test m h = grind (arith, nat_tests)
+is_one_from_test : (m : ℕ) → eqb m 1 ≡ true → m ≡ 1
+is_one_from_test m h = grind (arith, nat_tests)
 
-some_ones : (n : ℕ) → is_power_of_two n ≡ true → 0 < n
-some_ones zero h = absurd (omega (arith, same_test (count_ones 0) h, ones_of_zero))
-some_ones (suc n) h = omega arith
+power_of_two_is_positive : (n : ℕ) → is_power_of_two n ≡ true → 0 < n
+power_of_two_is_positive zero h = absurd (omega (arith, is_one_from_test (count_ones 0) h, ones_of_zero))
+power_of_two_is_positive (suc n) h = omega arith
 
 -- a number with one binary digit 1
 pub power_from_test : (n : ℕ) → n < 2 ^ 32 → is_power_of_two n ≡ true → IsPowerOfTwo n
 power_from_test n small one =
-    let top = leading_top 32 n (some_ones n one) small in
+    let top = leading_top 32 n (power_of_two_is_positive n one) small in
     let below : n - 2 ^ top.0 < 2 ^ top.0 = omega (arith, top.2, top.3, pow-suc 2 top.0) in
     let parts : 1 * 2 ^ top.0 + (n - 2 ^ top.0) ≡ n = omega (arith, top.2) in
     let count = ones_cat top.0 1 (n - 2 ^ top.0) below in
-    let one' : count_ones n ≡ 1 = same_test (count_ones n) one in
+    let one' : count_ones n ≡ 1 = is_one_from_test (count_ones n) one in
     let rest : count_ones (n - 2 ^ top.0) ≡ 0 = omega (arith, rw parts at count, one', ones_of_one) in
     let none = zero_from_ones (n - 2 ^ top.0) rest in
     (top.0, omega (arith, none, top.2))

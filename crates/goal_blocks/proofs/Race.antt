@@ -13,7 +13,7 @@ use Rattle.goal_blocks.specs.Laws.{AlwaysEndsFirst}
 
 module _ (plans : List Plan) where
   module _ (eager : OpId → Bool) (h : List Act) (run : IsInterleaving plans eager h) where
-    -- an operation whose awaited moment is there was ready
+    -- an operation that has started or ended, whichever is awaited, was ready
     met_ready : (w : When) (y : OpId) → is_met plans eager h w y ≡ true → is_ready plans eager h y ≡ true
     met_ready AfterEnd y e = started_ready plans eager h y run (ended_started plans eager h y run e)
     met_ready AfterStart y e = started_ready plans eager h y run e

@@ -22,9 +22,9 @@ use Rattle.goal_blocks.specs.Generated.{made}
 use Rattle.goal_blocks.proofs.Orders.{Mem}
 use Rattle.goal_blocks.proofs.Slim.{All_one}
 use Rattle.goal_blocks.proofs.EntryFacts.{slots_of_span, length_plans}
-use Rattle.goal_blocks.proofs.Ring.{ahead_is, back_is, back_ahead, ahead_back}
+use Rattle.goal_blocks.proofs.Ring.{ahead_cases, back_cases, back_ahead, ahead_back}
 use Rattle.goal_blocks.proofs.RingAndTree.{ahead_below, back_below}
-use Rattle.goal_blocks.proofs.MadePaired.{at, same_place}
+use Rattle.goal_blocks.proofs.MadePaired.{at, at_of_equal_numbers}
 use Rattle.goal_blocks.proofs.Sizes.{sum_below_few, sum_low_few, entries_small}
 use Rattle.goal_blocks.proofs.Totals.{entries_few, sum_range_few}
 use Rattle.goal_blocks.proofs.AllgatherCertified.{slots_of_single_slot}
@@ -43,9 +43,9 @@ module _ (ranks bytes : ℕ) (some : 0 < ranks) (few : ranks ≤ 128) where
   abbrev first : Store
   first = initial ReduceScatter ranks
 
-  -- back by 1 up to all ranks, each comes once
+  -- going back by 1 to `ranks` places from r reaches each rank once
   back_injective_up_to_ranks : (r a b : ℕ) → r < ranks → 0 < a → a ≤ ranks → 0 < b → b ≤ ranks → back ranks r a ≡ back ranks r b → a ≡ b
-  back_injective_up_to_ranks r a b p q s t u e = go (back_is ranks r a) (back_is ranks r b)
+  back_injective_up_to_ranks r a b p q s t u e = go (back_cases ranks r a) (back_cases ranks r b)
     where
       go : ((r < a) × (back ranks r a ≡ r + ranks - a)) ⊎ ((a ≤ r) × (back ranks r a ≡ r - a)) → ((r < b) × (back ranks r b ≡ r + ranks - b)) ⊎ ((b ≤ r) × (back ranks r b ≡ r - b)) → a ≡ b
       go (inl (l, f)) (inl (m, g)) = omega (arith, p, q, s, t, u, e, l, f, m, g)
@@ -53,9 +53,9 @@ module _ (ranks bytes : ℕ) (some : 0 < ranks) (few : ranks ≤ 128) where
       go (inr (l, f)) (inl (m, g)) = omega (arith, p, q, s, t, u, e, l, f, m, g)
       go (inr (l, f)) (inr (m, g)) = omega (arith, p, q, s, t, u, e, l, f, m, g)
 
-  -- two ranks that are equally far behind one place are the same
+  -- two ranks are equal if going back c places from each leads to the same rank
   back_cancels : (k r c : ℕ) → k < ranks → r < ranks → c ≤ ranks → back ranks k c ≡ back ranks r c → k ≡ r
-  back_cancels k r c p q s e = go (back_is ranks k c) (back_is ranks r c)
+  back_cancels k r c p q s e = go (back_cases ranks k c) (back_cases ranks r c)
     where
       go : ((k < c) × (back ranks k c ≡ k + ranks - c)) ⊎ ((c ≤ k) × (back ranks k c ≡ k - c)) → ((r < c) × (back ranks r c ≡ r + ranks - c)) ⊎ ((c ≤ r) × (back ranks r c ≡ r - c)) → k ≡ r
       go (inl (l, f)) (inl (m, g)) = omega (arith, p, q, s, e, l, f, m, g)
@@ -63,9 +63,9 @@ module _ (ranks bytes : ℕ) (some : 0 < ranks) (few : ranks ≤ 128) where
       go (inr (l, f)) (inl (m, g)) = omega (arith, p, q, s, e, l, f, m, g)
       go (inr (l, f)) (inr (m, g)) = omega (arith, p, q, s, e, l, f, m, g)
 
-  -- how far a rank is after the one behind the place it went back to
+  -- from the rank after the one that is s + 1 places back, s places lead to r
   after_back : (r s : ℕ) → r < ranks → s < ranks → back ranks r (back ranks r (s + 1) + 1) ≡ s
-  after_back r s p q = go (back_is ranks r (s + 1)) (back_is ranks r (back ranks r (s + 1) + 1))
+  after_back r s p q = go (back_cases ranks r (s + 1)) (back_cases ranks r (back ranks r (s + 1) + 1))
     where
       go : ((r < s + 1) × (back ranks r (s + 1) ≡ r + ranks - (s + 1))) ⊎ ((s + 1 ≤ r) × (back ranks r (s + 1) ≡ r - (s + 1))) → ((r < back ranks r (s + 1) + 1) × (back ranks r (back ranks r (s + 1) + 1) ≡ r + ranks - (back ranks r (s + 1) + 1))) ⊎ ((back ranks r (s + 1) + 1 ≤ r) × (back ranks r (back ranks r (s + 1) + 1) ≡ r - (back ranks r (s + 1) + 1))) → back ranks r (back ranks r (s + 1) + 1) ≡ s
       go (inl (l, f)) (inl (m, g)) = omega (arith, p, q, l, f, m, g)
@@ -75,7 +75,7 @@ module _ (ranks bytes : ℕ) (some : 0 < ranks) (few : ranks ≤ 128) where
 
   back_all : (r : ℕ) → r < ranks → back ranks r ranks ≡ r
   back_all r p =
-      ⊎_elim (λ x. let e = x.1 in omega (arith, p, e)) (λ x. let l = x.0 in absurd (omega (arith, p, l))) (back_is ranks r ranks)
+      ⊎_elim (λ x. let e = x.1 in omega (arith, p, e)) (λ x. let l = x.0 in absurd (omega (arith, p, l))) (back_cases ranks r ranks)
 
   is_within : ℕ → ℕ → ℕ → Bool
   is_within b s q = nat_lt (back ranks q (b + 1)) s
@@ -100,9 +100,9 @@ module _ (ranks bytes : ℕ) (some : 0 < ranks) (few : ranks ≤ 128) where
   within_same b s k d =
       ⊎_elim (λ l. within_yes b s k l ∙ sym (within_yes b (s + 1) k (omega (arith, l)))) (λ g. within_no b s k g ∙ sym (within_no b (s + 1) k (⊎_elim (λ l. absurd (d (omega (arith, g, l)))) (λ h. h) (cases_lt (back ranks k (b + 1)) (s + 1))))) (cases_lt (back ranks k (b + 1)) s)
 
-  -- picked among the ranks alone
-  insert_among : (p q : ℕ → Bool) (r b a m : ℕ) → a + m ≤ ranks → a ≤ r → r < a + m → p r ≡ false → q r ≡ true → ((k : ℕ) → k < ranks → (k ≡ r → ⊥) → p k ≡ q k) → insert_one (record { rank = r; item = b }) (picked p b a m) ≡ picked q b a m
-  insert_among p q r b a m inside l g left taken same =
+  -- inserting rank r into what p picks gives what q picks, if p and q differ only at r
+  insert_picked_rank : (p q : ℕ → Bool) (r b a m : ℕ) → a + m ≤ ranks → a ≤ r → r < a + m → p r ≡ false → q r ≡ true → ((k : ℕ) → k < ranks → (k ≡ r → ⊥) → p k ≡ q k) → insert_one (record { rank = r; item = b }) (picked p b a m) ≡ picked q b a m
+  insert_picked_rank p q r b a m inside l g left taken same =
       insert_picked p (λ k. if nat_lt k ranks then q k else p k) r b a m l g left (at_rank r (omega (arith, inside, g)) ∙ taken) (λ k d. ⊎_elim (λ low. same k low d ∙ sym (at_rank k low)) (λ high. sym (past k high)) (cases_lt k ranks)) ∙ picked_same (λ k. if nat_lt k ranks then q k else p k) q b a m (λ k low high. at_rank k (omega (arith, inside, high)))
     where
       at_rank : (k : ℕ) → k < ranks → (if nat_lt k ranks then q k else p k) ≡ q k
@@ -118,7 +118,7 @@ module _ (ranks bytes : ℕ) (some : 0 < ranks) (few : ranks ≤ 128) where
   window_more : (r b s : ℕ) → r < ranks → b < ranks → back ranks r (b + 1) ≡ s → insert_one (record { rank = r; item = b }) (window b s) ≡ window b (s + 1)
   unfolding window
   window_more r b s p q e =
-      insert_among (is_within b s) (is_within b (s + 1)) r b 0 ranks (omega arith) (omega arith) (omega (arith, p)) (within_no b s r (omega (arith, e))) (within_yes b (s + 1) r (omega (arith, e))) (λ k inside d. within_same b s k (λ f. d (back_cancels k r (b + 1) inside p (omega (arith, q)) (f ∙ sym e))))
+      insert_picked_rank (is_within b s) (is_within b (s + 1)) r b 0 ranks (omega arith) (omega arith) (omega (arith, p)) (within_no b s r (omega (arith, e))) (within_yes b (s + 1) r (omega (arith, e))) (λ k inside d. within_same b s k (λ f. d (back_cancels k r (b + 1) inside p (omega (arith, q)) (f ∙ sym e))))
 
   window_none : (b : ℕ) → window b 0 ≡ []
   unfolding window
@@ -223,7 +223,7 @@ module _ (ranks bytes : ℕ) (some : 0 < ranks) (few : ranks ≤ 128) where
 
   pass_cases : (x : OpId) → x.rank < ranks → x.op < 3 * (ranks - 1) → ((nanos : ℕ) × ((entry x.rank x.op).kind ≡ Calc nanos)) ⊎ (((h : Pass) × (pass_send h ≡ x)) ⊎ ((h : Pass) × (pass_recv h ≡ x)))
   pass_cases x in_rank inside =
-      ⊎_elim (λ p. let f = p.1 in inr (inl (record { sender = x.rank; step = p.0; inside = in_rank; early = omega (arith, inside, f) }, same_place x.rank (3 * p.0) x.rank x.op refl (sym f)))) (λ c. ⊎_elim (λ p. let f = p.1 in inr (inr (record { sender = back ranks x.rank 1; step = p.0; inside = back_below ranks x.rank 1 in_rank; early = omega (arith, inside, f) }, same_place (ahead ranks (back ranks x.rank 1) 1) (3 * p.0 + 1) x.rank x.op (ahead_back ranks x.rank 1 in_rank some) (sym f)))) (λ p. inl (0, ap (λ (y : Entry). y.kind) (as_sum x.rank x.op p.0 p.1))) c) (cases_triple x.op)
+      ⊎_elim (λ p. let f = p.1 in inr (inl (record { sender = x.rank; step = p.0; inside = in_rank; early = omega (arith, inside, f) }, at_of_equal_numbers x.rank (3 * p.0) x.rank x.op refl (sym f)))) (λ c. ⊎_elim (λ p. let f = p.1 in inr (inr (record { sender = back ranks x.rank 1; step = p.0; inside = back_below ranks x.rank 1 in_rank; early = omega (arith, inside, f) }, at_of_equal_numbers (ahead ranks (back ranks x.rank 1) 1) (3 * p.0 + 1) x.rank x.op (ahead_back ranks x.rank 1 in_rank some) (sym f)))) (λ p. inl (0, ap (λ (y : Entry). y.kind) (as_sum x.rank x.op p.0 p.1))) c) (cases_triple x.op)
 
   pass_messages : AreMessages ranks count entry Pass bytes pass_send pass_recv (λ h. h.step)
   pass_messages = record {
@@ -233,16 +233,16 @@ module _ (ranks bytes : ℕ) (some : 0 < ranks) (few : ranks ≤ 128) where
     received = λ h. ap (λ (y : Entry). y.kind) (as_receive (ahead ranks h.sender 1) (3 * h.step + 1) h.step refl) ∙ ap (λ (r : ℕ). Recv bytes (Some r) (Some h.step)) (back_ahead ranks h.sender 1 h.inside some);
     cases = λ x in_rank inside. pass_cases x in_rank inside;
     apart = λ h k source target tag. (
-      same_place h.sender (3 * h.step) k.sender (3 * k.step) source (ap (λ (s : ℕ). 3 * s) tag),
-      same_place (ahead ranks h.sender 1) (3 * h.step + 1) (ahead ranks k.sender 1) (3 * k.step + 1) target (ap (λ (s : ℕ). 3 * s + 1) tag),
+      at_of_equal_numbers h.sender (3 * h.step) k.sender (3 * k.step) source (ap (λ (s : ℕ). 3 * s) tag),
+      at_of_equal_numbers (ahead ranks h.sender 1) (3 * h.step + 1) (ahead ranks k.sender 1) (3 * k.step + 1) target (ap (λ (s : ℕ). 3 * s + 1) tag),
     );
   }
 
-  at_slot : (j k : ℕ) → Mem k (flat_map slots_of_span (slot j)) → j ≡ k
-  at_slot j k x = ⊎_elim (λ e. e) (λ none. absurd none) (subst (λ (ks : List ℕ). Mem k ks) (slots_of_single_slot j) x)
+  member_of_single_slot : (j k : ℕ) → Mem k (flat_map slots_of_span (slot j)) → j ≡ k
+  member_of_single_slot j k x = ⊎_elim (λ e. e) (λ none. absurd none) (subst (λ (ks : List ℕ). Mem k ks) (slots_of_single_slot j) x)
 
-  needs_are : (r i k : ℕ) → Mem k (entry r i).needs → ((t : ℕ) × (i ≡ 3 * suc t) × (k ≡ 3 * t + 2)) ⊎ ((t : ℕ) × (i ≡ 3 * t + 2) × (k ≡ 3 * t + 1))
-  needs_are r i k m = ⊎_elim (λ p. sent p.0 p.1 (subst (λ (x : Entry). Mem k x.needs) (as_send r i p.0 p.1) m)) (λ c. ⊎_elim (λ p. absurd (subst (λ (x : Entry). Mem k x.needs) (as_receive r i p.0 p.1) m)) (λ p. inr (p.0, p.1, one p.0 (subst (λ (x : Entry). Mem k x.needs) (as_sum r i p.0 p.1) m))) c) (cases_triple i)
+  rs_needs_cases : (r i k : ℕ) → Mem k (entry r i).needs → ((t : ℕ) × (i ≡ 3 * suc t) × (k ≡ 3 * t + 2)) ⊎ ((t : ℕ) × (i ≡ 3 * t + 2) × (k ≡ 3 * t + 1))
+  rs_needs_cases r i k m = ⊎_elim (λ p. sent p.0 p.1 (subst (λ (x : Entry). Mem k x.needs) (as_send r i p.0 p.1) m)) (λ c. ⊎_elim (λ p. absurd (subst (λ (x : Entry). Mem k x.needs) (as_receive r i p.0 p.1) m)) (λ p. inr (p.0, p.1, one p.0 (subst (λ (x : Entry). Mem k x.needs) (as_sum r i p.0 p.1) m))) c) (cases_triple i)
     where
       sent : (t : ℕ) → i ≡ 3 * t → Mem k (before_round t) → ((t : ℕ) × (i ≡ 3 * suc t) × (k ≡ 3 * t + 2)) ⊎ ((t : ℕ) × (i ≡ 3 * t + 2) × (k ≡ 3 * t + 1))
       sent zero e x = absurd x
@@ -256,7 +256,7 @@ module _ (ranks bytes : ℕ) (some : 0 < ranks) (few : ranks ≤ 128) where
   needs_are_lower : (r i k : ℕ) → IsThere ranks count entry r i → Mem k (entry r i).needs → (k < count r) × (level r k < level r i)
   needs_are_lower r i k there m =
       let inside = there.1 in
-      ⊎_elim (λ p. let f = p.1 in let g = p.2 in (omega (arith, inside, f, g), omega (arith, f, g))) (λ p. let f = p.1 in let g = p.2 in (omega (arith, inside, f, g), omega (arith, f, g))) (needs_are r i k m)
+      ⊎_elim (λ p. let f = p.1 in let g = p.2 in (omega (arith, inside, f, g), omega (arith, f, g))) (λ p. let f = p.1 in let g = p.2 in (omega (arith, inside, f, g), omega (arith, f, g))) (rs_needs_cases r i k m)
 
   sum_precedes_send : (r t i j : ℕ) → i ≡ 3 * t + 2 → j ≡ 3 * suc t → Precedes (entry r) i j
   sum_precedes_send r t i j e f =
@@ -265,8 +265,8 @@ module _ (ranks bytes : ℕ) (some : 0 < ranks) (few : ranks ≤ 128) where
   receive_precedes_sum : (r t i j : ℕ) → i ≡ 3 * t + 1 → j ≡ 3 * t + 2 → Precedes (entry r) i j
   receive_precedes_sum r t i j e f = now (subst (λ (x : Entry). Mem i x.needs) (sym (as_sum r j t f)) (inl (sym e)))
 
-  writes_are : (r i k : ℕ) → Mem k (writes (entry r i)) → ((s : ℕ) × (i ≡ 3 * s + 1) × (ranks + back ranks r (s + 2) ≡ k)) ⊎ ((s : ℕ) × (i ≡ 3 * s + 2) × (back ranks r (s + 2) ≡ k))
-  writes_are r i k m = ⊎_elim (λ p. absurd (subst (λ (x : Entry). Mem k (writes x)) (as_send r i p.0 p.1) m)) (λ c. ⊎_elim (λ p. inl (p.0, p.1, at_slot (ranks + back ranks r (p.0 + 2)) k (subst (λ (x : Entry). Mem k (writes x)) (as_receive r i p.0 p.1) m))) (λ p. inr (p.0, p.1, one (back ranks r (p.0 + 2)) (subst (λ (x : Entry). Mem k (writes x)) (as_sum r i p.0 p.1) m))) c) (cases_triple i)
+  rs_writes_cases : (r i k : ℕ) → Mem k (writes (entry r i)) → ((s : ℕ) × (i ≡ 3 * s + 1) × (ranks + back ranks r (s + 2) ≡ k)) ⊎ ((s : ℕ) × (i ≡ 3 * s + 2) × (back ranks r (s + 2) ≡ k))
+  rs_writes_cases r i k m = ⊎_elim (λ p. absurd (subst (λ (x : Entry). Mem k (writes x)) (as_send r i p.0 p.1) m)) (λ c. ⊎_elim (λ p. inl (p.0, p.1, member_of_single_slot (ranks + back ranks r (p.0 + 2)) k (subst (λ (x : Entry). Mem k (writes x)) (as_receive r i p.0 p.1) m))) (λ p. inr (p.0, p.1, one (back ranks r (p.0 + 2)) (subst (λ (x : Entry). Mem k (writes x)) (as_sum r i p.0 p.1) m))) c) (cases_triple i)
     where
       one : (j : ℕ) → Mem k (j ∷ []) → j ≡ k
       one j (inl e) = e
@@ -280,8 +280,8 @@ module _ (ranks bytes : ℕ) (some : 0 < ranks) (few : ranks ≤ 128) where
   sum_writes r s =
       subst (λ (x : Entry). Mem (back ranks r (s + 2)) (writes x)) (sym (as_sum r (3 * s + 2) s refl)) (inl refl)
 
-  touches_are : (r i k : ℕ) → Mem k (touches (entry r i)) → ((s : ℕ) × (i ≡ 3 * s) × (back ranks r (s + 1) ≡ k)) ⊎ (((s : ℕ) × (i ≡ 3 * s + 1) × (ranks + back ranks r (s + 2) ≡ k)) ⊎ ((s : ℕ) × (i ≡ 3 * s + 2) × ((ranks + back ranks r (s + 2) ≡ k) ⊎ (back ranks r (s + 2) ≡ k))))
-  touches_are r i k m = ⊎_elim (λ p. inl (p.0, p.1, at_slot (back ranks r (p.0 + 1)) k (subst (λ (x : Entry). Mem k (touches x)) (as_send r i p.0 p.1) m))) (λ c. inr (⊎_elim (λ p. inl (p.0, p.1, at_slot (ranks + back ranks r (p.0 + 2)) k (subst (λ (x : Entry). Mem k (touches x)) (as_receive r i p.0 p.1) m))) (λ p. inr (p.0, p.1, two (ranks + back ranks r (p.0 + 2)) (back ranks r (p.0 + 2)) (subst (λ (x : Entry). Mem k (touches x)) (as_sum r i p.0 p.1) m))) c)) (cases_triple i)
+  rs_touches_cases : (r i k : ℕ) → Mem k (touches (entry r i)) → ((s : ℕ) × (i ≡ 3 * s) × (back ranks r (s + 1) ≡ k)) ⊎ (((s : ℕ) × (i ≡ 3 * s + 1) × (ranks + back ranks r (s + 2) ≡ k)) ⊎ ((s : ℕ) × (i ≡ 3 * s + 2) × ((ranks + back ranks r (s + 2) ≡ k) ⊎ (back ranks r (s + 2) ≡ k))))
+  rs_touches_cases r i k m = ⊎_elim (λ p. inl (p.0, p.1, member_of_single_slot (back ranks r (p.0 + 1)) k (subst (λ (x : Entry). Mem k (touches x)) (as_send r i p.0 p.1) m))) (λ c. inr (⊎_elim (λ p. inl (p.0, p.1, member_of_single_slot (ranks + back ranks r (p.0 + 2)) k (subst (λ (x : Entry). Mem k (touches x)) (as_receive r i p.0 p.1) m))) (λ p. inr (p.0, p.1, two (ranks + back ranks r (p.0 + 2)) (back ranks r (p.0 + 2)) (subst (λ (x : Entry). Mem k (touches x)) (as_sum r i p.0 p.1) m))) c)) (cases_triple i)
     where
       two : (a b : ℕ) → Mem k (a ∷ b ∷ []) → (a ≡ k) ⊎ (b ≡ k)
       two a b (inl e) = inl e
@@ -299,7 +299,7 @@ module _ (ranks bytes : ℕ) (some : 0 < ranks) (few : ranks ≤ 128) where
       let same = back_injective_up_to_ranks r (s + 1) (t + 2) p (omega arith) (omega (arith, l)) (omega arith) (omega (arith, m)) (e ∙ sym f) in omega (arith, same)
 
   conflicts_are_ordered : (r i j k : ℕ) → r < ranks → i < count r → j < count r → (i ≡ j → ⊥) → Mem k (touches (entry r i)) → Mem k (writes (entry r j)) → Precedes (entry r) i j ⊎ Precedes (entry r) j i
-  conflicts_are_ordered r i j k p l m differ t w = go (touches_are r i k t) (writes_are r j k w)
+  conflicts_are_ordered r i j k p l m differ t w = go (rs_touches_cases r i k t) (rs_writes_cases r j k w)
     where
       go : ((s : ℕ) × (i ≡ 3 * s) × (back ranks r (s + 1) ≡ k)) ⊎ (((s : ℕ) × (i ≡ 3 * s + 1) × (ranks + back ranks r (s + 2) ≡ k)) ⊎ ((s : ℕ) × (i ≡ 3 * s + 2) × ((ranks + back ranks r (s + 2) ≡ k) ⊎ (back ranks r (s + 2) ≡ k)))) → ((s : ℕ) × (j ≡ 3 * s + 1) × (ranks + back ranks r (s + 2) ≡ k)) ⊎ ((s : ℕ) × (j ≡ 3 * s + 2) × (back ranks r (s + 2) ≡ k)) → Precedes (entry r) i j ⊎ Precedes (entry r) j i
       go (inl (s, e, f)) (inl (u, g, h)) = absurd (let low = back_below ranks r (s + 1) p in omega (arith, f, h, low))
@@ -324,37 +324,37 @@ module _ (ranks bytes : ℕ) (some : 0 < ranks) (few : ranks ≤ 128) where
   unfolding initial
   first_own r k p l = rw (lt-ltb r ranks p, lt-ltb k ranks l) refl
 
-  abbrev TheOrigin : ℕ → ℕ → ℕ → Type 0
-  TheOrigin r i k = Origin ranks count entry first (wanted ReduceScatter ranks) rs_finds rs_leaves r i k
+  abbrev ReduceScatterOrigin : ℕ → ℕ → ℕ → Type 0
+  ReduceScatterOrigin r i k = Origin ranks count entry first (wanted ReduceScatter ranks) rs_finds rs_leaves r i k
 
-  touched_has_origin : (r i k : ℕ) → IsThere ranks count entry r i → ((room : ℕ) (f t : Option ℕ) → (entry r i).kind ≡ Recv room f t → ⊥) → Mem k (touches (entry r i)) → TheOrigin r i k
-  touched_has_origin r i k there not_receive t = go (touches_are r i k t)
+  touched_has_origin : (r i k : ℕ) → IsThere ranks count entry r i → ((room : ℕ) (f t : Option ℕ) → (entry r i).kind ≡ Recv room f t → ⊥) → Mem k (touches (entry r i)) → ReduceScatterOrigin r i k
+  touched_has_origin r i k there not_receive t = go (rs_touches_cases r i k t)
     where
-      sent : (s : ℕ) → i ≡ 3 * s → back ranks r (s + 1) ≡ k → k < ranks → TheOrigin r i k
+      sent : (s : ℕ) → i ≡ 3 * s → back ranks r (s + 1) ≡ k → k < ranks → ReduceScatterOrigin r i k
       sent zero e f low =
           let p = there.0 in
           let l = there.1 in
           let b = back ranks r 1 in
-          inl (first_own r k p low ∙ sym (ap (λ (n : ℕ). rs_finds r n k) e ∙ finds_send r 0 k low ∙ ap (λ (n : ℕ). window n 1) (sym f) ∙ window_one r b p (back_below ranks r 1 p) (after_back r 0 p some) ∙ ap (λ (n : ℕ). single r n) f), λ j m w. ⊎_elim (λ v. let h = v.2 in absurd (omega (arith, h, low))) (λ v. let g = v.1 in absurd (let same = send_after_sum r 0 v.0 k p (omega (arith, l, e)) (omega (arith, m, g)) f v.2 in omega (arith, same))) (writes_are r j k w))
+          inl (first_own r k p low ∙ sym (ap (λ (n : ℕ). rs_finds r n k) e ∙ finds_send r 0 k low ∙ ap (λ (n : ℕ). window n 1) (sym f) ∙ window_one r b p (back_below ranks r 1 p) (after_back r 0 p some) ∙ ap (λ (n : ℕ). single r n) f), λ j m w. ⊎_elim (λ v. let h = v.2 in absurd (omega (arith, h, low))) (λ v. let g = v.1 in absurd (let same = send_after_sum r 0 v.0 k p (omega (arith, l, e)) (omega (arith, m, g)) f v.2 in omega (arith, same))) (rs_writes_cases r j k w))
       sent (suc u) e f low =
           let p = there.0 in
           let l = there.1 in
           let place : back ranks r (u + 2) ≡ k = ap (λ (n : ℕ). back ranks r n) (omega arith) ∙ f in
-          inr (3 * u + 2, omega (arith, l, e), subst (λ (n : ℕ). Mem n (writes (entry r (3 * u + 2)))) place (sum_writes r u), sum_precedes_send r u (3 * u + 2) i refl e, leaves_sum r u k low ∙ ap (λ (n : ℕ). window k n) (omega arith) ∙ sym (ap (λ (n : ℕ). rs_finds r n k) e ∙ finds_send r (suc u) k low), λ j m w. inl (inr (⊎_elim (λ v. let h = v.2 in absurd (omega (arith, h, low))) (λ v. let g = v.1 in let same = slot_summed_once r v.0 u k p (omega (arith, m, g)) (omega (arith, l, e)) v.2 place in g ∙ ap (λ (n : ℕ). 3 * n + 2) same) (writes_are r j k w))))
+          inr (3 * u + 2, omega (arith, l, e), subst (λ (n : ℕ). Mem n (writes (entry r (3 * u + 2)))) place (sum_writes r u), sum_precedes_send r u (3 * u + 2) i refl e, leaves_sum r u k low ∙ ap (λ (n : ℕ). window k n) (omega arith) ∙ sym (ap (λ (n : ℕ). rs_finds r n k) e ∙ finds_send r (suc u) k low), λ j m w. inl (inr (⊎_elim (λ v. let h = v.2 in absurd (omega (arith, h, low))) (λ v. let g = v.1 in let same = slot_summed_once r v.0 u k p (omega (arith, m, g)) (omega (arith, l, e)) v.2 place in g ∙ ap (λ (n : ℕ). 3 * n + 2) same) (rs_writes_cases r j k w))))
 
-      go : ((s : ℕ) × (i ≡ 3 * s) × (back ranks r (s + 1) ≡ k)) ⊎ (((s : ℕ) × (i ≡ 3 * s + 1) × (ranks + back ranks r (s + 2) ≡ k)) ⊎ ((s : ℕ) × (i ≡ 3 * s + 2) × ((ranks + back ranks r (s + 2) ≡ k) ⊎ (back ranks r (s + 2) ≡ k)))) → TheOrigin r i k
+      go : ((s : ℕ) × (i ≡ 3 * s) × (back ranks r (s + 1) ≡ k)) ⊎ (((s : ℕ) × (i ≡ 3 * s + 1) × (ranks + back ranks r (s + 2) ≡ k)) ⊎ ((s : ℕ) × (i ≡ 3 * s + 2) × ((ranks + back ranks r (s + 2) ≡ k) ⊎ (back ranks r (s + 2) ≡ k)))) → ReduceScatterOrigin r i k
       go (inl (s, e, f)) = sent s e f (subst (λ (n : ℕ). n < ranks) f (back_below ranks r (s + 1) there.0))
       go (inr (inl (s, e, f))) = absurd (not_receive _ _ _ (ap (λ (x : Entry). x.kind) (as_receive r i s e)))
       go (inr (inr (s, e, inl f))) =
           let p = there.0 in
           let l = there.1 in
           let b = back ranks r (s + 2) in
-          inr (3 * s + 1, omega (arith, l, e), subst (λ (n : ℕ). Mem n (writes (entry r (3 * s + 1)))) f (receive_writes r s), receive_precedes_sum r s (3 * s + 1) i refl e, ap (λ (n : ℕ). rs_leaves r (3 * s + 1) n) (sym f) ∙ leaves_heard r s b ∙ sym (ap (λ (n : ℕ). rs_finds r n k) e ∙ ap (λ (n : ℕ). rs_finds r (3 * s + 2) n) (sym f) ∙ finds_heard r s b), λ j m w. inl (inr (⊎_elim (λ v. let g = v.1 in let h = v.2 in let same = slot_summed_once r v.0 s (k - ranks) p (omega (arith, m, g)) (omega (arith, l, e)) (omega (arith, h)) (omega (arith, f)) in g ∙ ap (λ (n : ℕ). 3 * n + 1) same) (λ v. let h = v.2 in absurd (let low = back_below ranks r (v.0 + 2) p in omega (arith, f, h, low))) (writes_are r j k w))))
+          inr (3 * s + 1, omega (arith, l, e), subst (λ (n : ℕ). Mem n (writes (entry r (3 * s + 1)))) f (receive_writes r s), receive_precedes_sum r s (3 * s + 1) i refl e, ap (λ (n : ℕ). rs_leaves r (3 * s + 1) n) (sym f) ∙ leaves_heard r s b ∙ sym (ap (λ (n : ℕ). rs_finds r n k) e ∙ ap (λ (n : ℕ). rs_finds r (3 * s + 2) n) (sym f) ∙ finds_heard r s b), λ j m w. inl (inr (⊎_elim (λ v. let g = v.1 in let h = v.2 in let same = slot_summed_once r v.0 s (k - ranks) p (omega (arith, m, g)) (omega (arith, l, e)) (omega (arith, h)) (omega (arith, f)) in g ∙ ap (λ (n : ℕ). 3 * n + 1) same) (λ v. let h = v.2 in absurd (let low = back_below ranks r (v.0 + 2) p in omega (arith, f, h, low))) (rs_writes_cases r j k w))))
       go (inr (inr (s, e, inr f))) =
           let p = there.0 in
           let l = there.1 in
           let low = subst (λ (n : ℕ). n < ranks) f (back_below ranks r (s + 2) p) in
-          inl (first_own r k p low ∙ sym (ap (λ (n : ℕ). rs_finds r n k) e ∙ finds_own r s k low), λ j m w. ⊎_elim (λ v. let h = v.2 in absurd (omega (arith, h, low))) (λ v. let g = v.1 in inl (let same = slot_summed_once r v.0 s k p (omega (arith, m, g)) (omega (arith, l, e)) v.2 f in g ∙ ap (λ (n : ℕ). 3 * n + 2) same ∙ sym e)) (writes_are r j k w))
+          inl (first_own r k p low ∙ sym (ap (λ (n : ℕ). rs_finds r n k) e ∙ finds_own r s k low), λ j m w. ⊎_elim (λ v. let h = v.2 in absurd (omega (arith, h, low))) (λ v. let g = v.1 in inl (let same = slot_summed_once r v.0 s k p (omega (arith, m, g)) (omega (arith, l, e)) v.2 f in g ∙ ap (λ (n : ℕ). 3 * n + 2) same ∙ sym e)) (rs_writes_cases r j k w))
 
   summed : (r i nanos : ℕ) → IsThere ranks count entry r i → (entry r i).kind ≡ Calc nanos → (a : Adding) × ((entry r i).adds ≡ a ∷ []) × (merge (rs_finds r i a.to) (rs_finds r i a.from) ≡ rs_leaves r i a.to)
   unfolding merge
@@ -374,8 +374,8 @@ module _ (ranks bytes : ℕ) (some : 0 < ranks) (few : ranks ≤ 128) where
           let heard = ap (λ (n : ℕ). rs_finds r n (ranks + b)) e ∙ finds_heard r s b in
           (record { from = ranks + b; to = b }, ap (λ (x : Entry). x.adds) (as_sum r i s e), (λ j. merge (own j) (heard j)) ∙ window_more r b (s + 1) p low ahead_of ∙ ap (λ (n : ℕ). window b n) (omega arith) ∙ sym (ap (λ (n : ℕ). rs_leaves r n b) e ∙ leaves_sum r s b low))
 
-  same_slot : (h : Pass) → back ranks (ahead ranks h.sender 1) (h.step + 2) ≡ back ranks h.sender (h.step + 1)
-  same_slot h = go (ahead_is ranks h.sender 1) (back_is ranks (ahead ranks h.sender 1) (h.step + 2)) (back_is ranks h.sender (h.step + 1))
+  sender_and_receiver_slot_agree : (h : Pass) → back ranks (ahead ranks h.sender 1) (h.step + 2) ≡ back ranks h.sender (h.step + 1)
+  sender_and_receiver_slot_agree h = go (ahead_cases ranks h.sender 1) (back_cases ranks (ahead ranks h.sender 1) (h.step + 2)) (back_cases ranks h.sender (h.step + 1))
     where
       go : ((h.sender + 1 < ranks) × (ahead ranks h.sender 1 ≡ h.sender + 1)) ⊎ ((ranks ≤ h.sender + 1) × (ahead ranks h.sender 1 ≡ h.sender + 1 - ranks)) → ((ahead ranks h.sender 1 < h.step + 2) × (back ranks (ahead ranks h.sender 1) (h.step + 2) ≡ ahead ranks h.sender 1 + ranks - (h.step + 2))) ⊎ ((h.step + 2 ≤ ahead ranks h.sender 1) × (back ranks (ahead ranks h.sender 1) (h.step + 2) ≡ ahead ranks h.sender 1 - (h.step + 2))) → ((h.sender < h.step + 1) × (back ranks h.sender (h.step + 1) ≡ h.sender + ranks - (h.step + 1))) ⊎ ((h.step + 1 ≤ h.sender) × (back ranks h.sender (h.step + 1) ≡ h.sender - (h.step + 1))) → back ranks (ahead ranks h.sender 1) (h.step + 2) ≡ back ranks h.sender (h.step + 1)
       go (inl (a, b)) (inl (c, d)) (inl (e, f)) = let i = h.inside in let s = h.early in omega (arith, a, b, c, d, e, f, i, s)
@@ -393,7 +393,7 @@ module _ (ranks bytes : ℕ) (some : 0 < ranks) (few : ranks ≤ 128) where
       let to = ahead ranks h.sender 1 in
       let a = back ranks h.sender (s + 1) in
       let b = back ranks to (s + 2) in
-      ap (λ (ks : List ℕ). map (rs_finds h.sender (3 * s)) ks) (ap moved (as_send h.sender (3 * s) s refl) ∙ slots_of_single_slot a) ∙ ap (λ (v : Value). v ∷ []) (finds_send h.sender s a (back_below ranks h.sender (s + 1) h.inside) ∙ ap (λ (n : ℕ). window n (s + 1)) (sym (same_slot h)) ∙ sym (leaves_heard to s b)) ∙ sym (ap (λ (ks : List ℕ). map (rs_leaves to (3 * s + 1)) ks) (ap moved (as_receive to (3 * s + 1) s refl) ∙ slots_of_single_slot (ranks + b)))
+      ap (λ (ks : List ℕ). map (rs_finds h.sender (3 * s)) ks) (ap moved (as_send h.sender (3 * s) s refl) ∙ slots_of_single_slot a) ∙ ap (λ (v : Value). v ∷ []) (finds_send h.sender s a (back_below ranks h.sender (s + 1) h.inside) ∙ ap (λ (n : ℕ). window n (s + 1)) (sym (sender_and_receiver_slot_agree h)) ∙ sym (leaves_heard to s b)) ∙ sym (ap (λ (ks : List ℕ). map (rs_leaves to (3 * s + 1)) ks) (ap moved (as_receive to (3 * s + 1) s refl) ∙ slots_of_single_slot (ranks + b)))
 
   wanted_at_end : (r : ℕ) → r < ranks → wanted ReduceScatter ranks r r (of_each ranks r) ≡ true
   unfolding wanted
@@ -423,7 +423,7 @@ module _ (ranks bytes : ℕ) (some : 0 < ranks) (few : ranks ≤ 128) where
           let t = ranks - 2 in
           let whole : t + 2 ≡ ranks = omega (arith, two) in
           let place : back ranks r (t + 2) ≡ r = ap (λ (n : ℕ). back ranks r n) whole ∙ back_all r p in
-          inr (inr (3 * t + 2, omega (arith, two), subst (λ (n : ℕ). Mem n (writes (entry r (3 * t + 2)))) place (sum_writes r t), λ j m w. inl (⊎_elim (λ v. let h = v.2 in absurd (omega (arith, h, p))) (λ v. let g = v.1 in let same = slot_summed_once r v.0 t r p (omega (arith, m, g)) (omega (arith, two)) v.2 place in g ∙ ap (λ (n : ℕ). 3 * n + 2) same) (writes_are r j r w)), subst (λ (v : Value). wanted ReduceScatter ranks r r v ≡ true) (sym (leaves_sum r t r p ∙ ap (λ (n : ℕ). window r n) whole ∙ window_all r p)) (wanted_at_end r p)))
+          inr (inr (3 * t + 2, omega (arith, two), subst (λ (n : ℕ). Mem n (writes (entry r (3 * t + 2)))) place (sum_writes r t), λ j m w. inl (⊎_elim (λ v. let h = v.2 in absurd (omega (arith, h, p))) (λ v. let g = v.1 in let same = slot_summed_once r v.0 t r p (omega (arith, m, g)) (omega (arith, two)) v.2 place in g ∙ ap (λ (n : ℕ). 3 * n + 2) same) (rs_writes_cases r j r w)), subst (λ (v : Value). wanted ReduceScatter ranks r r v ≡ true) (sym (leaves_sum r t r p ∙ ap (λ (n : ℕ). window r n) whole ∙ window_all r p)) (wanted_at_end r p)))
 
   blueprint : IsBlueprint ranks count entry first (wanted ReduceScatter ranks) rs_finds rs_leaves Pass bytes pass_send pass_recv (λ h. h.step) level
   blueprint = record {
@@ -479,7 +479,7 @@ module _ (ranks bytes : ℕ) (some : 0 < ranks) (few : ranks ≤ 128) where
 
   writes_low : (r i k : ℕ) → r < ranks → Mem k (writes (entry r i)) → k < 256
   writes_low r i k p w =
-      ⊎_elim (λ v. let h = v.2 in let low = back_below ranks r (v.0 + 2) p in omega (arith, h, low, few)) (λ v. let h = v.2 in let low = back_below ranks r (v.0 + 2) p in omega (arith, h, low, few)) (writes_are r i k w)
+      ⊎_elim (λ v. let h = v.2 in let low = back_below ranks r (v.0 + 2) p in omega (arith, h, low, few)) (λ v. let h = v.2 in let low = back_below ranks r (v.0 + 2) p in omega (arith, h, low, few)) (rs_writes_cases r i k w)
 
   finds_load : (h : Pass) → sum_by (λ (v : Value). length v) (map (rs_finds h.sender (3 * h.step)) (moved (entry h.sender (3 * h.step)))) ≤ 128
   finds_load h =

@@ -183,7 +183,7 @@ module _ (name old : ℕ → ℕ → ℕ) (plans other : List Plan) (undone : Is
         right = wanted_alike name old plans other undone is first wanted no_send c.matched.no_stall.walk c.right;
       }
 
--- both ways
+-- a small schedule with renamed slots is certified exactly if the original is, under the renaming
 pub renamed_certified : (name old : ℕ → ℕ → ℕ) (plans : List Plan) (first : Store) (wanted : ℕ → ℕ → Value → Bool) → IsUndoneBy name old → KeepsSlots name → KeepsSlots old → IsSmall plans
     → IsCertified (renamed name plans) first wanted ↔ IsCertified plans (under name first) (under name wanted)
 renamed_certified name old plans first wanted undone low low_old small =

@@ -15,22 +15,22 @@ use Rattle.goal_blocks.specs.Renamed.{renamed_adding, renamed_note, renamed_plan
 use Rattle.goal_blocks.specs.Laws.{IsUndoneBy, IsRenamed}
 
 module _ (name : ℕ → ℕ) (op : ℕ) where
-  one_slot : (t : ℕ) → slots_from t (t + 1 - t) ≡ t ∷ []
+  slots_from_of_one_slot : (t : ℕ) → slots_from t (t + 1 - t) ≡ t ∷ []
   unfolding slots_from
-  one_slot t = let one : t + 1 - t ≡ 1 = omega arith in ap (slots_from t) one
+  slots_from_of_one_slot t = let one : t + 1 - t ≡ 1 = omega arith in ap (slots_from t) one
 
-  moved_each : (of : ℕ) (b : Bool) → (of == op) ≡ b → (ks : List ℕ) → flat_map (moved_by op) (map (λ (s : ℕ). Moves of (name s) (name s)) ks) ≡ map name (if b then ks else [])
-  moved_each of true e [] = refl
-  moved_each of false e [] = refl
-  moved_each of true e (k ∷ ks) =
-      let here : moved_by op (Moves of (name k) (name k)) ≡ name k ∷ [] = ap (λ (b : Bool). if b then slots_from (name k) (name k + 1 - name k) else []) e ∙ one_slot (name k) in
-      flat_map-cons (moved_by op) (Moves of (name k) (name k)) (map (λ (s : ℕ). Moves of (name s) (name s)) ks) ∙ λ i. here i ++ moved_each of true e ks i
-  moved_each of false e (k ∷ ks) =
+  moved_by_single_slot_notes : (of : ℕ) (b : Bool) → (of == op) ≡ b → (ks : List ℕ) → flat_map (moved_by op) (map (λ (s : ℕ). Moves of (name s) (name s)) ks) ≡ map name (if b then ks else [])
+  moved_by_single_slot_notes of true e [] = refl
+  moved_by_single_slot_notes of false e [] = refl
+  moved_by_single_slot_notes of true e (k ∷ ks) =
+      let here : moved_by op (Moves of (name k) (name k)) ≡ name k ∷ [] = ap (λ (b : Bool). if b then slots_from (name k) (name k + 1 - name k) else []) e ∙ slots_from_of_one_slot (name k) in
+      flat_map-cons (moved_by op) (Moves of (name k) (name k)) (map (λ (s : ℕ). Moves of (name s) (name s)) ks) ∙ λ i. here i ++ moved_by_single_slot_notes of true e ks i
+  moved_by_single_slot_notes of false e (k ∷ ks) =
       let here : moved_by op (Moves of (name k) (name k)) ≡ [] = ap (λ (b : Bool). if b then slots_from (name k) (name k + 1 - name k) else []) e in
-      flat_map-cons (moved_by op) (Moves of (name k) (name k)) (map (λ (s : ℕ). Moves of (name s) (name s)) ks) ∙ λ i. here i ++ moved_each of false e ks i
+      flat_map-cons (moved_by op) (Moves of (name k) (name k)) (map (λ (s : ℕ). Moves of (name s) (name s)) ks) ∙ λ i. here i ++ moved_by_single_slot_notes of false e ks i
 
   moved_renamed : (n : Note) → flat_map (moved_by op) (renamed_note name n) ≡ map name (moved_by op n)
-  moved_renamed (Moves of lo hi) = moved_each of (of == op) refl (slots_from lo (hi + 1 - lo))
+  moved_renamed (Moves of lo hi) = moved_by_single_slot_notes of (of == op) refl (slots_from lo (hi + 1 - lo))
   moved_renamed (Adds of from to) = flat_map-cons (moved_by op) (Adds of (name from) (name to)) []
 
   added_none : (of : ℕ) (ks : List ℕ) → flat_map (added_by op) (map (λ (s : ℕ). Moves of (name s) (name s)) ks) ≡ []
@@ -72,7 +72,7 @@ module _ (name : ℕ → ℕ → ℕ) where
   length_renamed rank [] = refl
   length_renamed rank (p ∷ ps) = ap suc (length_renamed (rank + 1) ps)
 
-  -- the operations are the same list
+  -- renaming slots keeps the list of operations
   pub places_renamed : (rank at : ℕ) (plans : List Plan) → places_from at (renamed_from name rank plans) ≡ places_from at plans
   unfolding renamed_from places_from
   places_renamed rank at [] = refl
@@ -135,15 +135,15 @@ module _ (name : ℕ → ℕ → ℕ) where
       adds = added_by_renamed;
     }
 
--- the names of names
-map_back : (name old : ℕ → ℕ) → ((k : ℕ) → old (name k) ≡ k) → (ks : List ℕ) → map old (map name ks) ≡ ks
-map_back name old back [] = refl
-map_back name old back (k ∷ ks) = λ i. back k i ∷ map_back name old back ks i
+-- a renaming and its inverse
+map_of_inverse_renaming : (name old : ℕ → ℕ) → ((k : ℕ) → old (name k) ≡ k) → (ks : List ℕ) → map old (map name ks) ≡ ks
+map_of_inverse_renaming name old back [] = refl
+map_of_inverse_renaming name old back (k ∷ ks) = λ i. back k i ∷ map_of_inverse_renaming name old back ks i
 
-adds_back : (name old : ℕ → ℕ) → ((k : ℕ) → old (name k) ≡ k) → (added : List Adding) → map (renamed_adding old) (map (renamed_adding name) added) ≡ added
-adds_back name old back [] = refl
-adds_back name old back (a ∷ more) =
-    λ i. record { from = back a.from i; to = back a.to i } ∷ adds_back name old back more i
+adds_of_inverse_renaming : (name old : ℕ → ℕ) → ((k : ℕ) → old (name k) ≡ k) → (added : List Adding) → map (renamed_adding old) (map (renamed_adding name) added) ≡ added
+adds_of_inverse_renaming name old back [] = refl
+adds_of_inverse_renaming name old back (a ∷ more) =
+    λ i. record { from = back a.from i; to = back a.to i } ∷ adds_of_inverse_renaming name old back more i
 
 -- renamed back, it is the original
 pub renamed_back : (name old : ℕ → ℕ → ℕ) (plans other : List Plan) → IsUndoneBy name old → IsRenamed name plans other → IsRenamed old other plans
@@ -151,6 +151,6 @@ renamed_back name old plans other undone is = record {
   ranks = sym is.ranks;
   ops = λ x. sym (is.ops x);
   needs = λ x. sym (is.needs x);
-  moves = λ x. sym (map_back (name x.rank) (old x.rank) (undone.back x.rank) (slots plans x)) ∙ ap (map (old x.rank)) (sym (is.moves x));
-  adds = λ x. sym (adds_back (name x.rank) (old x.rank) (undone.back x.rank) (adds plans x)) ∙ ap (map (renamed_adding (old x.rank))) (sym (is.adds x));
+  moves = λ x. sym (map_of_inverse_renaming (name x.rank) (old x.rank) (undone.back x.rank) (slots plans x)) ∙ ap (map (old x.rank)) (sym (is.moves x));
+  adds = λ x. sym (adds_of_inverse_renaming (name x.rank) (old x.rank) (undone.back x.rank) (adds plans x)) ∙ ap (map (renamed_adding (old x.rank))) (sym (is.adds x));
 }

@@ -69,7 +69,7 @@ module _ (plans other : List Plan) (ops : (x : OpId) → op_at other x ≡ op_at
       same m = ap (λ (ps : List Pair). partner ps m) (pairs_alike plans other ops h)
 
 module _ (name old : ℕ → ℕ → ℕ) (plans other : List Plan) (undone : IsUndoneBy name old) (is : IsRenamed name plans other) (first : Store) (wanted : ℕ → ℕ → Value → Bool) where
-  -- one holds what is wanted of it if the other holds what is wanted under the names
+  -- if the renamed schedule holds what is wanted, the original holds it under the renaming
   pub wanted_alike : (eager : OpId → Bool) (h : List Act) → HoldsWanted other wanted (held_after other eager first h).store → HoldsWanted plans (under name wanted) (held_after plans eager (under name first) h).store
   wanted_alike eager h holds rank slot low =
       subst (λ (v : Value). wanted rank (name rank slot) v ≡ true) same (holds rank (name rank slot) (subst (λ (n : ℕ). rank < n) (sym is.ranks) low))
@@ -79,19 +79,19 @@ module _ (name old : ℕ → ℕ → ℕ) (plans other : List Plan) (undone : Is
           ap (λ (held : Held). held.store rank (name rank slot)) (held_named name old undone plans other is eager first h)
           ∙ ap (λ (k : ℕ). (held_after plans eager (under name first) h).store rank k) (undone.back rank slot)
 
-  pub right_into : IsRightEverywhere other first wanted → IsRightEverywhere plans (under name first) (under name wanted)
-  right_into right eager h done =
+  pub right_under_renaming : IsRightEverywhere other first wanted → IsRightEverywhere plans (under name first) (under name wanted)
+  right_under_renaming right eager h done =
       let there = right eager h (complete_from plans other is.ops is.needs eager h done) in
       record {
         ends = ends_alike plans other is.ops eager h there.ends;
         wanted_held = wanted_alike eager h there.wanted_held;
       }
 
--- both ways
+-- the renamed schedule is right everywhere exactly if the original is right under the renaming
 pub renamed_right : (name old : ℕ → ℕ → ℕ) (plans other : List Plan) (first : Store) (wanted : ℕ → ℕ → Value → Bool) → IsUndoneBy name old → IsRenamed name plans other
     → IsRightEverywhere other first wanted ↔ IsRightEverywhere plans (under name first) (under name wanted)
 renamed_right name old plans other first wanted undone is =
-    (right_into name old plans other undone is first wanted, from)
+    (right_under_renaming name old plans other undone is first wanted, from)
   where
     turned : IsUndoneBy old name
     turned = record { back = undone.forth; forth = undone.back }
@@ -101,5 +101,5 @@ renamed_right name old plans other first wanted undone is =
 
     from : IsRightEverywhere plans (under name first) (under name wanted) → IsRightEverywhere other first wanted
     from right =
-        let there = right_into old name other plans turned (renamed_back name old plans other undone is) (under name first) (under name wanted) right in
+        let there = right_under_renaming old name other plans turned (renamed_back name old plans other undone is) (under name first) (under name wanted) right in
         subst (λ (s : Store). IsRightEverywhere other s wanted) (twice first) (subst (λ (w : ℕ → ℕ → Value → Bool). IsRightEverywhere other (under old (under name first)) w) (twice wanted) there)

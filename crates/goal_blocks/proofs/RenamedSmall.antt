@@ -24,16 +24,16 @@ module _ (name : ℕ → ℕ) (low : (slot : ℕ) → slot ≤ slot_limit → na
       let here = low lo (omega (arith, h)) in
       All-cons NamesLowSlots (one op lo) (map (one op) (slots_from (lo + 1) n)) (here, here) (low_moves op (lo + 1) n (omega (arith, h)))
 
-  low_note : (n : Note) → NamesLowSlots n → All NamesLowSlots (renamed_note name n)
-  low_note (Moves op lo hi) h =
+  renamed_note_is_low : (n : Note) → NamesLowSlots n → All NamesLowSlots (renamed_note name n)
+  renamed_note_is_low (Moves op lo hi) h =
       low_moves op lo (hi + 1 - lo) (let a = h.0 in let b = h.1 in omega (arith, a, b))
-  low_note (Adds op from to) h =
+  renamed_note_is_low (Adds op from to) h =
       All-cons NamesLowSlots (Adds op (name from) (name to)) [] (low from h.0, low to h.1) (All-nil NamesLowSlots)
 
-  low_notes : (ns : List Note) → All NamesLowSlots ns → All NamesLowSlots (flat_map (renamed_note name) ns)
-  low_notes [] h = All-nil NamesLowSlots
-  low_notes (n ∷ ns) h =
-      subst (λ (ms : List Note). All NamesLowSlots ms) (sym (flat_map-cons (renamed_note name) n ns)) (All-append NamesLowSlots (renamed_note name n) (flat_map (renamed_note name) ns) (low_note n (All-head NamesLowSlots n ns h)) (low_notes ns (All-tail NamesLowSlots n ns h)))
+  renamed_notes_are_low : (ns : List Note) → All NamesLowSlots ns → All NamesLowSlots (flat_map (renamed_note name) ns)
+  renamed_notes_are_low [] h = All-nil NamesLowSlots
+  renamed_notes_are_low (n ∷ ns) h =
+      subst (λ (ms : List Note). All NamesLowSlots ms) (sym (flat_map-cons (renamed_note name) n ns)) (All-append NamesLowSlots (renamed_note name n) (flat_map (renamed_note name) ns) (renamed_note_is_low n (All-head NamesLowSlots n ns h)) (renamed_notes_are_low ns (All-tail NamesLowSlots n ns h)))
 
   count_moves : (op lo n : ℕ) → sum_by moved_count (map (one op) (slots_from lo n)) ≡ n
   unfolding slots_from
@@ -69,23 +69,23 @@ module _ (name : ℕ → ℕ → ℕ) where
   few_ops rank (p ∷ ps) h =
       All-cons FewOps (renamed_plan (name rank) p) (renamed_from name (rank + 1) ps) (All-head FewOps p ps h) (few_ops (rank + 1) ps (All-tail FewOps p ps h))
 
-  low_slots : KeepsSlots name → (rank : ℕ) (plans : List Plan) → All LowNotes plans → All LowNotes (renamed_from name rank plans)
+  renamed_plans_have_low_slots : KeepsSlots name → (rank : ℕ) (plans : List Plan) → All LowNotes plans → All LowNotes (renamed_from name rank plans)
   unfolding renamed_from
-  low_slots low rank [] h = All-nil LowNotes
-  low_slots low rank (p ∷ ps) h =
-      All-cons LowNotes (renamed_plan (name rank) p) (renamed_from name (rank + 1) ps) (low_notes (name rank) (low.low rank) p.notes (All-head LowNotes p ps h)) (low_slots low (rank + 1) ps (All-tail LowNotes p ps h))
+  renamed_plans_have_low_slots low rank [] h = All-nil LowNotes
+  renamed_plans_have_low_slots low rank (p ∷ ps) h =
+      All-cons LowNotes (renamed_plan (name rank) p) (renamed_from name (rank + 1) ps) (renamed_notes_are_low (name rank) (low.low rank) p.notes (All-head LowNotes p ps h)) (renamed_plans_have_low_slots low (rank + 1) ps (All-tail LowNotes p ps h))
 
-  same_moves : KeepsSlots name → (rank : ℕ) (plans : List Plan) → sum_by moved (renamed_from name rank plans) ≡ sum_by moved plans
+  renamed_plans_move_as_many : KeepsSlots name → (rank : ℕ) (plans : List Plan) → sum_by moved (renamed_from name rank plans) ≡ sum_by moved plans
   unfolding renamed_from
-  same_moves low rank [] = refl
-  same_moves low rank (p ∷ ps) =
+  renamed_plans_move_as_many low rank [] = refl
+  renamed_plans_move_as_many low rank (p ∷ ps) =
       sum_by-cons moved (renamed_plan (name rank) p) (renamed_from name (rank + 1) ps)
-      ∙ (λ i. count_notes (name rank) (low.low rank) p.notes i + same_moves low (rank + 1) ps i)
+      ∙ (λ i. count_notes (name rank) (low.low rank) p.notes i + renamed_plans_move_as_many low (rank + 1) ps i)
       ∙ sym (sum_by-cons moved p ps)
 
   pub renamed_small : (plans : List Plan) → KeepsSlots name → IsSmall plans → IsSmall (renamed name plans)
   renamed_small plans low small = record {
     operations = few_ops 0 plans small.operations;
-    slots = low_slots low 0 plans small.slots;
-    moves = subst (λ (n : ℕ). n ≤ moved_limit) (sym (same_moves low 0 plans)) small.moves;
+    slots = renamed_plans_have_low_slots low 0 plans small.slots;
+    moves = subst (λ (n : ℕ). n ≤ moved_limit) (sym (renamed_plans_move_as_many low 0 plans)) small.moves;
   }

@@ -16,9 +16,9 @@ use Rattle.goal_blocks.specs.Laws.{IsUndoneBy, IsRenamed}
 use Rattle.goal_blocks.proofs.AllowedAlike.{kind_alike, pairs_alike}
 
 module _ (name old : ℕ → ℕ → ℕ) (undone : IsUndoneBy name old) where
-  -- a slot is the one of a name where the name is that of the slot
-  same_test : (rank slot k : ℕ) → (k == name rank slot) ≡ (old rank k == slot)
-  same_test rank slot k = go (k == name rank slot) (old rank k == slot) refl refl
+  -- k is the new name of `slot` exactly if the old name of k is `slot`
+  renamed_slot_test : (rank slot k : ℕ) → (k == name rank slot) ≡ (old rank k == slot)
+  renamed_slot_test rank slot k = go (k == name rank slot) (old rank k == slot) refl refl
     where
       go : (a b : Bool) → (k == name rank slot) ≡ a → (old rank k == slot) ≡ b → a ≡ b
       go true true e f = refl
@@ -40,7 +40,7 @@ module _ (name old : ℕ → ℕ → ℕ) (undone : IsUndoneBy name old) where
           go : (b : Bool) → (r == rank) ≡ b → (if b && (k == name rank slot) then v else store r (old r k)) ≡ (if b && (old r k == slot) then v else store r (old r k))
           go false e = refl
           go true e =
-              let same : (k == name rank slot) ≡ (old r k == slot) = same_test rank slot k ∙ ap (λ (q : ℕ). old q k == slot) (sym (eqb-true r rank e)) in
+              let same : (k == name rank slot) ≡ (old r k == slot) = renamed_slot_test rank slot k ∙ ap (λ (q : ℕ). old q k == slot) (sym (eqb-true r rank e)) in
               ap (λ (b : Bool). if b then v else store r (old r k)) same
 
   write_under : (rank : ℕ) (ks : List ℕ) (vs : List Value) (store : Store) → write rank (map (name rank) ks) vs (under old store) ≡ under old (write rank ks vs store)

@@ -4,23 +4,23 @@ use Rattle.std.proofs.lemmas.Bool.{both_ways, cases_lt, lt-ltb}
 use Rattle.goal_blocks.specs.Positions.{ahead, back}
 
 -- which branch an `if` takes
-branches : (a b x y : ℕ) → ((a < b) × ((if nat_lt a b then x else y) ≡ x)) ⊎ ((b ≤ a) × ((if nat_lt a b then x else y) ≡ y))
-branches a b x y = go (nat_lt a b) refl
+if_less_cases : (a b x y : ℕ) → ((a < b) × ((if nat_lt a b then x else y) ≡ x)) ⊎ ((b ≤ a) × ((if nat_lt a b then x else y) ≡ y))
+if_less_cases a b x y = go (nat_lt a b) refl
   where
     go : (t : Bool) → nat_lt a b ≡ t → ((a < b) × ((if t then x else y) ≡ x)) ⊎ ((b ≤ a) × ((if t then x else y) ≡ y))
     go true e = inl (ltb-true a b e, refl)
     go false e = inr (⊎_elim (λ p. absurd (both_ways _ e (lt-ltb a b p))) (λ p. p) (cases_lt a b), refl)
 
-pub ahead_is : (ranks v s : ℕ) → ((v + s < ranks) × (ahead ranks v s ≡ v + s)) ⊎ ((ranks ≤ v + s) × (ahead ranks v s ≡ v + s - ranks))
+pub ahead_cases : (ranks v s : ℕ) → ((v + s < ranks) × (ahead ranks v s ≡ v + s)) ⊎ ((ranks ≤ v + s) × (ahead ranks v s ≡ v + s - ranks))
 unfolding ahead
-ahead_is ranks v s = branches (v + s) ranks (v + s) (v + s - ranks)
+ahead_cases ranks v s = if_less_cases (v + s) ranks (v + s) (v + s - ranks)
 
-pub back_is : (ranks r s : ℕ) → ((r < s) × (back ranks r s ≡ r + ranks - s)) ⊎ ((s ≤ r) × (back ranks r s ≡ r - s))
+pub back_cases : (ranks r s : ℕ) → ((r < s) × (back ranks r s ≡ r + ranks - s)) ⊎ ((s ≤ r) × (back ranks r s ≡ r - s))
 unfolding back
-back_is ranks r s = branches r s (r + ranks - s) (r - s)
+back_cases ranks r s = if_less_cases r s (r + ranks - s) (r - s)
 
 pub back_ahead : (ranks r s : ℕ) → r < ranks → s ≤ ranks → back ranks (ahead ranks r s) s ≡ r
-back_ahead ranks r s p q = go (ahead_is ranks r s) (back_is ranks (ahead ranks r s) s)
+back_ahead ranks r s p q = go (ahead_cases ranks r s) (back_cases ranks (ahead ranks r s) s)
   where
     go : ((r + s < ranks) × (ahead ranks r s ≡ r + s)) ⊎ ((ranks ≤ r + s) × (ahead ranks r s ≡ r + s - ranks)) → ((ahead ranks r s < s) × (back ranks (ahead ranks r s) s ≡ ahead ranks r s + ranks - s)) ⊎ ((s ≤ ahead ranks r s) × (back ranks (ahead ranks r s) s ≡ ahead ranks r s - s)) → back ranks (ahead ranks r s) s ≡ r
     go (inl (a, e)) (inl (b, f)) = omega (arith, p, q, a, e, b, f)
@@ -29,7 +29,7 @@ back_ahead ranks r s p q = go (ahead_is ranks r s) (back_is ranks (ahead ranks r
     go (inr (a, e)) (inr (b, f)) = omega (arith, p, q, a, e, b, f)
 
 pub ahead_back : (ranks r s : ℕ) → r < ranks → s ≤ ranks → ahead ranks (back ranks r s) s ≡ r
-ahead_back ranks r s p q = go (back_is ranks r s) (ahead_is ranks (back ranks r s) s)
+ahead_back ranks r s p q = go (back_cases ranks r s) (ahead_cases ranks (back ranks r s) s)
   where
     go : ((r < s) × (back ranks r s ≡ r + ranks - s)) ⊎ ((s ≤ r) × (back ranks r s ≡ r - s)) → ((back ranks r s + s < ranks) × (ahead ranks (back ranks r s) s ≡ back ranks r s + s)) ⊎ ((ranks ≤ back ranks r s + s) × (ahead ranks (back ranks r s) s ≡ back ranks r s + s - ranks)) → ahead ranks (back ranks r s) s ≡ r
     go (inl (a, e)) (inl (b, f)) = omega (arith, p, q, a, e, b, f)
@@ -37,15 +37,15 @@ ahead_back ranks r s p q = go (back_is ranks r s) (ahead_is ranks (back ranks r 
     go (inr (a, e)) (inl (b, f)) = omega (arith, p, q, a, e, b, f)
     go (inr (a, e)) (inr (b, f)) = omega (arith, p, q, a, e, b, f)
 
--- the ranks that are as far from a root are one
-pub back_same : (ranks r k root : ℕ) → r < ranks → k < ranks → root < ranks → back ranks k root ≡ back ranks r root → k ≡ r
-back_same ranks r k root p q z e =
+-- two ranks with the same distance from the root are equal
+pub back_by_root_injective : (ranks r k root : ℕ) → r < ranks → k < ranks → root < ranks → back ranks k root ≡ back ranks r root → k ≡ r
+back_by_root_injective ranks r k root p q z e =
     sym (ahead_back ranks k root q (omega (arith, z))) ∙ ap (λ (v : ℕ). ahead ranks v root) e ∙ ahead_back ranks r root p (omega (arith, z))
 
 -- the root has the virtual rank 0, and no other rank has
-pub root_virtual : (ranks root : ℕ) → back ranks root root ≡ 0
-root_virtual ranks root =
-    ⊎_elim (λ p. absurd (let lt = p.0 in omega (arith, lt))) (λ p. let e = p.1 in omega (arith, e)) (back_is ranks root root)
+pub root_has_virtual_rank_zero : (ranks root : ℕ) → back ranks root root ≡ 0
+root_has_virtual_rank_zero ranks root =
+    ⊎_elim (λ p. absurd (let lt = p.0 in omega (arith, lt))) (λ p. let e = p.1 in omega (arith, e)) (back_cases ranks root root)
 
-pub is_root : (ranks r root : ℕ) → r < ranks → root < ranks → back ranks r root ≡ 0 → r ≡ root
-is_root ranks r root p z e = back_same ranks root r root z p z (e ∙ sym (root_virtual ranks root))
+pub virtual_rank_zero_is_root : (ranks r root : ℕ) → r < ranks → root < ranks → back ranks r root ≡ 0 → r ≡ root
+virtual_rank_zero_is_root ranks r root p z e = back_by_root_injective ranks root r root z p z (e ∙ sym (root_has_virtual_rank_zero ranks root))

@@ -22,36 +22,36 @@ back_below ranks r s a = grind (arith, nat_tests)
 -- binary digits
 
 -- a number of n digits is below 2^n, and not below 2^(n - 1)
-digits_are : (n : ℕ) → n < 2 ^ 32 → (n < 2 ^ digits n) × (2 ^ digits n ≤ 2 * n + 1)
+digits_bound_number : (n : ℕ) → n < 2 ^ 32 → (n < 2 ^ digits n) × (2 ^ digits n ≤ 2 * n + 1)
 unfolding digits
-digits_are n h =
+digits_bound_number n h =
     let l = leading_length 32 n h in
     let e : 32 - count_leading_zeros 32 n ≡ l.0 = omega (arith, l.1) in
     rw e (l.2, l.3)
 
-pub digits_high : (n i : ℕ) → n < 2 ^ 32 → digits n ≤ i → n < 2 ^ i
-digits_high n i h le =
+pub below_power_of_digits : (n i : ℕ) → n < 2 ^ 32 → digits n ≤ i → n < 2 ^ i
+below_power_of_digits n i h le =
     let m = pow_mono le in
-    omega (arith, m, (digits_are n h).0)
+    omega (arith, m, (digits_bound_number n h).0)
 
-pub digits_low : (n i : ℕ) → n < 2 ^ 32 → i < digits n → 2 ^ i ≤ n
-digits_low n i h lt =
+pub power_below_digits_at_most : (n i : ℕ) → n < 2 ^ 32 → i < digits n → 2 ^ i ≤ n
+power_below_digits_at_most n i h lt =
     let m : 2 ^ suc i ≤ 2 ^ digits n = pow_mono lt in
     let e = pow-suc 2 i in
-    omega (arith, m, e, (digits_are n h).1)
+    omega (arith, m, e, (digits_bound_number n h).1)
 
 pub digits_few : (n k : ℕ) → n < 2 ^ 32 → n < 2 ^ k → digits n ≤ k
 digits_few n k h few = go (cases_lt k (digits n))
   where
     go : (k < digits n) ⊎ (digits n ≤ k) → digits n ≤ k
-    go (inl lt) = absurd (omega (arith, digits_low n k h lt))
+    go (inl lt) = absurd (omega (arith, power_below_digits_at_most n k h lt))
     go (inr le) = le
 
 -- the rank with another binary digit
 
--- an even number below 2^(j + 1) is below it with its neighbour
-even_below : (q j : ℕ) → q % 2 ≡ 0 → q < 2 ^ suc j → q + 1 < 2 ^ suc j
-even_below q j even lt =
+-- if an even number is below 2^(j + 1), so is its successor
+even_neighbour_below_power : (q j : ℕ) → q % 2 ≡ 0 → q < 2 ^ suc j → q + 1 < 2 ^ suc j
+even_neighbour_below_power q j even lt =
     let e = pow-suc 2 j in
     omega (arith, e)
 
@@ -64,7 +64,7 @@ flipped_below m r k lt few = go (eqb (r / 2 ^ k % 2) 0) refl
         let j = m - suc k in
         let e : m ≡ suc j + k = omega arith in
         let below : r < 2 ^ (suc j + k) = subst (λ (n : ℕ). r < 2 ^ n) e lt in
-        let next = even_below (r / 2 ^ k) j even (shr_lt (suc j) k below) in
+        let next = even_neighbour_below_power (r / 2 ^ k) j even (shr_lt (suc j) k below) in
         let up = mul-le-mul_right (2 ^ k) next in
         let parts = div-add-mod' r (2 ^ k) in
         let rest = mod_below r (2 ^ k) (pow_pos k) in
@@ -82,7 +82,7 @@ digits_some n h some = go (cases_lt 0 (digits n))
   where
     go : (0 < digits n) ⊎ (digits n ≤ 0) → 0 < digits n
     go (inl lt) = lt
-    go (inr none) = absurd (omega (arith, digits_high n 0 h none))
+    go (inr none) = absurd (omega (arith, below_power_of_digits n 0 h none))
 
 -- all virtual ranks but 0 have a parent
 

@@ -37,9 +37,9 @@ span_is_share ranks x y inside = go (leb x y) refl
     go false e = record { ordered = All_two (λ (s : Span). s.lo ≤ s.hi) (record { lo = x; hi = ranks - 1 }) (record { lo = 0; hi = y }) (omega arith) (omega arith); short = omega arith }
 
 module _ (ranks bytes : ℕ) (small : bytes ≤ MAX_BYTES) (root : ℕ) (rooted : root < ranks) (few : ranks ≤ rank_limit) where
-  share_is : (v s : ℕ) → v < ranks → IsShare (share ranks root v s)
+  share_in_order_and_short : (v s : ℕ) → v < ranks → IsShare (share ranks root v s)
   unfolding share
-  share_is v s inside = span_is_share ranks (ahead ranks v root) (ahead ranks (min (v + s) ranks - 1) root) (ahead_below ranks v root inside (omega arith))
+  share_in_order_and_short v s inside = span_is_share ranks (ahead ranks v root) (ahead ranks (min (v + s) ranks - 1) root) (ahead_below ranks v root inside (omega arith))
 
   parent_below : (v : ℕ) → v < ranks → parent ranks root v < ranks
   unfolding parent
@@ -81,11 +81,11 @@ module _ (ranks bytes : ℕ) (small : bytes ≤ MAX_BYTES) (root : ℕ) (rooted 
       go : (b : Bool) → ltb i (rounds ranks v) ≡ b → IsSlim ranks i 16 2 (if b then receiving bytes (ahead ranks (v + 2 ^ i) root) i (share ranks root (v + 2 ^ i) (2 ^ i)) else sending bytes (parent ranks root v) (low v) (range_with_len 0 (rounds ranks v)) (share ranks root v (2 ^ low v)))
       go true e =
           let below : i < rounds ranks v = grind (arith, nat_tests) in
-          let part = share_is (v + 2 ^ i) (2 ^ i) (child_below ranks few v i inside below) in
+          let part = share_in_order_and_short (v + 2 ^ i) (2 ^ i) (child_below ranks few v i inside below) in
           receiving_slim ranks i bytes small 16 2 (ahead ranks (v + 2 ^ i) root) i (share ranks root (v + 2 ^ i) (2 ^ i)) (child_rank v i inside below) part.ordered part.short
       go false e =
           let after : rounds ranks v ≤ i = grind (arith, nat_tests) in
-          let part = share_is v (2 ^ low v) inside in
+          let part = share_in_order_and_short v (2 ^ low v) inside in
           sending_slim ranks i bytes small 16 2 (parent ranks root v) (low v) (range_with_len 0 (rounds ranks v)) (share ranks root v (2 ^ low v)) (parent_below v inside)
           (All-range (λ (k : ℕ). k < i) (rounds ranks v) (λ k l. omega arith)) (omega (arith, length-range_with_len 0 (rounds ranks v), rounds_few ranks few v)) part.ordered part.short
 
@@ -98,14 +98,14 @@ module _ (ranks bytes : ℕ) (small : bytes ≤ MAX_BYTES) (root : ℕ) (rooted 
   -- the scatter
   give_slim : (v j i : ℕ) (needs : List ℕ) → v < ranks → j < rounds ranks v → All (λ (n : ℕ). n < i) needs → length needs ≤ 1 → IsSlim ranks i 1 2 (give_in ranks root bytes v j needs)
   give_slim v j i needs inside lt lower le =
-      let part = share_is (v + 2 ^ j) (2 ^ j) (child_below ranks few v j inside lt) in
+      let part = share_in_order_and_short (v + 2 ^ j) (2 ^ j) (child_below ranks few v j inside lt) in
       sending_slim ranks i bytes small 1 2 (ahead ranks (v + 2 ^ j) root) j needs (share ranks root (v + 2 ^ j) (2 ^ j)) (child_rank v j inside lt) lower le part.ordered part.short
 
   scatter_slim : (v i : ℕ) → v < ranks → i < upward v + rounds ranks v → IsSlim ranks i 1 2 (scatter_in ranks root bytes v i)
   unfolding scatter_in
   scatter_slim zero i inside lt = give_slim 0 (rounds ranks 0 - 1 - i) i [] inside (omega arith) (All-nil (λ (n : ℕ). n < i)) (omega arith)
   scatter_slim (suc w) zero inside lt =
-      let part = share_is (suc w) (2 ^ low (suc w)) inside in
+      let part = share_in_order_and_short (suc w) (2 ^ low (suc w)) inside in
       receiving_slim ranks 0 bytes small 1 2 (parent ranks root (suc w)) (low (suc w)) (share ranks root (suc w) (2 ^ low (suc w))) (parent_below (suc w) inside) part.ordered part.short
   scatter_slim (suc w) (suc i) inside lt =
       let one = upward_some (suc w) (omega arith) in

@@ -21,9 +21,9 @@ use Rattle.goal_blocks.specs.Made.{before_round, round_in}
 use Rattle.goal_blocks.specs.Messages.{AreMessages}
 use Rattle.goal_blocks.proofs.Orders.{Mem}
 use Rattle.goal_blocks.proofs.EntryFacts.{slots_of_span}
-use Rattle.goal_blocks.proofs.MadePaired.{at, same_place}
+use Rattle.goal_blocks.proofs.MadePaired.{at, at_of_equal_numbers}
 use Rattle.goal_blocks.proofs.AllgatherCertified.{slots_of_single_slot}
-use Rattle.goal_blocks.proofs.PlanBy.{range_more}
+use Rattle.goal_blocks.proofs.PlanBy.{range_of_next_length}
 use Rattle.goal_blocks.proofs.Doubling.{doubling, doubling_zero, doubling_early, doubling_high}
 use Rattle.goal_blocks.proofs.Slim.{All_one}
 use Rattle.goal_blocks.proofs.Sizes.{sum_below_few, entries_small}
@@ -115,7 +115,7 @@ module _ (ranks n bytes : ℕ) (to from : ℕ → ℕ → ℕ) (to_rank : (r k :
 
   turn_cases : (x : OpId) → x.rank < ranks → x.op < 3 * n → ((nanos : ℕ) × ((rounds_entry x.rank x.op).kind ≡ Calc nanos)) ⊎ (((t : Turn) × (turn_send t ≡ x)) ⊎ ((t : Turn) × (turn_recv t ≡ x)))
   turn_cases x in_rank inside =
-      ⊎_elim (λ p. let f = p.1 in inr (inl (record { sender = x.rank; round = p.0; inside = in_rank; early = omega (arith, inside, f) }, same_place x.rank (3 * p.0) x.rank x.op refl (sym f)))) (λ c. ⊎_elim (λ p. let f = p.1 in let early : p.0 < n = omega (arith, inside, f) in inr (inr (record { sender = from x.rank p.0; round = p.0; inside = from_rank x.rank p.0 in_rank early; early = early }, same_place (to (from x.rank p.0) p.0) (3 * p.0 + 1) x.rank x.op (back_and_there x.rank p.0 in_rank early) (sym f)))) (λ p. inl (0, ap (λ (y : Entry). y.kind) (as_sum x.rank x.op p.0 p.1))) c) (cases_triple x.op)
+      ⊎_elim (λ p. let f = p.1 in inr (inl (record { sender = x.rank; round = p.0; inside = in_rank; early = omega (arith, inside, f) }, at_of_equal_numbers x.rank (3 * p.0) x.rank x.op refl (sym f)))) (λ c. ⊎_elim (λ p. let f = p.1 in let early : p.0 < n = omega (arith, inside, f) in inr (inr (record { sender = from x.rank p.0; round = p.0; inside = from_rank x.rank p.0 in_rank early; early = early }, at_of_equal_numbers (to (from x.rank p.0) p.0) (3 * p.0 + 1) x.rank x.op (back_and_there x.rank p.0 in_rank early) (sym f)))) (λ p. inl (0, ap (λ (y : Entry). y.kind) (as_sum x.rank x.op p.0 p.1))) c) (cases_triple x.op)
 
   turn_messages : AreMessages ranks rounds_count rounds_entry Turn bytes turn_send turn_recv (λ t. t.round)
   turn_messages = record {
@@ -125,14 +125,14 @@ module _ (ranks n bytes : ℕ) (to from : ℕ → ℕ → ℕ) (to_rank : (r k :
     received = λ t. ap (λ (y : Entry). y.kind) (receives (to t.sender t.round) t.round) ∙ ap (λ (r : ℕ). Recv bytes (Some r) (Some t.round)) (there_and_back t.sender t.round t.inside t.early);
     cases = λ x in_rank inside. turn_cases x in_rank inside;
     apart = λ t u source target tag. (
-      same_place t.sender (3 * t.round) u.sender (3 * u.round) source (ap (λ (k : ℕ). 3 * k) tag),
-      same_place (to t.sender t.round) (3 * t.round + 1) (to u.sender u.round) (3 * u.round + 1) target (ap (λ (k : ℕ). 3 * k + 1) tag),
+      at_of_equal_numbers t.sender (3 * t.round) u.sender (3 * u.round) source (ap (λ (k : ℕ). 3 * k) tag),
+      at_of_equal_numbers (to t.sender t.round) (3 * t.round + 1) (to u.sender u.round) (3 * u.round + 1) target (ap (λ (k : ℕ). 3 * k + 1) tag),
     );
   }
 
   -- what an operation requires
-  needs_are : (r i k : ℕ) → Mem k (rounds_entry r i).needs → ((t : ℕ) × (i ≡ 3 * suc t) × (k ≡ 3 * t + 2)) ⊎ ((t : ℕ) × (i ≡ 3 * t + 2) × ((k ≡ 3 * t) ⊎ (k ≡ 3 * t + 1)))
-  needs_are r i k m = ⊎_elim (λ p. sent p.0 p.1 (subst (λ (x : Entry). Mem k x.needs) (as_send r i p.0 p.1) m)) (λ c. ⊎_elim (λ p. absurd (subst (λ (x : Entry). Mem k x.needs) (as_receive r i p.0 p.1) m)) (λ p. inr (p.0, p.1, two p.0 (subst (λ (x : Entry). Mem k x.needs) (as_sum r i p.0 p.1) m))) c) (cases_triple i)
+  rounds_needs_cases : (r i k : ℕ) → Mem k (rounds_entry r i).needs → ((t : ℕ) × (i ≡ 3 * suc t) × (k ≡ 3 * t + 2)) ⊎ ((t : ℕ) × (i ≡ 3 * t + 2) × ((k ≡ 3 * t) ⊎ (k ≡ 3 * t + 1)))
+  rounds_needs_cases r i k m = ⊎_elim (λ p. sent p.0 p.1 (subst (λ (x : Entry). Mem k x.needs) (as_send r i p.0 p.1) m)) (λ c. ⊎_elim (λ p. absurd (subst (λ (x : Entry). Mem k x.needs) (as_receive r i p.0 p.1) m)) (λ p. inr (p.0, p.1, two p.0 (subst (λ (x : Entry). Mem k x.needs) (as_sum r i p.0 p.1) m))) c) (cases_triple i)
     where
       sent : (t : ℕ) → i ≡ 3 * t → Mem k (before_round t) → ((t : ℕ) × (i ≡ 3 * suc t) × (k ≡ 3 * t + 2)) ⊎ ((t : ℕ) × (i ≡ 3 * t + 2) × ((k ≡ 3 * t) ⊎ (k ≡ 3 * t + 1)))
       sent zero e x = absurd x
@@ -147,43 +147,43 @@ module _ (ranks n bytes : ℕ) (to from : ℕ → ℕ → ℕ) (to_rank : (r k :
   lower : (r i k : ℕ) → IsThere ranks rounds_count rounds_entry r i → Mem k (rounds_entry r i).needs → (k < 3 * n) × (rounds_level r k < rounds_level r i)
   lower r i k there m =
       let inside = there.1 in
-      ⊎_elim (λ p. let f = p.1 in let g = p.2 in (omega (arith, inside, f, g), omega (arith, f, g))) (λ p. let f = p.1 in ⊎_elim (λ g. (omega (arith, inside, f, g), omega (arith, f, g))) (λ g. (omega (arith, inside, f, g), omega (arith, f, g))) p.2) (needs_are r i k m)
+      ⊎_elim (λ p. let f = p.1 in let g = p.2 in (omega (arith, inside, f, g), omega (arith, f, g))) (λ p. let f = p.1 in ⊎_elim (λ g. (omega (arith, inside, f, g), omega (arith, f, g))) (λ g. (omega (arith, inside, f, g), omega (arith, f, g))) p.2) (rounds_needs_cases r i k m)
 
-  -- orders
-  send_sum : (r t : ℕ) → Precedes (rounds_entry r) (3 * t) (3 * t + 2)
-  send_sum r t = now (subst (λ (x : Entry). Mem (3 * t) x.needs) (sym (adds_up r t)) (inl refl))
+  -- which operations of a round precede which
+  send_precedes_sum : (r t : ℕ) → Precedes (rounds_entry r) (3 * t) (3 * t + 2)
+  send_precedes_sum r t = now (subst (λ (x : Entry). Mem (3 * t) x.needs) (sym (adds_up r t)) (inl refl))
 
-  receive_sum : (r t : ℕ) → Precedes (rounds_entry r) (3 * t + 1) (3 * t + 2)
-  receive_sum r t = now (subst (λ (x : Entry). Mem (3 * t + 1) x.needs) (sym (adds_up r t)) (inr (inl refl)))
+  receive_precedes_own_sum : (r t : ℕ) → Precedes (rounds_entry r) (3 * t + 1) (3 * t + 2)
+  receive_precedes_own_sum r t = now (subst (λ (x : Entry). Mem (3 * t + 1) x.needs) (sym (adds_up r t)) (inr (inl refl)))
 
-  sum_next : (r t : ℕ) → Mem (3 * t + 2) (rounds_entry r (3 * suc t)).needs
-  sum_next r t = subst (λ (x : Entry). Mem (3 * t + 2) x.needs) (sym (sends r (suc t))) (inl refl)
+  next_send_needs_sum : (r t : ℕ) → Mem (3 * t + 2) (rounds_entry r (3 * suc t)).needs
+  next_send_needs_sum r t = subst (λ (x : Entry). Mem (3 * t + 2) x.needs) (sym (sends r (suc t))) (inl refl)
 
-  send_in_sum : (r t : ℕ) → Mem (3 * t) (rounds_entry r (3 * t + 2)).needs
-  send_in_sum r t = subst (λ (x : Entry). Mem (3 * t) x.needs) (sym (adds_up r t)) (inl refl)
+  sum_needs_send : (r t : ℕ) → Mem (3 * t) (rounds_entry r (3 * t + 2)).needs
+  sum_needs_send r t = subst (λ (x : Entry). Mem (3 * t) x.needs) (sym (adds_up r t)) (inl refl)
 
   -- what comes before the sum of a round comes before all later ones
-  before_sums : (r j t u : ℕ) → t ≤ u → Precedes (rounds_entry r) j (3 * t + 2) → Precedes (rounds_entry r) j (3 * u + 2)
-  before_sums r j t zero l p =
+  precedes_later_sums : (r j t u : ℕ) → t ≤ u → Precedes (rounds_entry r) j (3 * t + 2) → Precedes (rounds_entry r) j (3 * u + 2)
+  precedes_later_sums r j t zero l p =
       let e : t ≡ 0 = omega (arith, l) in subst (λ (m : ℕ). Precedes (rounds_entry r) j (3 * m + 2)) e p
-  before_sums r j t (suc u) l p =
-      ⊎_elim (λ e. subst (λ (m : ℕ). Precedes (rounds_entry r) j (3 * m + 2)) e p) (λ d. after (3 * suc u) (send_in_sum r (suc u)) (after (3 * u + 2) (sum_next r u) (before_sums r j t u (omega (arith, l, d)) p))) (cases_eq t (suc u))
+  precedes_later_sums r j t (suc u) l p =
+      ⊎_elim (λ e. subst (λ (m : ℕ). Precedes (rounds_entry r) j (3 * m + 2)) e p) (λ d. after (3 * suc u) (sum_needs_send r (suc u)) (after (3 * u + 2) (next_send_needs_sum r u) (precedes_later_sums r j t u (omega (arith, l, d)) p))) (cases_eq t (suc u))
 
-  sum_sum : (r t u : ℕ) → t < u → Precedes (rounds_entry r) (3 * t + 2) (3 * u + 2)
-  sum_sum r t u l =
-      before_sums r (3 * t + 2) (suc t) u (omega (arith, l)) (after (3 * suc t) (send_in_sum r (suc t)) (now (sum_next r t)))
+  sum_precedes_later_sum : (r t u : ℕ) → t < u → Precedes (rounds_entry r) (3 * t + 2) (3 * u + 2)
+  sum_precedes_later_sum r t u l =
+      precedes_later_sums r (3 * t + 2) (suc t) u (omega (arith, l)) (after (3 * suc t) (sum_needs_send r (suc t)) (now (next_send_needs_sum r t)))
 
-  sum_send : (r t u : ℕ) → t < u → Precedes (rounds_entry r) (3 * t + 2) (3 * u)
-  sum_send r t zero l = absurd (omega (arith, l))
-  sum_send r t (suc u) l =
-      ⊎_elim (λ e. now (subst (λ (m : ℕ). Mem (3 * m + 2) (rounds_entry r (3 * suc u)).needs) (sym e) (sum_next r u))) (λ d. after (3 * u + 2) (sum_next r u) (sum_sum r t u (omega (arith, l, d)))) (cases_eq t u)
+  sum_precedes_later_send : (r t u : ℕ) → t < u → Precedes (rounds_entry r) (3 * t + 2) (3 * u)
+  sum_precedes_later_send r t zero l = absurd (omega (arith, l))
+  sum_precedes_later_send r t (suc u) l =
+      ⊎_elim (λ e. now (subst (λ (m : ℕ). Mem (3 * m + 2) (rounds_entry r (3 * suc u)).needs) (sym e) (next_send_needs_sum r u))) (λ d. after (3 * u + 2) (next_send_needs_sum r u) (sum_precedes_later_sum r t u (omega (arith, l, d)))) (cases_eq t u)
 
-  send_sums : (r t u : ℕ) → t ≤ u → Precedes (rounds_entry r) (3 * t) (3 * u + 2)
-  send_sums r t u l = before_sums r (3 * t) t u l (send_sum r t)
+  send_precedes_later_sums : (r t u : ℕ) → t ≤ u → Precedes (rounds_entry r) (3 * t) (3 * u + 2)
+  send_precedes_later_sums r t u l = precedes_later_sums r (3 * t) t u l (send_precedes_sum r t)
 
   -- what is written: by a receive the slot of its round, by a sum slot 0
-  pub writes_are : (r i s : ℕ) → Mem s (writes (rounds_entry r i)) → ((k : ℕ) × (i ≡ 3 * k + 1) × (k + 1 ≡ s)) ⊎ ((k : ℕ) × (i ≡ 3 * k + 2) × (0 ≡ s))
-  writes_are r i s m = ⊎_elim (λ p. absurd (subst (λ (x : Entry). Mem s (writes x)) (as_send r i p.0 p.1) m)) (λ c. ⊎_elim (λ p. inl (p.0, p.1, at_slot (p.0 + 1) (subst (λ (x : Entry). Mem s (writes x)) (as_receive r i p.0 p.1) m))) (λ p. inr (p.0, p.1, one (subst (λ (x : Entry). Mem s (writes x)) (as_sum r i p.0 p.1) m))) c) (cases_triple i)
+  pub rounds_writes_cases : (r i s : ℕ) → Mem s (writes (rounds_entry r i)) → ((k : ℕ) × (i ≡ 3 * k + 1) × (k + 1 ≡ s)) ⊎ ((k : ℕ) × (i ≡ 3 * k + 2) × (0 ≡ s))
+  rounds_writes_cases r i s m = ⊎_elim (λ p. absurd (subst (λ (x : Entry). Mem s (writes x)) (as_send r i p.0 p.1) m)) (λ c. ⊎_elim (λ p. inl (p.0, p.1, at_slot (p.0 + 1) (subst (λ (x : Entry). Mem s (writes x)) (as_receive r i p.0 p.1) m))) (λ p. inr (p.0, p.1, one (subst (λ (x : Entry). Mem s (writes x)) (as_sum r i p.0 p.1) m))) c) (cases_triple i)
     where
       at_slot : (j : ℕ) → Mem s (flat_map slots_of_span (slot j)) → j ≡ s
       at_slot j x = ⊎_elim (λ e. e) (λ none. absurd none) (subst (λ (ks : List ℕ). Mem s ks) (slots_of_single_slot j) x)
@@ -200,8 +200,8 @@ module _ (ranks n bytes : ℕ) (to from : ℕ → ℕ → ℕ) (to_rank : (r k :
   sum_writes r k = subst (λ (x : Entry). Mem 0 (writes x)) (sym (adds_up r k)) (inl refl)
 
   -- what is touched: by a send slot 0, by a receive the slot of its round, by a sum both
-  touches_are : (r i s : ℕ) → Mem s (touches (rounds_entry r i)) → ((k : ℕ) × (i ≡ 3 * k) × (0 ≡ s)) ⊎ (((k : ℕ) × (i ≡ 3 * k + 1) × (k + 1 ≡ s)) ⊎ ((k : ℕ) × (i ≡ 3 * k + 2) × ((k + 1 ≡ s) ⊎ (0 ≡ s))))
-  touches_are r i s m = ⊎_elim (λ p. inl (p.0, p.1, at_slot 0 (subst (λ (x : Entry). Mem s (touches x)) (as_send r i p.0 p.1) m))) (λ c. inr (⊎_elim (λ p. inl (p.0, p.1, at_slot (p.0 + 1) (subst (λ (x : Entry). Mem s (touches x)) (as_receive r i p.0 p.1) m))) (λ p. inr (p.0, p.1, two p.0 (subst (λ (x : Entry). Mem s (touches x)) (as_sum r i p.0 p.1) m))) c)) (cases_triple i)
+  rounds_touches_cases : (r i s : ℕ) → Mem s (touches (rounds_entry r i)) → ((k : ℕ) × (i ≡ 3 * k) × (0 ≡ s)) ⊎ (((k : ℕ) × (i ≡ 3 * k + 1) × (k + 1 ≡ s)) ⊎ ((k : ℕ) × (i ≡ 3 * k + 2) × ((k + 1 ≡ s) ⊎ (0 ≡ s))))
+  rounds_touches_cases r i s m = ⊎_elim (λ p. inl (p.0, p.1, at_slot 0 (subst (λ (x : Entry). Mem s (touches x)) (as_send r i p.0 p.1) m))) (λ c. inr (⊎_elim (λ p. inl (p.0, p.1, at_slot (p.0 + 1) (subst (λ (x : Entry). Mem s (touches x)) (as_receive r i p.0 p.1) m))) (λ p. inr (p.0, p.1, two p.0 (subst (λ (x : Entry). Mem s (touches x)) (as_sum r i p.0 p.1) m))) c)) (cases_triple i)
     where
       at_slot : (j : ℕ) → Mem s (flat_map slots_of_span (slot j)) → j ≡ s
       at_slot j x = ⊎_elim (λ e. e) (λ none. absurd none) (subst (λ (ks : List ℕ). Mem s ks) (slots_of_single_slot j) x)
@@ -211,27 +211,27 @@ module _ (ranks n bytes : ℕ) (to from : ℕ → ℕ → ℕ) (to_rank : (r k :
       two k (inr (inl e)) = inr e
       two k (inr (inr x)) = absurd x
 
-  -- by the numbers of the operations
-  placed : (r i j a b : ℕ) → i ≡ a → j ≡ b → Precedes (rounds_entry r) a b → Precedes (rounds_entry r) i j
-  placed r i j a b e f p =
+  -- the order of operations whose numbers are given by equations
+  precedes_at_equal_numbers : (r i j a b : ℕ) → i ≡ a → j ≡ b → Precedes (rounds_entry r) a b → Precedes (rounds_entry r) i j
+  precedes_at_equal_numbers r i j a b e f p =
       subst (λ (m : ℕ). Precedes (rounds_entry r) m j) (sym e) (subst (λ (m : ℕ). Precedes (rounds_entry r) a m) (sym f) p)
 
   race : (r i j s : ℕ) → (i ≡ j → ⊥) → Mem s (touches (rounds_entry r i)) → Mem s (writes (rounds_entry r j)) → Precedes (rounds_entry r) i j ⊎ Precedes (rounds_entry r) j i
-  race r i j s differ t w = go (touches_are r i s t) (writes_are r j s w)
+  race r i j s differ t w = go (rounds_touches_cases r i s t) (rounds_writes_cases r j s w)
     where
       sums : (k u : ℕ) → i ≡ 3 * k + 2 → j ≡ 3 * u + 2 → Precedes (rounds_entry r) i j ⊎ Precedes (rounds_entry r) j i
       sums k u e f =
-          ⊎_elim (λ l. inl (placed r i j (3 * k + 2) (3 * u + 2) e f (sum_sum r k u l))) (λ g. inr (placed r j i (3 * u + 2) (3 * k + 2) f e (sum_sum r u k (let d : k ≡ u → ⊥ = λ same. differ (e ∙ ap (λ (m : ℕ). 3 * m + 2) same ∙ sym f) in ⊎_elim (λ same. absurd (d same)) (λ other. omega (arith, g, other)) (cases_eq k u))))) (cases_lt k u)
+          ⊎_elim (λ l. inl (precedes_at_equal_numbers r i j (3 * k + 2) (3 * u + 2) e f (sum_precedes_later_sum r k u l))) (λ g. inr (precedes_at_equal_numbers r j i (3 * u + 2) (3 * k + 2) f e (sum_precedes_later_sum r u k (let d : k ≡ u → ⊥ = λ same. differ (e ∙ ap (λ (m : ℕ). 3 * m + 2) same ∙ sym f) in ⊎_elim (λ same. absurd (d same)) (λ other. omega (arith, g, other)) (cases_eq k u))))) (cases_lt k u)
 
       go : ((k : ℕ) × (i ≡ 3 * k) × (0 ≡ s)) ⊎ (((k : ℕ) × (i ≡ 3 * k + 1) × (k + 1 ≡ s)) ⊎ ((k : ℕ) × (i ≡ 3 * k + 2) × ((k + 1 ≡ s) ⊎ (0 ≡ s)))) → ((k : ℕ) × (j ≡ 3 * k + 1) × (k + 1 ≡ s)) ⊎ ((k : ℕ) × (j ≡ 3 * k + 2) × (0 ≡ s)) → Precedes (rounds_entry r) i j ⊎ Precedes (rounds_entry r) j i
       go (inl (k, e, f)) (inl (u, g, h)) = absurd (omega (arith, f, h))
       go (inl (k, e, f)) (inr (u, g, h)) =
-          ⊎_elim (λ l. inr (placed r j i (3 * u + 2) (3 * k) g e (sum_send r u k l))) (λ l. inl (placed r i j (3 * k) (3 * u + 2) e g (send_sums r k u l))) (cases_lt u k)
+          ⊎_elim (λ l. inr (precedes_at_equal_numbers r j i (3 * u + 2) (3 * k) g e (sum_precedes_later_send r u k l))) (λ l. inl (precedes_at_equal_numbers r i j (3 * k) (3 * u + 2) e g (send_precedes_later_sums r k u l))) (cases_lt u k)
       go (inr (inl (k, e, f))) (inl (u, g, h)) =
           absurd (differ (let same : k ≡ u = omega (arith, f, h) in e ∙ ap (λ (m : ℕ). 3 * m + 1) same ∙ sym g))
       go (inr (inl (k, e, f))) (inr (u, g, h)) = absurd (omega (arith, f, h))
       go (inr (inr (k, e, inl f))) (inl (u, g, h)) =
-          inr (placed r j i (3 * k + 1) (3 * k + 2) (let same : u ≡ k = omega (arith, f, h) in g ∙ ap (λ (m : ℕ). 3 * m + 1) same) e (receive_sum r k))
+          inr (precedes_at_equal_numbers r j i (3 * k + 1) (3 * k + 2) (let same : u ≡ k = omega (arith, f, h) in g ∙ ap (λ (m : ℕ). 3 * m + 1) same) e (receive_precedes_own_sum r k))
       go (inr (inr (k, e, inl f))) (inr (u, g, h)) = absurd (omega (arith, f, h))
       go (inr (inr (k, e, inr f))) (inl (u, g, h)) = absurd (omega (arith, f, h))
       go (inr (inr (k, e, inr f))) (inr (u, g, h)) = sums k u e g
@@ -258,22 +258,22 @@ module _ (ranks n bytes : ℕ) (to from : ℕ → ℕ → ℕ) (to_rank : (r k :
     -- slot 0 before a round: as at first, or as the sum of the round before leaves it
     zero_origin : (r i k : ℕ) → r < ranks → k < n → i / 3 ≡ k → ((u : ℕ) → k ≤ u → (3 * u + 2 ≡ i) ⊎ Precedes (rounds_entry r) i (3 * u + 2)) → ((u : ℕ) → u < k → Precedes (rounds_entry r) (3 * u + 2) i) → Origin ranks rounds_count rounds_entry first wanted rounds_finds rounds_leaves r i 0
     unfolding gained
-    zero_origin r i zero inside l e later earlier = inl (first_is r inside ∙ sym (finds_zero r i 0 e), λ j m w. writer j (writes_are r j 0 w))
+    zero_origin r i zero inside l e later earlier = inl (first_is r inside ∙ sym (finds_zero r i 0 e), λ j m w. writer j (rounds_writes_cases r j 0 w))
       where
         writer : (j : ℕ) → ((k : ℕ) × (j ≡ 3 * k + 1) × (k + 1 ≡ 0)) ⊎ ((k : ℕ) × (j ≡ 3 * k + 2) × (◌≡◌ {A = ℕ} 0 0)) → (j ≡ i) ⊎ Precedes (rounds_entry r) i j
         writer j (inl (k, f, g)) = absurd (omega (arith, g))
         writer j (inr (k, f, g)) =
-            ⊎_elim (λ same. inl (f ∙ same)) (λ p. inr (placed r i j i (3 * k + 2) refl f p)) (later k (omega arith))
+            ⊎_elim (λ same. inl (f ∙ same)) (λ p. inr (precedes_at_equal_numbers r i j i (3 * k + 2) refl f p)) (later k (omega arith))
     zero_origin r i (suc t) inside l e later earlier =
-        inr (3 * t + 2, omega (arith, l), sum_writes r t, earlier t (omega arith), leaves_zero r (3 * t + 2) t (omega arith) ∙ sym (finds_zero r i (suc t) e), λ j m w. writer j (writes_are r j 0 w))
+        inr (3 * t + 2, omega (arith, l), sum_writes r t, earlier t (omega arith), leaves_zero r (3 * t + 2) t (omega arith) ∙ sym (finds_zero r i (suc t) e), λ j m w. writer j (rounds_writes_cases r j 0 w))
       where
         writer : (j : ℕ) → ((k : ℕ) × (j ≡ 3 * k + 1) × (k + 1 ≡ 0)) ⊎ ((k : ℕ) × (j ≡ 3 * k + 2) × (◌≡◌ {A = ℕ} 0 0)) → ((j ≡ i) ⊎ (j ≡ 3 * t + 2)) ⊎ (Precedes (rounds_entry r) j (3 * t + 2) ⊎ Precedes (rounds_entry r) i j)
         writer j (inl (k, f, g)) = absurd (omega (arith, g))
         writer j (inr (k, f, g)) =
-            ⊎_elim (λ less. inr (inl (placed r j (3 * t + 2) (3 * k + 2) (3 * t + 2) f refl (sum_sum r k t less)))) (λ more. ⊎_elim (λ same. inl (inr (f ∙ ap (λ (m : ℕ). 3 * m + 2) same))) (λ other. ⊎_elim (λ same. inl (inl (f ∙ same))) (λ p. inr (inr (placed r i j i (3 * k + 2) refl f p))) (later k (omega (arith, more, other)))) (cases_eq k t)) (cases_lt k t)
+            ⊎_elim (λ less. inr (inl (precedes_at_equal_numbers r j (3 * t + 2) (3 * k + 2) (3 * t + 2) f refl (sum_precedes_later_sum r k t less)))) (λ more. ⊎_elim (λ same. inl (inr (f ∙ ap (λ (m : ℕ). 3 * m + 2) same))) (λ other. ⊎_elim (λ same. inl (inl (f ∙ same))) (λ p. inr (inr (precedes_at_equal_numbers r i j i (3 * k + 2) refl f p))) (later k (omega (arith, more, other)))) (cases_eq k t)) (cases_lt k t)
 
     source : (r i s : ℕ) → IsThere ranks rounds_count rounds_entry r i → ((room : ℕ) (f t : Option ℕ) → (rounds_entry r i).kind ≡ Recv room f t → ⊥) → Mem s (touches (rounds_entry r i)) → Origin ranks rounds_count rounds_entry first wanted rounds_finds rounds_leaves r i s
-    source r i s there not_receive m = go (touches_are r i s m)
+    source r i s there not_receive m = go (rounds_touches_cases r i s m)
       where
         at_zero : 0 ≡ s → Origin ranks rounds_count rounds_entry first wanted rounds_finds rounds_leaves r i 0 → Origin ranks rounds_count rounds_entry first wanted rounds_finds rounds_leaves r i s
         at_zero e o =
@@ -282,15 +282,15 @@ module _ (ranks n bytes : ℕ) (to from : ℕ → ℕ → ℕ) (to_rank : (r k :
         go : ((k : ℕ) × (i ≡ 3 * k) × (0 ≡ s)) ⊎ (((k : ℕ) × (i ≡ 3 * k + 1) × (k + 1 ≡ s)) ⊎ ((k : ℕ) × (i ≡ 3 * k + 2) × ((k + 1 ≡ s) ⊎ (0 ≡ s)))) → Origin ranks rounds_count rounds_entry first wanted rounds_finds rounds_leaves r i s
         go (inl (k, e, f)) =
             let inside = there.1 in
-            at_zero f (zero_origin r i k there.0 (omega (arith, inside, e)) (omega (arith, e)) (λ u l. inr (placed r i (3 * u + 2) (3 * k) (3 * u + 2) e refl (send_sums r k u l))) (λ u l. placed r (3 * u + 2) i (3 * u + 2) (3 * k) refl e (sum_send r u k l)))
+            at_zero f (zero_origin r i k there.0 (omega (arith, inside, e)) (omega (arith, e)) (λ u l. inr (precedes_at_equal_numbers r i (3 * u + 2) (3 * k) (3 * u + 2) e refl (send_precedes_later_sums r k u l))) (λ u l. precedes_at_equal_numbers r (3 * u + 2) i (3 * u + 2) (3 * k) refl e (sum_precedes_later_send r u k l)))
         go (inr (inl (k, e, f))) = absurd (not_receive _ _ _ (ap (λ (x : Entry). x.kind) (as_receive r i k e)))
         go (inr (inr (k, e, inr f))) =
             let inside = there.1 in
-            at_zero f (zero_origin r i k there.0 (omega (arith, inside, e)) (omega (arith, e)) (λ u l. ⊎_elim (λ same. inl (ap (λ (m : ℕ). 3 * m + 2) same ∙ sym e)) (λ d. inr (placed r i (3 * u + 2) (3 * k + 2) (3 * u + 2) e refl (sum_sum r k u (omega (arith, l, d))))) (cases_eq u k)) (λ u l. placed r (3 * u + 2) i (3 * u + 2) (3 * k + 2) refl e (sum_sum r u k l)))
+            at_zero f (zero_origin r i k there.0 (omega (arith, inside, e)) (omega (arith, e)) (λ u l. ⊎_elim (λ same. inl (ap (λ (m : ℕ). 3 * m + 2) same ∙ sym e)) (λ d. inr (precedes_at_equal_numbers r i (3 * u + 2) (3 * k + 2) (3 * u + 2) e refl (sum_precedes_later_sum r k u (omega (arith, l, d))))) (cases_eq u k)) (λ u l. precedes_at_equal_numbers r (3 * u + 2) i (3 * u + 2) (3 * k + 2) refl e (sum_precedes_later_sum r u k l)))
         go (inr (inr (k, e, inl f))) =
             let inside = there.1 in
             let high : 0 < s = omega (arith, f) in
-            inr (3 * k + 1, omega (arith, inside, e), subst (λ (m : ℕ). Mem m (writes (rounds_entry r (3 * k + 1)))) f (receive_writes r k), placed r (3 * k + 1) i (3 * k + 1) (3 * k + 2) refl e (receive_sum r k), leaves_other r (3 * k + 1) k s (omega arith) high ∙ sym (finds_other r i k s (omega (arith, e)) high), λ j l w. inl (inr (writer j (writes_are r j s w))))
+            inr (3 * k + 1, omega (arith, inside, e), subst (λ (m : ℕ). Mem m (writes (rounds_entry r (3 * k + 1)))) f (receive_writes r k), precedes_at_equal_numbers r (3 * k + 1) i (3 * k + 1) (3 * k + 2) refl e (receive_precedes_own_sum r k), leaves_other r (3 * k + 1) k s (omega arith) high ∙ sym (finds_other r i k s (omega (arith, e)) high), λ j l w. inl (inr (writer j (rounds_writes_cases r j s w))))
           where
             writer : (j : ℕ) → ((u : ℕ) × (j ≡ 3 * u + 1) × (u + 1 ≡ s)) ⊎ ((u : ℕ) × (j ≡ 3 * u + 2) × (0 ≡ s)) → j ≡ 3 * k + 1
             writer j (inl (u, g, h)) = omega (arith, f, g, h)
@@ -319,12 +319,12 @@ module _ (ranks n bytes : ℕ) (to from : ℕ → ℕ → ℕ) (to_rank : (r k :
     final zero e r zero inside =
         inr (inl (λ j l w. omega (arith, l, e), subst (λ (v : Value). wanted r 0 v ≡ true) (sym (first_is r inside ∙ sym (ap (λ (k : ℕ). gained k r) e))) (end_is r inside)))
     final (suc t) e r zero inside =
-        inr (inr (3 * t + 2, omega (arith, e), sum_writes r t, λ j l w. writer j l (writes_are r j 0 w), subst (λ (v : Value). wanted r 0 v ≡ true) (ap (λ (k : ℕ). gained k r) e ∙ sym (leaves_zero r (3 * t + 2) t (omega arith))) (end_is r inside)))
+        inr (inr (3 * t + 2, omega (arith, e), sum_writes r t, λ j l w. writer j l (rounds_writes_cases r j 0 w), subst (λ (v : Value). wanted r 0 v ≡ true) (ap (λ (k : ℕ). gained k r) e ∙ sym (leaves_zero r (3 * t + 2) t (omega arith))) (end_is r inside)))
       where
         writer : (j : ℕ) → j < 3 * n → ((k : ℕ) × (j ≡ 3 * k + 1) × (k + 1 ≡ 0)) ⊎ ((k : ℕ) × (j ≡ 3 * k + 2) × (◌≡◌ {A = ℕ} 0 0)) → (j ≡ 3 * t + 2) ⊎ Precedes (rounds_entry r) j (3 * t + 2)
         writer j l (inl (k, f, g)) = absurd (omega (arith, g))
         writer j l (inr (k, f, g)) =
-            ⊎_elim (λ less. inr (placed r j (3 * t + 2) (3 * k + 2) (3 * t + 2) f refl (sum_sum r k t less))) (λ more. inl (omega (arith, l, e, f, more))) (cases_lt k t)
+            ⊎_elim (λ less. inr (precedes_at_equal_numbers r j (3 * t + 2) (3 * k + 2) (3 * t + 2) f refl (sum_precedes_later_sum r k t less))) (λ more. inl (omega (arith, l, e, f, more))) (cases_lt k t)
 
     pub rounds_blueprint : IsBlueprint ranks rounds_count rounds_entry first wanted rounds_finds rounds_leaves Turn bytes turn_send turn_recv (λ t. t.round) rounds_level
     rounds_blueprint = record {
@@ -363,7 +363,7 @@ module _ (ranks n bytes : ℕ) (to from : ℕ → ℕ → ℕ) (to_rank : (r k :
 
     sum_more : (f : ℕ → ℕ) (m : ℕ) → sum_by f (range_with_len 0 (m + 1)) ≡ sum_by f (range_with_len 0 m) + f m
     sum_more f m =
-        ap (λ (ks : List ℕ). sum_by f ks) (range_more m) ∙ sum_by-append f (range_with_len 0 m) (m ∷ []) ∙ ap (λ (k : ℕ). sum_by f (range_with_len 0 m) + k) (sum_by-cons f m [] ∙ (omega arith))
+        ap (λ (ks : List ℕ). sum_by f ks) (range_of_next_length m) ∙ sum_by-append f (range_with_len 0 m) (m ∷ []) ∙ ap (λ (k : ℕ). sum_by f (range_with_len 0 m) + k) (sum_by-cons f m [] ∙ (omega arith))
 
     loads_few : (r m : ℕ) → sum_by (load r) (range_with_len 0 (3 * m)) + 1 ≤ 2 ^ m
     loads_few r zero = omega arith
@@ -386,7 +386,7 @@ module _ (ranks n bytes : ℕ) (to from : ℕ → ℕ → ℕ) (to_rank : (r k :
       first_cap r (suc k) = subst (λ (v : Value). length v ≤ cap r (suc k)) (sym (first_none r k)) (omega arith)
 
       leaves_cap : (r i s : ℕ) → IsThere ranks rounds_count rounds_entry r i → Mem s (writes (rounds_entry r i)) → length (rounds_leaves r i s) ≤ cap r s
-      leaves_cap r i s there w = go (writes_are r i s w)
+      leaves_cap r i s there w = go (rounds_writes_cases r i s w)
         where
           go : ((k : ℕ) × (i ≡ 3 * k + 1) × (k + 1 ≡ s)) ⊎ ((k : ℕ) × (i ≡ 3 * k + 2) × (0 ≡ s)) → length (rounds_leaves r i s) ≤ cap r s
           go (inl (k, e, f)) =

@@ -15,16 +15,16 @@ use Rattle.goal_blocks.specs.Entries.{Entry, made_by}
 use Rattle.goal_blocks.specs.Positions.{digits}
 use Rattle.goal_blocks.proofs.Orders.{Mem}
 use Rattle.goal_blocks.proofs.EntryFacts.{length_plans}
-use Rattle.goal_blocks.proofs.RingAndTree.{digits_high, digits_few}
+use Rattle.goal_blocks.proofs.RingAndTree.{below_power_of_digits, digits_few}
 use Rattle.goal_blocks.proofs.Trees.{sum_below_le}
 use Rattle.goal_blocks.proofs.Doubling.{doubling, doubling_zero, doubling_early, doubling_late, doubling_least}
-use Rattle.goal_blocks.proofs.Rounds.{rounds_count, rounds_entry, gained, length-gained, rounds_finds, rounds_leaves, rounds_level, Turn, turn_send, turn_recv, receive_writes, writes_are, leaves_other, rounds_blueprint}
+use Rattle.goal_blocks.proofs.Rounds.{rounds_count, rounds_entry, gained, length-gained, rounds_finds, rounds_leaves, rounds_level, Turn, turn_send, turn_recv, receive_writes, rounds_writes_cases, leaves_other, rounds_blueprint}
 use Rattle.goal_blocks.proofs.Blueprint.{writes, Final, final_values}
 
--- at the end of these actions not too much is held
-light_now : (plans : List Plan) (first : Store) (h : List Act) → IsLight plans first h → weight plans h (held_after plans no_send first h) ≤ weight_limit
-light_now plans first [] light = light
-light_now plans first (a ∷ h) light = light.2
+-- after the actions of a light schedule, the weight is within the limit
+held_weight_within_limit : (plans : List Plan) (first : Store) (h : List Act) → IsLight plans first h → weight plans h (held_after plans no_send first h) ≤ weight_limit
+held_weight_within_limit plans first [] light = light
+held_weight_within_limit plans first (a ∷ h) light = light.2
 
 -- n numbers that are each at least c
 sum_below_many : (n c : ℕ) (f : ℕ → ℕ) → ((k : ℕ) → k < n → c ≤ f k) → n * c ≤ sum_below n f
@@ -38,7 +38,7 @@ sum_below_many (suc n) c f each =
 -- with more than 2,048 ranks there are 12 rounds or more, and no more than 16
 pub many_rounds : (ranks : ℕ) → certified_rank_limit < ranks → ranks ≤ rank_limit → (12 ≤ digits (ranks - 1)) × (digits (ranks - 1) ≤ 16)
 many_rounds ranks many few =
-    (⊎_elim (λ less. absurd (let high = digits_high (ranks - 1) 11 (omega (arith, few)) (omega (arith, less)) in omega (arith, high, many))) (λ more. more) (cases_lt (digits (ranks - 1)) 12), digits_few (ranks - 1) 16 (omega (arith, few)) (omega (arith, many, few)))
+    (⊎_elim (λ less. absurd (let high = below_power_of_digits (ranks - 1) 11 (omega (arith, few)) (omega (arith, less)) in omega (arith, high, many))) (λ more. more) (cases_lt (digits (ranks - 1)) 12), digits_few (ranks - 1) 16 (omega (arith, few)) (omega (arith, many, few)))
 
 module _ (ranks n bytes : ℕ) (to from : ℕ → ℕ → ℕ) (to_rank : (r k : ℕ) → r < ranks → k < n → to r k < ranks) (from_rank : (r k : ℕ) → r < ranks → k < n → from r k < ranks) (there_and_back : (r k : ℕ) → r < ranks → k < n → from (to r k) k ≡ r) (back_and_there : (r k : ℕ) → r < ranks → k < n → to (from r k) k ≡ r) (first : Store) (first_is : (r : ℕ) → r < ranks → first r 0 ≡ single r 0) where
   abbrev count : ℕ → ℕ
@@ -60,18 +60,18 @@ module _ (ranks n bytes : ℕ) (to from : ℕ → ℕ → ℕ) (to_rank : (r k :
   at_least : ℕ → ℕ → Value → Bool
   at_least r k v = nat_le (doubling n k) (length v)
 
-  end_is : (r : ℕ) → r < ranks → at_least r 0 (gained ranks n bytes to from to_rank from_rank there_and_back back_and_there n r) ≡ true
+  gained_value_is_enough : (r : ℕ) → r < ranks → at_least r 0 (gained ranks n bytes to from to_rank from_rank there_and_back back_and_there n r) ≡ true
   unfolding at_least
-  end_is r inside =
+  gained_value_is_enough r inside =
       let size = length-gained ranks n bytes to from to_rank from_rank there_and_back back_and_there n r in
       let most = doubling_zero n in
       le-leb (doubling n 0) (length (gained ranks n bytes to from to_rank from_rank there_and_back back_and_there n r)) (omega (arith, size, most))
 
-  -- what is heard in a round stays in its slot
+  -- what a round receives stays in its slot
   others : (r s : ℕ) → r < ranks → Final ranks count entry first at_least finds leaves r (suc s)
   unfolding at_least
   others r s inside =
-      ⊎_elim (λ l. inr (inr (3 * s + 1, omega (arith, l), written, λ j m w. inl (writer j (writes_are ranks n bytes to from to_rank from_rank there_and_back back_and_there r j (suc s) w)), enough l))) (λ g. inl (λ v. let none = doubling_late n s g in le-leb (doubling n (suc s)) (length v) (omega (arith, none)))) (cases_lt s n)
+      ⊎_elim (λ l. inr (inr (3 * s + 1, omega (arith, l), written, λ j m w. inl (writer j (rounds_writes_cases ranks n bytes to from to_rank from_rank there_and_back back_and_there r j (suc s) w)), enough l))) (λ g. inl (λ v. let none = doubling_late n s g in le-leb (doubling n (suc s)) (length v) (omega (arith, none)))) (cases_lt s n)
     where
       written : Mem (suc s) (writes (entry r (3 * s + 1)))
       written =
@@ -93,7 +93,7 @@ module _ (ranks n bytes : ℕ) (to from : ℕ → ℕ → ℕ) (to_rank : (r k :
   unfolding at_least
   held_at_end w is r k inside =
       let size = length_plans ranks count entry in
-      leb-true (doubling n k) (length ((held_after plans no_send first w).store r k)) (final_values ranks count entry first at_least finds leaves (Turn ranks n bytes to from to_rank from_rank there_and_back back_and_there) bytes (λ t. turn_send ranks n bytes to from to_rank from_rank there_and_back back_and_there t) (λ t. turn_recv ranks n bytes to from to_rank from_rank there_and_back back_and_there t) (λ t. t.round) (λ r i. rounds_level ranks n bytes to from to_rank from_rank there_and_back back_and_there r i) (rounds_blueprint ranks n bytes to from to_rank from_rank there_and_back back_and_there first at_least first_is end_is others) w is r k (omega (arith, inside, size)))
+      leb-true (doubling n k) (length ((held_after plans no_send first w).store r k)) (final_values ranks count entry first at_least finds leaves (Turn ranks n bytes to from to_rank from_rank there_and_back back_and_there) bytes (λ t. turn_send ranks n bytes to from to_rank from_rank there_and_back back_and_there t) (λ t. turn_recv ranks n bytes to from to_rank from_rank there_and_back back_and_there t) (λ t. t.round) (λ r i. rounds_level ranks n bytes to from to_rank from_rank there_and_back back_and_there r i) (rounds_blueprint ranks n bytes to from to_rank from_rank there_and_back back_and_there first at_least first_is gained_value_is_enough others) w is r k (omega (arith, inside, size)))
 
   module _ (many : certified_rank_limit < ranks) (few : ranks ≤ rank_limit) (rounds : (12 ≤ n) × (n ≤ 16)) where
     stored_many : (w : List Act) → IsWalk plans w → weight_limit < stored ranks (held_after plans no_send first w).store
@@ -114,7 +114,7 @@ module _ (ranks n bytes : ℕ) (to from : ℕ → ℕ → ℕ) (to_rank : (r k :
     unfolding weight
     rounds_too_heavy wanted c =
         let w = c.matched.no_stall.walk in
-        let now = light_now plans first w c.light in
+        let now = held_weight_within_limit plans first w c.light in
         let much = stored_many w c.matched.no_stall.is_walk in
         let size = ap (λ (m : ℕ). stored m (held_after plans no_send first w).store) (length_plans ranks count entry) in
         omega (arith, now, much, size)

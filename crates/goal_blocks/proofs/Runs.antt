@@ -23,7 +23,7 @@ not_lower a b l = rw (higher, ne_eqb a b (λ e. omega (arith, e, l))) refl
         go true e = absurd (let m = ltb-true a b e in omega (arith, m, l))
         go false e = refl
 
--- before ranks that are higher, and after ranks that are lower
+-- a rank is inserted before higher ranks and after lower ranks
 pub insert_before : (b a m : ℕ) → b < a → insert_one (record { rank = b; item = 0 }) (run a m) ≡ record { rank = b; item = 0 } ∷ run a m
 unfolding insert_one run
 insert_before b a zero l = refl
@@ -34,7 +34,7 @@ unfolding insert_one run
 insert_after b a zero v l = refl
 insert_after b a (suc m) v l = rw (not_lower b a (omega (arith, l)), insert_after b (a + 1) m v (omega (arith, l))) refl
 
--- neighbouring runs together
+-- merging two neighbouring runs gives one run
 pub merge_before : (a m l : ℕ) → merge (run a m) (run (a + m) l) ≡ run a (m + l)
 unfolding merge run
 merge_before a zero l =
@@ -61,7 +61,7 @@ append_runs a (suc m) l =
 pub merge_after : (a m l : ℕ) → merge (run (a + m) l) (run a m) ≡ run a (m + l)
 merge_after a m l = merge_apart (a + m) l a m (omega arith) ∙ append_runs a m l
 
-pub run_is : (a m : ℕ) → run a m ≡ map (λ (q : ℕ). record { rank = q; item = 0 }) (range_with_len a m)
+pub run_is_mapped_range : (a m : ℕ) → run a m ≡ map (λ (q : ℕ). record { rank = q; item = 0 }) (range_with_len a m)
 unfolding run
-run_is a zero = refl
-run_is a (suc m) = ap (λ (v : Value). record { rank = a; item = 0 } ∷ v) (run_is (a + 1) m)
+run_is_mapped_range a zero = refl
+run_is_mapped_range a (suc m) = ap (λ (v : Value). record { rank = a; item = 0 } ∷ v) (run_is_mapped_range (a + 1) m)

@@ -19,7 +19,7 @@ use Rattle.goal_blocks.specs.Positions.{upward}
 use Rattle.goal_blocks.specs.MadeRooted.{scan_in, scan_count}
 use Rattle.goal_blocks.specs.Generated.{made}
 use Rattle.goal_blocks.proofs.Orders.{Mem}
-use Rattle.goal_blocks.proofs.PlanBy.{map_range_more}
+use Rattle.goal_blocks.proofs.PlanBy.{map_of_next_range}
 use Rattle.goal_blocks.proofs.Fitting.{All-range}
 use Rattle.goal_blocks.proofs.Slim.{All_one}
 use Rattle.goal_blocks.proofs.EntryFacts.{length_plans}
@@ -31,18 +31,18 @@ use Rattle.goal_blocks.proofs.Totals.{sum_range_few}
 use Rattle.goal_blocks.proofs.Blueprint.{moved, touches, writes, Precedes, now, IsThere, Origin, Final, IsBlueprint, IsBounded, blueprint_certified}
 use Rattle.goal_blocks.proofs.Wishes.{length_of_each, is_value_reflexive}
 
--- a contribution that is lower than none of a value comes last
+-- a contribution that is lower than none in a value is inserted at the end
 insert_last : (c : Contribution) (v : Value) → All (λ (d : Contribution). is_lower c d ≡ false) v → insert_one c v ≡ v ++ c ∷ []
 unfolding insert_one
 insert_last c [] all = refl
 insert_last c (d ∷ ds) all =
     rw (All-head (λ (d : Contribution). is_lower c d ≡ false) d ds all, insert_last c ds (All-tail (λ (d : Contribution). is_lower c d ≡ false) d ds all)) refl
 
--- the items of one rank more
+-- merging in the contribution of the next rank
 pub of_each_with_next : (n : ℕ) → merge (single n 0) (of_each n 0) ≡ of_each (n + 1) 0
 unfolding merge of_each
 of_each_with_next n =
-    insert_last (record { rank = n; item = 0 }) (of_each n 0) (All-map (λ (d : Contribution). is_lower (record { rank = n; item = 0 }) d ≡ false) (λ (q : ℕ). record { rank = q; item = 0 }) (range_with_len 0 n) (All-range (λ (q : ℕ). is_lower (record { rank = n; item = 0 }) (record { rank = q; item = 0 }) ≡ false) n (λ q l. rw (not_lower q l, ne_eqb n q (λ e. omega (arith, e, l))) refl))) ∙ sym (map_range_more (λ (q : ℕ). record { rank = q; item = 0 }) n)
+    insert_last (record { rank = n; item = 0 }) (of_each n 0) (All-map (λ (d : Contribution). is_lower (record { rank = n; item = 0 }) d ≡ false) (λ (q : ℕ). record { rank = q; item = 0 }) (range_with_len 0 n) (All-range (λ (q : ℕ). is_lower (record { rank = n; item = 0 }) (record { rank = q; item = 0 }) ≡ false) n (λ q l. rw (not_lower q l, ne_eqb n q (λ e. omega (arith, e, l))) refl))) ∙ sym (map_of_next_range (λ (q : ℕ). record { rank = q; item = 0 }) n)
   where
     not_lower : (q : ℕ) → q < n → nat_lt n q ≡ false
     not_lower q l = go (nat_lt n q) refl
@@ -216,7 +216,7 @@ module _ (ranks bytes : ℕ) (some : 0 < ranks) (few : ranks ≤ 2048) where
     final = slots_end_as_wanted;
   }
 
-  -- at most a contribution of each rank in two slots of a rank, and in its message
+  -- the two slots of a rank and its message each have at most one contribution per rank
   cap : ℕ → ℕ → ℕ
   cap r zero = ranks
   cap r (suc zero) = ranks

@@ -20,18 +20,18 @@ use Rattle.goal_blocks.specs.Generated.{made}
 use Rattle.goal_blocks.specs.Messages.{AreMessages}
 use Rattle.goal_blocks.proofs.Orders.{Mem}
 use Rattle.goal_blocks.proofs.EntryFacts.{slots_of_span, length_plans}
-use Rattle.goal_blocks.proofs.Ring.{is_root, root_virtual}
+use Rattle.goal_blocks.proofs.Ring.{virtual_rank_zero_is_root, root_has_virtual_rank_zero}
 use Rattle.goal_blocks.proofs.RingAndTree.{back_below, upward_some, upward_few}
 use Rattle.goal_blocks.proofs.Trees.{rounds_few, child_below}
 use Rattle.goal_blocks.proofs.Tree.{rounds_low, low_zero}
 use Rattle.goal_blocks.proofs.TreeSizes.{block_cap, block_load, cap_of_block}
 use Rattle.goal_blocks.proofs.BlockBounds.{IsMoving, own_block, child_block, blocks_small, blocks_bounded}
 use Rattle.goal_blocks.proofs.TreeCases.{scatter_gives_first, scatter_takes, scatter_gives}
-use Rattle.goal_blocks.proofs.TreeMessages.{TreeEdge, above, above_is, above_inside, virtual, child_end, parent_end, AreTreeEnds, down_messages}
-use Rattle.goal_blocks.proofs.Shares.{IsInShare, share_in, in_share}
+use Rattle.goal_blocks.proofs.TreeMessages.{TreeEdge, above, above_is_parent, above_inside, virtual, child_end, parent_end, AreTreeEnds, down_messages}
+use Rattle.goal_blocks.proofs.Shares.{IsInShare, mem_share_is_in_share, in_share_is_mem_share}
 use Rattle.goal_blocks.proofs.Blueprint.{moved, touches, writes, Precedes, now, Origin, Final, IsBlueprint, blueprint_certified}
 
--- what a send requires: the receive, where there is one
+-- what a send requires: the receive, if there is one
 abbrev needs_of_send : ℕ → List ℕ
 needs_of_send zero = []
 needs_of_send (suc w) = 0 ∷ []
@@ -127,9 +127,9 @@ module _ (ranks root bytes : ℕ) (rooted : root < ranks) (few : ranks ≤ rank_
       let e : rounds ranks (suc w) - 1 - (rounds ranks (suc w) - 1 - j) ≡ j = omega (arith, lt) in
       ap (λ (i : ℕ). level_in (suc w) i) n ∙ ap (λ (i : ℕ). suc w + 2 ^ i) e
 
-  -- a send requires the receive of its rank alone
-  needs_first : (v i k : ℕ) → i < count_in v → Mem k (entry_in v i).needs → (0 < v) × (0 ≡ k) × IsGiving v i
-  needs_first v i k there m = ⊎_elim (λ p. absurd (subst (λ (x : Entry). Mem k x.needs) (entry_receives v p.0) (subst (λ (n : ℕ). Mem k (entry_in v n).needs) (sym p.1) m))) (λ g. let is = go v (subst (λ (x : Entry). Mem k x.needs) (entry_sends v g.round g.inside) (subst (λ (n : ℕ). Mem k (entry_in v n).needs) (sym g.is) m)) in (is.0, is.1, g)) (cases_number v i there)
+  -- a send requires only the receive of its rank
+  only_sends_need_receive : (v i k : ℕ) → i < count_in v → Mem k (entry_in v i).needs → (0 < v) × (0 ≡ k) × IsGiving v i
+  only_sends_need_receive v i k there m = ⊎_elim (λ p. absurd (subst (λ (x : Entry). Mem k x.needs) (entry_receives v p.0) (subst (λ (n : ℕ). Mem k (entry_in v n).needs) (sym p.1) m))) (λ g. let is = go v (subst (λ (x : Entry). Mem k x.needs) (entry_sends v g.round g.inside) (subst (λ (n : ℕ). Mem k (entry_in v n).needs) (sym g.is) m)) in (is.0, is.1, g)) (cases_number v i there)
     where
       go : (v : ℕ) → Mem k (needs_of_send v) → (0 < v) × (0 ≡ k)
       go zero n = absurd n
@@ -138,7 +138,7 @@ module _ (ranks root bytes : ℕ) (rooted : root < ranks) (few : ranks ≤ rank_
 
   needs_are_lower : (v i k : ℕ) → i < count_in v → Mem k (entry_in v i).needs → (k < count_in v) × (level_in v k < level_in v i)
   needs_are_lower v i k there m =
-      let is = needs_first v i k there m in
+      let is = only_sends_need_receive v i k there m in
       let g = is.2 in
       let one = upward_some v is.0 in
       let a = ap (λ (n : ℕ). level_in v n) (sym is.1) ∙ level_takes v is.0 in
@@ -147,16 +147,16 @@ module _ (ranks root bytes : ℕ) (rooted : root < ranks) (few : ranks ≤ rank_
       let e = is.1 in
       (omega (arith, one, e), omega (arith, a, b, some))
 
-  -- the receive alone writes
-  writes_first : (v i k : ℕ) → v < ranks → i < count_in v → Mem k (writes (entry_in v i)) → (0 < v) × (0 ≡ i) × IsInShare ranks root v (2 ^ low v) k
-  writes_first v i k inside there w =
-      ⊎_elim (λ p. (p.0, p.1, share_in ranks root v (2 ^ low v) rooted inside (pow_pos (low v)) k (subst (λ (x : Entry). Mem k (writes x)) (entry_receives v p.0) (subst (λ (n : ℕ). Mem k (writes (entry_in v n))) (sym p.1) w)))) (λ g. absurd (subst (λ (x : Entry). Mem k (writes x)) (entry_sends v g.round g.inside) (subst (λ (n : ℕ). Mem k (writes (entry_in v n))) (sym g.is) w))) (cases_number v i there)
+  -- only the receive writes
+  only_receive_writes : (v i k : ℕ) → v < ranks → i < count_in v → Mem k (writes (entry_in v i)) → (0 < v) × (0 ≡ i) × IsInShare ranks root v (2 ^ low v) k
+  only_receive_writes v i k inside there w =
+      ⊎_elim (λ p. (p.0, p.1, mem_share_is_in_share ranks root v (2 ^ low v) rooted inside (pow_pos (low v)) k (subst (λ (x : Entry). Mem k (writes x)) (entry_receives v p.0) (subst (λ (n : ℕ). Mem k (writes (entry_in v n))) (sym p.1) w)))) (λ g. absurd (subst (λ (x : Entry). Mem k (writes x)) (entry_sends v g.round g.inside) (subst (λ (n : ℕ). Mem k (writes (entry_in v n))) (sym g.is) w))) (cases_number v i there)
 
-  first_writes : (v k : ℕ) → 0 < v → v < ranks → IsInShare ranks root v (2 ^ low v) k → Mem k (writes (entry_in v 0))
-  first_writes v k some inside is =
-      subst (λ (x : Entry). Mem k (writes x)) (sym (entry_receives v some)) (in_share ranks root v (2 ^ low v) rooted inside (pow_pos (low v)) k is.slot is.from is.before)
+  receive_writes_share : (v k : ℕ) → 0 < v → v < ranks → IsInShare ranks root v (2 ^ low v) k → Mem k (writes (entry_in v 0))
+  receive_writes_share v k some inside is =
+      subst (λ (x : Entry). Mem k (writes x)) (sym (entry_receives v some)) (in_share_is_mem_share ranks root v (2 ^ low v) rooted inside (pow_pos (low v)) k is.slot is.from is.before)
 
-  -- each send requires it
+  -- each send requires the receive
   receive_precedes_send : (v j : ℕ) → 0 < v → j < rounds ranks v → Precedes (entry_in v) 0 (send_number v j)
   receive_precedes_send v j some lt = now (subst (λ (x : Entry). Mem 0 x.needs) (sym (entry_sends v j lt)) (go v some))
     where
@@ -166,10 +166,10 @@ module _ (ranks root bytes : ℕ) (rooted : root < ranks) (few : ranks ≤ rank_
 
   conflicts_are_ordered : (v i j k : ℕ) → v < ranks → i < count_in v → j < count_in v → (i ≡ j → ⊥) → Mem k (writes (entry_in v j)) → Precedes (entry_in v) i j ⊎ Precedes (entry_in v) j i
   conflicts_are_ordered v i j k inside l m differ w =
-      let at_j = writes_first v j k inside m w in
+      let at_j = only_receive_writes v j k inside m w in
       ⊎_elim (λ p. absurd (differ (sym p.1 ∙ at_j.1))) (λ g. inr (subst (λ (n : ℕ). Precedes (entry_in v) n i) at_j.1 (subst (λ (n : ℕ). Precedes (entry_in v) 0 n) g.is (receive_precedes_send v g.round at_j.0 g.inside)))) (cases_number v i l)
 
-  -- the slots of a child's block are in the block
+  -- the slots of a child's block are in its parent's block
   part_of_block : (v j k : ℕ) → j < rounds ranks v → IsInShare ranks root (v + 2 ^ j) (2 ^ j) k → IsInShare ranks root v (2 ^ low v) k
   part_of_block v j k lt is =
       let most = rounds_low ranks few v in
@@ -183,17 +183,17 @@ module _ (ranks root bytes : ℕ) (rooted : root < ranks) (few : ranks ≤ rank_
   unfolding initial
   first_root r k inside slot e = rw (lt-ltb r ranks inside, eq-eqb r root e, lt-ltb k ranks slot) refl
 
-  abbrev Traced : ℕ → ℕ → ℕ → Type 0
-  Traced r i k = Origin ranks count entry first (wanted (Scatter root) ranks) item_of_slot item_of_slot r i k
+  abbrev ScatterOrigin : ℕ → ℕ → ℕ → Type 0
+  ScatterOrigin r i k = Origin ranks count entry first (wanted (Scatter root) ranks) item_of_slot item_of_slot r i k
 
-  touched_has_origin : (r i k : ℕ) → r < ranks → i < count r → ((room : ℕ) (from t : Option ℕ) → (entry r i).kind ≡ Recv room from t → ⊥) → Mem k (touches (entry r i)) → Traced r i k
-  touched_has_origin r i k inside there not_receive t = ⊎_elim (λ p. absurd (not_receive _ _ _ (ap (λ (n : ℕ). (entry r n).kind) (sym p.1) ∙ ap (λ (x : Entry). x.kind) (entry_receives (back ranks r root) p.0)))) (λ g. given g (share_in ranks root (back ranks r root + 2 ^ g.round) (2 ^ g.round) rooted (child_below ranks few (back ranks r root) g.round low_rank g.inside) (pow_pos g.round) k (subst (λ (x : Entry). Mem k (touches x)) (entry_sends (back ranks r root) g.round g.inside) (subst (λ (n : ℕ). Mem k (touches (entry r n))) (sym g.is) t)))) (cases_number (back ranks r root) i there)
+  touched_has_origin : (r i k : ℕ) → r < ranks → i < count r → ((room : ℕ) (from t : Option ℕ) → (entry r i).kind ≡ Recv room from t → ⊥) → Mem k (touches (entry r i)) → ScatterOrigin r i k
+  touched_has_origin r i k inside there not_receive t = ⊎_elim (λ p. absurd (not_receive _ _ _ (ap (λ (n : ℕ). (entry r n).kind) (sym p.1) ∙ ap (λ (x : Entry). x.kind) (entry_receives (back ranks r root) p.0)))) (λ g. given g (mem_share_is_in_share ranks root (back ranks r root + 2 ^ g.round) (2 ^ g.round) rooted (child_below ranks few (back ranks r root) g.round low_rank g.inside) (pow_pos g.round) k (subst (λ (x : Entry). Mem k (touches x)) (entry_sends (back ranks r root) g.round g.inside) (subst (λ (n : ℕ). Mem k (touches (entry r n))) (sym g.is) t)))) (cases_number (back ranks r root) i there)
     where
       low_rank : back ranks r root < ranks
       low_rank = back_below ranks r root inside
 
-      given : (g : IsGiving (back ranks r root) i) → IsInShare ranks root (back ranks r root + 2 ^ g.round) (2 ^ g.round) k → Traced r i k
-      given g is = ⊎_elim (λ some. inr (0, (let one = upward_some (back ranks r root) some in omega (arith, one)), first_writes (back ranks r root) k some low_rank (part_of_block (back ranks r root) g.round k g.inside is), subst (λ (n : ℕ). Precedes (entry r) 0 n) g.is (receive_precedes_send (back ranks r root) g.round some g.inside), refl, λ l m w. inl (inr (sym (writes_first (back ranks r root) l k low_rank m w).1)))) (λ none. inl (first_root r k inside is.slot (is_root ranks r root inside rooted (omega (arith, none))), λ j m w. absurd (let some = (writes_first (back ranks r root) j k low_rank m w).0 in omega (arith, none, some)))) (cases_lt 0 (back ranks r root))
+      given : (g : IsGiving (back ranks r root) i) → IsInShare ranks root (back ranks r root + 2 ^ g.round) (2 ^ g.round) k → ScatterOrigin r i k
+      given g is = ⊎_elim (λ some. inr (0, (let one = upward_some (back ranks r root) some in omega (arith, one)), receive_writes_share (back ranks r root) k some low_rank (part_of_block (back ranks r root) g.round k g.inside is), subst (λ (n : ℕ). Precedes (entry r) 0 n) g.is (receive_precedes_send (back ranks r root) g.round some g.inside), refl, λ l m w. inl (inr (sym (only_receive_writes (back ranks r root) l k low_rank m w).1)))) (λ none. inl (first_root r k inside is.slot (virtual_rank_zero_is_root ranks r root inside rooted (omega (arith, none))), λ j m w. absurd (let some = (only_receive_writes (back ranks r root) j k low_rank m w).0 in omega (arith, none, some)))) (cases_lt 0 (back ranks r root))
 
   nothing_wanted_elsewhere : (r k : ℕ) (u : Value) → (k ≡ r → ⊥) → wanted (Scatter root) ranks r k u ≡ true
   unfolding wanted
@@ -208,11 +208,11 @@ module _ (ranks root bytes : ℕ) (rooted : root < ranks) (few : ranks ≤ rank_
   unfolding wanted is_value
   wanted_at_end r inside = rw (lt-ltb r ranks inside, eq-eqb r r refl, eq-eqb root root refl) refl
 
-  abbrev Ended : ℕ → ℕ → Type 0
-  Ended r k = Final ranks count entry first (wanted (Scatter root) ranks) item_of_slot item_of_slot r k
+  abbrev ScatterFinal : ℕ → ℕ → Type 0
+  ScatterFinal r k = Final ranks count entry first (wanted (Scatter root) ranks) item_of_slot item_of_slot r k
 
-  final_own : (r : ℕ) → r < ranks → Ended r r
-  final_own r inside = ⊎_elim (λ some. inr (inr (0, (let one = upward_some (back ranks r root) some in omega (arith, one)), first_writes (back ranks r root) r some low_rank own, λ l m w. inl (sym (writes_first (back ranks r root) l r low_rank m w).1), wanted_at_end r inside))) (λ none. inr (inl (λ j m w. let some = (writes_first (back ranks r root) j r low_rank m w).0 in omega (arith, none, some), subst (λ (u : Value). wanted (Scatter root) ranks r r u ≡ true) (sym (first_root r r inside inside (is_root ranks r root inside rooted (omega (arith, none))))) (wanted_at_end r inside)))) (cases_lt 0 (back ranks r root))
+  final_own : (r : ℕ) → r < ranks → ScatterFinal r r
+  final_own r inside = ⊎_elim (λ some. inr (inr (0, (let one = upward_some (back ranks r root) some in omega (arith, one)), receive_writes_share (back ranks r root) r some low_rank own, λ l m w. inl (sym (only_receive_writes (back ranks r root) l r low_rank m w).1), wanted_at_end r inside))) (λ none. inr (inl (λ j m w. let some = (only_receive_writes (back ranks r root) j r low_rank m w).0 in omega (arith, none, some), subst (λ (u : Value). wanted (Scatter root) ranks r r u ≡ true) (sym (first_root r r inside inside (virtual_rank_zero_is_root ranks r root inside rooted (omega (arith, none))))) (wanted_at_end r inside)))) (cases_lt 0 (back ranks r root))
     where
       low_rank : back ranks r root < ranks
       low_rank = back_below ranks r root inside
@@ -220,9 +220,9 @@ module _ (ranks root bytes : ℕ) (rooted : root < ranks) (few : ranks ≤ rank_
       own : IsInShare ranks root (back ranks r root) (2 ^ low (back ranks r root)) r
       own = record { slot = inside; from = omega arith; before = (let some = pow_pos (low (back ranks r root)) in omega (arith, some)) }
 
-  slots_end_as_wanted : (r k : ℕ) → r < ranks → Ended r k
+  slots_end_as_wanted : (r k : ℕ) → r < ranks → ScatterFinal r k
   slots_end_as_wanted r k inside =
-      ⊎_elim (λ same. subst (λ (n : ℕ). Ended r n) (sym same) (final_own r inside)) (λ other. inl (λ u. nothing_wanted_elsewhere r k u other)) (cases_eq k r)
+      ⊎_elim (λ same. subst (λ (n : ℕ). ScatterFinal r n) (sym same) (final_own r inside)) (λ other. inl (λ u. nothing_wanted_elsewhere r k u other)) (cases_eq k r)
 
   no_calc : (v i nanos : ℕ) → i < count_in v → (entry_in v i).kind ≡ Calc nanos → ⊥
   no_calc v i nanos there e =
@@ -238,7 +238,7 @@ module _ (ranks root bytes : ℕ) (rooted : root < ranks) (few : ranks ≤ rank_
     -- both ends of a message have the slots of the child's block
     same_moved : moved (entry_in up_rank (send_number up_rank (low m.child))) ≡ moved (entry_in m.child 0)
     same_moved =
-        ap moved (entry_sends up_rank (low m.child) (above_is ranks root bytes rooted few m).round) ∙ ap (λ (c : ℕ). flat_map slots_of_span (share ranks root c (2 ^ low m.child))) (above_is ranks root bytes rooted few m).child ∙ sym (ap moved (entry_receives m.child m.some))
+        ap moved (entry_sends up_rank (low m.child) (above_is_parent ranks root bytes rooted few m).round) ∙ ap (λ (c : ℕ). flat_map slots_of_span (share ranks root c (2 ^ low m.child))) (above_is_parent ranks root bytes rooted few m).child ∙ sym (ap moved (entry_receives m.child m.some))
 
     message_keeps_values : map (λ (k : ℕ). single root k) (moved (entry (ahead ranks up_rank root) (send_number up_rank (low m.child)))) ≡ map (λ (k : ℕ). single root k) (moved (entry (ahead ranks m.child root) 0))
     message_keeps_values =
@@ -246,7 +246,7 @@ module _ (ranks root bytes : ℕ) (rooted : root < ranks) (few : ranks ≤ rank_
 
     same_level : level (ahead ranks up_rank root) (send_number up_rank (low m.child)) ≡ level (ahead ranks m.child root) 0
     same_level =
-        rw (virtual ranks root bytes rooted few up_rank up_low, virtual ranks root bytes rooted few m.child m.inside) (level_gives up_rank (low m.child) (above_is ranks root bytes rooted few m).round ∙ (above_is ranks root bytes rooted few m).child ∙ sym (level_takes m.child m.some))
+        rw (virtual ranks root bytes rooted few up_rank up_low, virtual ranks root bytes rooted few m.child m.inside) (level_gives up_rank (low m.child) (above_is_parent ranks root bytes rooted few m).round ∙ (above_is_parent ranks root bytes rooted few m).child ∙ sym (level_takes m.child m.some))
 
   blueprint : IsBlueprint ranks count entry first (wanted (Scatter root) ranks) item_of_slot item_of_slot (TreeEdge ranks) bytes give_end take_end (λ m. low m.child) level
   blueprint = record {
@@ -279,7 +279,7 @@ module _ (ranks root bytes : ℕ) (rooted : root < ranks) (few : ranks ≤ rank_
 
       held : r < ranks → r ≡ root → k < ranks → length (first r k) ≤ block_cap ranks few root rooted r k
       held inside same slot =
-          let zero = ap (λ (q : ℕ). back ranks q root) same ∙ root_virtual ranks root in
+          let zero = ap (λ (q : ℕ). back ranks q root) same ∙ root_has_virtual_rank_zero ranks root in
           let top = ap low zero ∙ low_zero in
           let under = back_below ranks k root slot in
           let all : back ranks k root < back ranks r root + 2 ^ low (back ranks r root) = subst (λ (n : ℕ). back ranks k root < back ranks r root + 2 ^ n) (sym top) (omega (arith, under, few)) in
@@ -290,11 +290,11 @@ module _ (ranks root bytes : ℕ) (rooted : root < ranks) (few : ranks ≤ rank_
   count_in_few : (v : ℕ) → count_in v ≤ 17
   count_in_few v = let most = rounds_few ranks few v in let one = upward_few v in omega (arith, most, one)
 
-  moving : (v i n : ℕ) → v < ranks → i < count_in v → IsMoving ranks few root rooted v n (entry_in v i)
-  moving v i n inside there =
+  scatter_entry_is_moving : (v i n : ℕ) → v < ranks → i < count_in v → IsMoving ranks few root rooted v n (entry_in v i)
+  scatter_entry_is_moving v i n inside there =
       ⊎_elim (λ p. subst (λ (j : ℕ). IsMoving ranks few root rooted v n (entry_in v j)) p.1 (subst (λ (x : Entry). IsMoving ranks few root rooted v n x) (sym (entry_receives v p.0)) (own_block ranks few root rooted v n (Recv bytes (Some (parent ranks root v)) (Some (low v))) [] inside))) (λ g. subst (λ (j : ℕ). IsMoving ranks few root rooted v n (entry_in v j)) g.is (subst (λ (x : Entry). IsMoving ranks few root rooted v n x) (sym (entry_sends v g.round g.inside)) (child_block ranks few root rooted v n (Send bytes (ahead ranks (v + 2 ^ g.round) root) g.round) (needs_of_send v) inside g.round g.inside))) (cases_number v i there)
 
   pub scatter_certified : IsCertifiedFor (Scatter root) (made (Scatter root) ranks bytes)
   unfolding made
   scatter_certified =
-      subst (λ (n : ℕ). IsCertified (made (Scatter root) ranks bytes) (initial (Scatter root) n) (wanted (Scatter root) n)) (sym (length_plans ranks count entry)) (blueprint_certified ranks count entry first (wanted (Scatter root) ranks) item_of_slot item_of_slot (TreeEdge ranks) bytes give_end take_end (λ m. low m.child) level blueprint (block_cap ranks few root rooted) (block_load ranks few root rooted) (blocks_bounded ranks few root rooted count_in count_in_few entry_in moving first (wanted (Scatter root) ranks) (λ (k : ℕ). single root k) (TreeEdge ranks) give_end (λ k. refl) first_cap (λ v i k inside there w. (writes_first v i k inside there w).2) tree_messages.send_there) (blocks_small ranks few root rooted count_in count_in_few entry_in moving))
+      subst (λ (n : ℕ). IsCertified (made (Scatter root) ranks bytes) (initial (Scatter root) n) (wanted (Scatter root) n)) (sym (length_plans ranks count entry)) (blueprint_certified ranks count entry first (wanted (Scatter root) ranks) item_of_slot item_of_slot (TreeEdge ranks) bytes give_end take_end (λ m. low m.child) level blueprint (block_cap ranks few root rooted) (block_load ranks few root rooted) (blocks_bounded ranks few root rooted count_in count_in_few entry_in scatter_entry_is_moving first (wanted (Scatter root) ranks) (λ (k : ℕ). single root k) (TreeEdge ranks) give_end (λ k. refl) first_cap (λ v i k inside there w. (only_receive_writes v i k inside there w).2) tree_messages.send_there) (blocks_small ranks few root rooted count_in count_in_few entry_in scatter_entry_is_moving))

@@ -13,9 +13,9 @@ use Rattle.goal_blocks.specs.Certified.{IsCertifiedFor}
 use Rattle.goal_blocks.specs.Laws.{IsRenamed, KeepsSlots}
 use Rattle.goal_blocks.specs.Segments.{exchanges, exchanged, initial_in, wanted_in, IsCertifiedIn, HoldsSegment, AreAllRight}
 use Rattle.goal_blocks.proofs.Right.{certified_right}
-use Rattle.goal_blocks.proofs.Exchange.{of_other, exchange_below, exchanges_undone}
+use Rattle.goal_blocks.proofs.Exchange.{exchange_of_slot_in_block, exchange_below, exchanges_undone}
 use Rattle.goal_blocks.proofs.RenamedNotes.{renamed_is}
-use Rattle.goal_blocks.proofs.RenamedRight.{right_into}
+use Rattle.goal_blocks.proofs.RenamedRight.{right_under_renaming}
 use Rattle.goal_blocks.proofs.RenamedCertified.{renamed_certified}
 
 pub exchanged_certified : (what : Collective) (width block : ℕ) (plans : List Plan) → block * width + width ≤ 65536 → IsSmall plans → IsCertifiedFor what (exchanged width block plans) ↔ IsCertifiedIn what width block plans
@@ -35,7 +35,7 @@ IsRightIn what width block plans =
 
 exchanged_right : (what : Collective) (width block : ℕ) (plans : List Plan) → IsCertifiedFor what (exchanged width block plans) → IsRightIn what width block plans
 exchanged_right what width block plans certified =
-    right_into (exchanges width block) (exchanges width block) plans (exchanged width block plans) (exchanges_undone width block) is (initial what (length plans)) (wanted what (length plans)) (subst (λ (n : ℕ). IsRightEverywhere (exchanged width block plans) (initial what n) (wanted what n)) is.ranks right)
+    right_under_renaming (exchanges width block) (exchanges width block) plans (exchanged width block plans) (exchanges_undone width block) is (initial what (length plans)) (wanted what (length plans)) (subst (λ (n : ℕ). IsRightEverywhere (exchanged width block plans) (initial what n) (wanted what n)) is.ranks right)
   where
     is : IsRenamed (exchanges width block) plans (exchanged width block plans)
     is = renamed_is (exchanges width block) plans
@@ -45,14 +45,14 @@ exchanged_right what width block plans certified =
         certified_right (exchanged width block plans) (initial what (length (exchanged width block plans))) (wanted what (length (exchanged width block plans))) certified
 
 module _ (what : Collective) (width : ℕ) (plans : List Plan) (eager : OpId → Bool) (h : List Act) (done : IsCompleteInterleaving plans eager h) where
-  holds_block : (block : ℕ) → IsRightIn what width block plans → HoldsSegment what width block plans (value plans eager (initial_in what width block (length plans)) h)
-  holds_block block right rank slot low inside =
-      subst (λ (k : ℕ). wanted what (length plans) rank k (value plans eager (initial_in what width block (length plans)) h rank (block * width + slot)) ≡ true) (of_other width block slot inside) ((right eager h done).wanted_held rank (block * width + slot) low)
+  right_block_holds_segment : (block : ℕ) → IsRightIn what width block plans → HoldsSegment what width block plans (value plans eager (initial_in what width block (length plans)) h)
+  right_block_holds_segment block right rank slot low inside =
+      subst (λ (k : ℕ). wanted what (length plans) rank k (value plans eager (initial_in what width block (length plans)) h rank (block * width + slot)) ≡ true) (exchange_of_slot_in_block width block slot inside) ((right eager h done).wanted_held rank (block * width + slot) low)
 
   pub block_holds : (block : ℕ) → IsCertifiedFor what (exchanged width block plans) → EndsInItsPairs plans eager h × HoldsSegment what width block plans (value plans eager (initial_in what width block (length plans)) h)
   block_holds block certified =
       let right = exchanged_right what width block plans certified in
-      ((right eager h done).ends, holds_block block right)
+      ((right eager h done).ends, right_block_holds_segment block right)
 
 pub slot_holds : (what : Collective) (k : ℕ) (plans : List Plan) (eager : OpId → Bool) (h : List Act) → IsCertifiedFor what (exchanged 1 k plans) → IsCompleteInterleaving plans eager h
     → EndsInItsPairs plans eager h × ((rank : ℕ) → rank < length plans → wanted what (length plans) rank 0 (value plans eager (initial_in what 1 k (length plans)) h rank k) ≡ true)
@@ -66,4 +66,4 @@ segments_right what width count plans each eager h done block l = block_holds wh
 pub blocks_right : (what : Collective) (width count : ℕ) (plans : List Plan) → ((block : ℕ) → block < count → IsCertifiedIn what width block plans) → AreAllRight what width count plans
 blocks_right what width count plans each eager h done block l =
     let right = certified_right plans (initial_in what width block (length plans)) (wanted_in what width block (length plans)) (each block l) in
-    ((right eager h done).ends, holds_block what width plans eager h done block right)
+    ((right eager h done).ends, right_block_holds_segment what width plans eager h done block right)

@@ -73,9 +73,9 @@ module _ (plans : List Plan) (eager : OpId → Bool) where
       payload n true = reads_sorted m.rank (slots plans m) held.store s.stores
       payload n false = s.payloads n
 
-  from_sorted : (o : Option OpId) (held : Held) → IsSortedHeld held → AllSorted (payload_from held o)
-  from_sorted None held s = tt
-  from_sorted (Some m) held s = s.payloads m
+  payload_from_sorted : (o : Option OpId) (held : Held) → IsSortedHeld held → AllSorted (payload_from held o)
+  payload_from_sorted None held s = tt
+  payload_from_sorted (Some m) held s = s.payloads m
 
   change_sorted : (with : Option OpId) (class : Class) (x : OpId) (kind : Option Kind) (held : Held) → IsSortedHeld held → IsSortedHeld (change plans eager with class x kind held)
   change_sorted with Begin x (Some (Calc nanos)) held s = record {
@@ -94,7 +94,7 @@ module _ (plans : List Plan) (eager : OpId → Bool) where
   change_sorted with Data x (Some (Recv room from tag)) held s = s
   change_sorted with Data x None held s = s
   change_sorted with Serve x (Some (Recv room from tag)) held s = record {
-    stores = write_sorted x.rank (slots plans x) (payload_from held with) held.store (from_sorted with held s) s.stores;
+    stores = write_sorted x.rank (slots plans x) (payload_from held with) held.store (payload_from_sorted with held s) s.stores;
     payloads = s.payloads;
   }
   change_sorted with Serve x (Some (Calc nanos)) held s = s
@@ -109,26 +109,26 @@ module _ (plans : List Plan) (eager : OpId → Bool) where
   held_sorted first s (a ∷ h) =
       change_sorted (partner (pairs plans h) a.op) a.class a.op (kind_at plans a.op) (held_after plans eager first h) (held_sorted first s h)
 
--- from nothing comes nothing
+-- a schedule that starts with empty slots leaves them empty
 abbrev nothing : Store
 nothing rank slot = []
 
-no_value : (v : Value) → length v ≡ 0 → v ≡ []
-no_value [] e = refl
-no_value (c ∷ v) e = absurd (omega (arith, e))
+value_of_length_zero_is_empty : (v : Value) → length v ≡ 0 → v ≡ []
+value_of_length_zero_is_empty [] e = refl
+value_of_length_zero_is_empty (c ∷ v) e = absurd (omega (arith, e))
 
 joined_nothing : nothing ≡ joined nothing nothing
 unfolding merge
 joined_nothing = refl
 
-empty_stays : (plans : List Plan) (eager : OpId → Bool) (h : List Act) (rank slot : ℕ) → value plans eager nothing h rank slot ≡ []
-empty_stays plans eager h rank slot =
+empty_store_stays_empty : (plans : List Plan) (eager : OpId → Bool) (h : List Act) (rank slot : ℕ) → value plans eager nothing h rank slot ≡ []
+empty_store_stays_empty plans eager h rank slot =
     let twice : value plans eager nothing h rank slot ≡ merge (value plans eager nothing h rank slot) (value plans eager nothing h rank slot) = ap (λ (s : Store). value plans eager s h rank slot) joined_nothing ∙ joined_holds plans eager nothing nothing h rank slot in
     let size = length_merge (value plans eager nothing h rank slot) (value plans eager nothing h rank slot) in
     let long = ap length twice in
-    no_value (value plans eager nothing h rank slot) (omega (arith, size, long))
+    value_of_length_zero_is_empty (value plans eager nothing h rank slot) (omega (arith, size, long))
 
--- two blocks are apart
+-- different blocks share no slot
 block_order : (width i j : ℕ) → i < j → i * width + width ≤ j * width
 block_order width i j less =
     let le : suc i * width ≤ j * width = mul-le-mul_right width less in
@@ -157,16 +157,16 @@ elsewhere width count i j slot low inside ne = ⊎_elim before (λ le. after (om
         λ k. within k && not (lt-leb (i * width) (j * width + slot) (omega (arith, le, inside)) k && nat_lt (j * width + slot) (i * width + width))
 
 module _ (what : Collective) (width count : ℕ) (plans : List Plan) (eager : OpId → Bool) (h : List Act) (each : (block : ℕ) → block < count → IsCertifiedIn what width block plans) (apart : (block : ℕ) → block < count → IsCertified plans (initial_in what width block (length plans)) (keeps_out width count block)) (done : IsCompleteInterleaving plans eager h) where
-  -- what a segment alone leaves, and what the first ones leave at once
+  -- the values that one segment leaves alone, and that the first n leave at once
   abbrev alone : ℕ → ℕ → ℕ → Value
   alone block = value plans eager (initial_in what width block (length plans)) h
 
   abbrev at_once : ℕ → ℕ → ℕ → Value
   at_once n = value plans eager (all_starts what width n (length plans)) h
 
-  -- nothing in the block of another
-  alone_out : (i j rank slot : ℕ) → i < count → j < count → rank < length plans → slot < width → (i ≡ j → ⊥) → alone i rank (j * width + slot) ≡ []
-  alone_out i j rank slot low_i low_j inside within ne =
+  -- a segment leaves nothing in the block of another
+  segment_leaves_other_blocks_empty : (i j rank slot : ℕ) → i < count → j < count → rank < length plans → slot < width → (i ≡ j → ⊥) → alone i rank (j * width + slot) ≡ []
+  segment_leaves_other_blocks_empty i j rank slot low_i low_j inside within ne =
       let holds = (certified_right plans (initial_in what width i (length plans)) (keeps_out width count i) (apart i low_i) eager h done).wanted_held rank (j * width + slot) inside in
       value_equal (alone i rank (j * width + slot)) [] (sym (ap (λ (b : Bool). if b then is_value (alone i rank (j * width + slot)) [] else true) (elsewhere width count i j slot low_j within ne)) ∙ holds)
 
@@ -182,35 +182,35 @@ module _ (what : Collective) (width count : ℕ) (plans : List Plan) (eager : Op
   unfolding all_starts
   no_starts = refl
 
-  both_at_once : (n rank slot : ℕ) → at_once (suc n) rank slot ≡ merge (at_once n rank slot) (alone n rank slot)
-  both_at_once n rank slot =
+  at_once_merges_next_segment : (n rank slot : ℕ) → at_once (suc n) rank slot ≡ merge (at_once n rank slot) (alone n rank slot)
+  at_once_merges_next_segment n rank slot =
       ap (λ (s : Store). value plans eager s h rank slot) (more_starts n) ∙ joined_holds plans eager (all_starts what width n (length plans)) (initial_in what width n (length plans)) h rank slot
 
-  merge_left : (v : Value) → merge [] v ≡ v
+  merge_of_empty_left : (v : Value) → merge [] v ≡ v
   unfolding merge
-  merge_left v = refl
+  merge_of_empty_left v = refl
 
-  -- the first ones leave nothing in a later block, and in an earlier one what its own segment leaves
+  -- the first n segments leave later blocks empty; an earlier block has what its own segment leaves
   later_empty : (n : ℕ) → n ≤ count → (j rank slot : ℕ) → n ≤ j → j < count → rank < length plans → slot < width → at_once n rank (j * width + slot) ≡ []
   later_empty zero le j rank slot later low inside within =
-      ap (λ (s : Store). value plans eager s h rank (j * width + slot)) no_starts ∙ empty_stays plans eager h rank (j * width + slot)
+      ap (λ (s : Store). value plans eager s h rank (j * width + slot)) no_starts ∙ empty_store_stays_empty plans eager h rank (j * width + slot)
   later_empty (suc n) le j rank slot later low inside within =
-      both_at_once n rank (j * width + slot) ∙ ((λ i. merge (later_empty n (omega (arith, le)) j rank slot (omega (arith, later)) low inside within i) (alone_out n j rank slot (omega (arith, le)) low inside within (λ e. omega (arith, e, later)) i)) ∙ merge_left [])
+      at_once_merges_next_segment n rank (j * width + slot) ∙ ((λ i. merge (later_empty n (omega (arith, le)) j rank slot (omega (arith, later)) low inside within i) (segment_leaves_other_blocks_empty n j rank slot (omega (arith, le)) low inside within (λ e. omega (arith, e, later)) i)) ∙ merge_of_empty_left [])
 
-  own_left : (n : ℕ) → n ≤ count → (j rank slot : ℕ) → j < n → rank < length plans → slot < width → at_once n rank (j * width + slot) ≡ alone j rank (j * width + slot)
-  own_left zero le j rank slot low inside within = absurd (omega (arith, low))
-  own_left (suc n) le j rank slot low inside within =
-      both_at_once n rank (j * width + slot) ∙ ⊎_elim (here (λ e. later_empty n (omega (arith, le)) j rank slot (omega (arith, e)) (omega (arith, low, le)) inside within)) (before (λ less. own_left n (omega (arith, le)) j rank slot less inside within)) (cases_eq j n)
+  earlier_block_has_own_segment : (n : ℕ) → n ≤ count → (j rank slot : ℕ) → j < n → rank < length plans → slot < width → at_once n rank (j * width + slot) ≡ alone j rank (j * width + slot)
+  earlier_block_has_own_segment zero le j rank slot low inside within = absurd (omega (arith, low))
+  earlier_block_has_own_segment (suc n) le j rank slot low inside within =
+      at_once_merges_next_segment n rank (j * width + slot) ∙ ⊎_elim (here (λ e. later_empty n (omega (arith, le)) j rank slot (omega (arith, e)) (omega (arith, low, le)) inside within)) (before (λ less. earlier_block_has_own_segment n (omega (arith, le)) j rank slot less inside within)) (cases_eq j n)
     where
       here : (j ≡ n → at_once n rank (j * width + slot) ≡ []) → j ≡ n → merge (at_once n rank (j * width + slot)) (alone n rank (j * width + slot)) ≡ alone j rank (j * width + slot)
       here rest e =
-          (λ i. merge (rest e i) (alone (sym e i) rank (j * width + slot))) ∙ merge_left (alone j rank (j * width + slot))
+          (λ i. merge (rest e i) (alone (sym e i) rank (j * width + slot))) ∙ merge_of_empty_left (alone j rank (j * width + slot))
 
       before : (j < n → at_once n rank (j * width + slot) ≡ alone j rank (j * width + slot)) → (j ≡ n → ⊥) → merge (at_once n rank (j * width + slot)) (alone n rank (j * width + slot)) ≡ alone j rank (j * width + slot)
       before rest ne =
-          (λ i. merge (rest (omega (arith, low, ne)) i) (alone_out n j rank slot (omega (arith, le)) (omega (arith, low, le)) inside within (λ e. ne (sym e)) i)) ∙ merge_none (alone j rank (j * width + slot)) (alone_sorted j rank (j * width + slot))
+          (λ i. merge (rest (omega (arith, low, ne)) i) (segment_leaves_other_blocks_empty n j rank slot (omega (arith, le)) (omega (arith, low, le)) inside within (λ e. ne (sym e)) i)) ∙ merge_none (alone j rank (j * width + slot)) (alone_sorted j rank (j * width + slot))
 
   pub segments_at_once : (block : ℕ) → block < count → EndsInItsPairs plans eager h × HoldsSegment what width block plans (value plans eager (all_starts what width count (length plans)) h) × ((rank slot : ℕ) → rank < length plans → slot < width → value plans eager (all_starts what width count (length plans)) h rank (block * width + slot) ≡ value plans eager (initial_in what width block (length plans)) h rank (block * width + slot))
   segments_at_once block low =
       let right = blocks_right what width count plans each eager h done block low in
-      (right.0, (λ rank slot inside within. subst (λ (v : Value). wanted what (length plans) rank slot v ≡ true) (sym (own_left count (omega arith) block rank slot low inside within)) (right.1 rank slot inside within)), λ rank slot inside within. own_left count (omega arith) block rank slot low inside within)
+      (right.0, (λ rank slot inside within. subst (λ (v : Value). wanted what (length plans) rank slot v ≡ true) (sym (earlier_block_has_own_segment count (omega arith) block rank slot low inside within)) (right.1 rank slot inside within)), λ rank slot inside within. earlier_block_has_own_segment count (omega arith) block rank slot low inside within)

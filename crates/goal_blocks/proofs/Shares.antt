@@ -19,7 +19,7 @@ use Rattle.goal_blocks.proofs.Orders.{Mem}
 use Rattle.goal_blocks.proofs.SlotLists.{slots_none}
 use Rattle.goal_blocks.proofs.EntryFacts.{slots_of_span}
 use Rattle.goal_blocks.proofs.Fitting.{sum_by-map}
-use Rattle.goal_blocks.proofs.Ring.{ahead_is, back_is}
+use Rattle.goal_blocks.proofs.Ring.{ahead_cases, back_cases}
 use Rattle.goal_blocks.proofs.RingAndTree.{ahead_below}
 use Rattle.goal_blocks.proofs.Slim.{All_one, All_two}
 
@@ -35,11 +35,11 @@ slots_in lo (suc n) k (inr m) =
     let below = rest.1 in
     (omega (arith, above), omega (arith, below))
 
-in_slots : (lo n k : ℕ) → lo ≤ k → k < lo + n → Mem k (slots_from lo n)
+mem_slots_from : (lo n k : ℕ) → lo ≤ k → k < lo + n → Mem k (slots_from lo n)
 unfolding slots_from
-in_slots lo zero k above below = absurd (omega (arith, above, below))
-in_slots lo (suc n) k above below =
-    ⊎_elim (λ lt. inr (in_slots (lo + 1) n k (omega (arith, lt)) (omega (arith, below)))) (λ ge. inl (omega (arith, above, ge))) (cases_lt lo k)
+mem_slots_from lo zero k above below = absurd (omega (arith, above, below))
+mem_slots_from lo (suc n) k above below =
+    ⊎_elim (λ lt. inr (mem_slots_from (lo + 1) n k (omega (arith, lt)) (omega (arith, below)))) (λ ge. inl (omega (arith, above, ge))) (cases_lt lo k)
 
 slots_length : (lo n : ℕ) → length (slots_from lo n) ≡ n
 unfolding slots_from
@@ -84,14 +84,14 @@ pub moving_low : (i : ℕ) (spans : List Span) → All IsLowSpan spans → All N
 moving_low i spans low =
     subst (λ (notes : List Note). All NamesLowSlots notes) (sym (append-nil (map (λ (s : Span). Moves i s.lo s.hi) spans))) (All-map NamesLowSlots (λ (s : Span). Moves i s.lo s.hi) spans low)
 
--- the slot k is that of a virtual rank from v on to before v + s
+-- slot k belongs to a virtual rank from v to v + s - 1
 pub record IsInShare (ranks root v s k : ℕ) : Type 0 where
   pub slot : k < ranks
   pub from : v ≤ back ranks k root
   pub before : back ranks k root < v + s
 
 module _ (ranks root v s : ℕ) (rooted : root < ranks) (inside : v < ranks) (some : 0 < s) where
-  -- the slots from the first on, of which some may be past the last rank, and go on at 0
+  -- the first and last slot, the size, and the first run; after the last rank the share goes on at slot 0
   abbrev lo : ℕ
   lo = ahead ranks v root
 
@@ -104,8 +104,8 @@ module _ (ranks root v s : ℕ) (rooted : root < ranks) (inside : v < ranks) (so
   abbrev first_run : ℕ
   first_run = min many (ranks - lo)
 
-  unwrapped : lo ≤ hi → (hi + 1 - lo ≡ first_run) × (0 ≡ many - first_run)
-  unwrapped le = go (ahead_is ranks v root) (ahead_is ranks (min (v + s) ranks - 1) root)
+  unwrapped_share_bounds : lo ≤ hi → (hi + 1 - lo ≡ first_run) × (0 ≡ many - first_run)
+  unwrapped_share_bounds le = go (ahead_cases ranks v root) (ahead_cases ranks (min (v + s) ranks - 1) root)
     where
       go : ((v + root < ranks) × (lo ≡ v + root)) ⊎ ((ranks ≤ v + root) × (lo ≡ v + root - ranks)) → ((min (v + s) ranks - 1 + root < ranks) × (hi ≡ min (v + s) ranks - 1 + root)) ⊎ ((ranks ≤ min (v + s) ranks - 1 + root) × (hi ≡ min (v + s) ranks - 1 + root - ranks)) → (hi + 1 - lo ≡ first_run) × (0 ≡ many - first_run)
       go (inl (a, e)) (inl (b, f)) =
@@ -115,8 +115,8 @@ module _ (ranks root v s : ℕ) (rooted : root < ranks) (inside : v < ranks) (so
       go (inr (a, e)) (inr (b, f)) =
           (omega (arith, rooted, inside, some, le, a, e, b, f), omega (arith, rooted, inside, some, le, a, e, b, f))
 
-  wrapped : hi < lo → (ranks - 1 + 1 - lo ≡ first_run) × (hi + 1 - 0 ≡ many - first_run)
-  wrapped lt = go (ahead_is ranks v root) (ahead_is ranks (min (v + s) ranks - 1) root)
+  wrapped_share_bounds : hi < lo → (ranks - 1 + 1 - lo ≡ first_run) × (hi + 1 - 0 ≡ many - first_run)
+  wrapped_share_bounds lt = go (ahead_cases ranks v root) (ahead_cases ranks (min (v + s) ranks - 1) root)
     where
       go : ((v + root < ranks) × (lo ≡ v + root)) ⊎ ((ranks ≤ v + root) × (lo ≡ v + root - ranks)) → ((min (v + s) ranks - 1 + root < ranks) × (hi ≡ min (v + s) ranks - 1 + root)) ⊎ ((ranks ≤ min (v + s) ranks - 1 + root) × (hi ≡ min (v + s) ranks - 1 + root - ranks)) → (ranks - 1 + 1 - lo ≡ first_run) × (hi + 1 - 0 ≡ many - first_run)
       go (inl (a, e)) (inl (b, f)) = absurd (omega (arith, rooted, inside, some, lt, a, e, b, f))
@@ -131,14 +131,14 @@ module _ (ranks root v s : ℕ) (rooted : root < ranks) (inside : v < ranks) (so
     where
       go : (b : Bool) → leb lo hi ≡ b → flat_map slots_of_span (if b then record { lo = lo; hi = hi } ∷ [] else record { lo = lo; hi = ranks - 1 } ∷ record { lo = 0; hi = hi } ∷ []) ≡ slots_from lo first_run ++ slots_from 0 (many - first_run)
       go true t =
-          let is = unwrapped (grind (arith, nat_tests, t)) in
+          let is = unwrapped_share_bounds (grind (arith, nat_tests, t)) in
           (λ i. slots_from lo (is.0 i) ++ (sym (slots_none 0)) i) ∙ ap (λ (n : ℕ). slots_from lo first_run ++ slots_from 0 n) is.1
       go false t =
-          let is = wrapped (grind (arith, nat_tests, t)) in
+          let is = wrapped_share_bounds (grind (arith, nat_tests, t)) in
           λ i. slots_from lo (is.0 i) ++ (append-nil (slots_from 0 (hi + 1 - 0)) ∙ ap (λ (n : ℕ). slots_from 0 n) is.1) i
 
-  pub share_in : (k : ℕ) → Mem k (flat_map slots_of_span (share ranks root v s)) → IsInShare ranks root v s k
-  share_in k m = either (mem_append k (slots_from lo first_run) (slots_from 0 (many - first_run)) (subst (λ (ks : List ℕ). Mem k ks) share_slots m))
+  pub mem_share_is_in_share : (k : ℕ) → Mem k (flat_map slots_of_span (share ranks root v s)) → IsInShare ranks root v s k
+  mem_share_is_in_share k m = either (mem_append k (slots_from lo first_run) (slots_from 0 (many - first_run)) (subst (λ (ks : List ℕ). Mem k ks) share_slots m))
     where
       go : (lo ≤ k) × (k < lo + first_run) ⊎ (k < many - first_run) → ((v + root < ranks) × (lo ≡ v + root)) ⊎ ((ranks ≤ v + root) × (lo ≡ v + root - ranks)) → ((k < root) × (back ranks k root ≡ k + ranks - root)) ⊎ ((root ≤ k) × (back ranks k root ≡ k - root)) → IsInShare ranks root v s k
       go (inl (l, u)) (inl (a, e)) (inl (b, f)) = record { slot = omega (arith, rooted, inside, l, u, a, e, b, f); from = omega (arith, rooted, inside, l, u, a, e, b, f); before = omega (arith, rooted, inside, l, u, a, e, b, f) }
@@ -151,23 +151,23 @@ module _ (ranks root v s : ℕ) (rooted : root < ranks) (inside : v < ranks) (so
       go (inr u) (inr (a, e)) (inr (b, f)) = record { slot = omega (arith, rooted, inside, u, a, e, b, f); from = omega (arith, rooted, inside, u, a, e, b, f); before = omega (arith, rooted, inside, u, a, e, b, f) }
 
       either : Mem k (slots_from lo first_run) ⊎ Mem k (slots_from 0 (many - first_run)) → IsInShare ranks root v s k
-      either (inl m) = go (inl (slots_in lo first_run k m)) (ahead_is ranks v root) (back_is ranks k root)
+      either (inl m) = go (inl (slots_in lo first_run k m)) (ahead_cases ranks v root) (back_cases ranks k root)
       either (inr m) =
           let below = (slots_in 0 (many - first_run) k m).1 in
-          go (inr (omega (arith, below))) (ahead_is ranks v root) (back_is ranks k root)
+          go (inr (omega (arith, below))) (ahead_cases ranks v root) (back_cases ranks k root)
 
-  pub in_share : (k : ℕ) → k < ranks → v ≤ back ranks k root → back ranks k root < v + s → Mem k (flat_map slots_of_span (share ranks root v s))
-  in_share k slot from before = subst (λ (ks : List ℕ). Mem k ks) (sym share_slots) (append_mem k (slots_from lo first_run) (slots_from 0 (many - first_run)) (go (ahead_is ranks v root) (back_is ranks k root)))
+  pub in_share_is_mem_share : (k : ℕ) → k < ranks → v ≤ back ranks k root → back ranks k root < v + s → Mem k (flat_map slots_of_span (share ranks root v s))
+  in_share_is_mem_share k slot from before = subst (λ (ks : List ℕ). Mem k ks) (sym share_slots) (append_mem k (slots_from lo first_run) (slots_from 0 (many - first_run)) (go (ahead_cases ranks v root) (back_cases ranks k root)))
     where
       go : ((v + root < ranks) × (lo ≡ v + root)) ⊎ ((ranks ≤ v + root) × (lo ≡ v + root - ranks)) → ((k < root) × (back ranks k root ≡ k + ranks - root)) ⊎ ((root ≤ k) × (back ranks k root ≡ k - root)) → Mem k (slots_from lo first_run) ⊎ Mem k (slots_from 0 (many - first_run))
       go (inl (a, e)) (inl (b, f)) =
-          inr (in_slots 0 (many - first_run) k (omega arith) (omega (arith, rooted, inside, slot, from, before, a, e, b, f)))
+          inr (mem_slots_from 0 (many - first_run) k (omega arith) (omega (arith, rooted, inside, slot, from, before, a, e, b, f)))
       go (inl (a, e)) (inr (b, f)) =
-          inl (in_slots lo first_run k (omega (arith, rooted, inside, slot, from, before, a, e, b, f)) (omega (arith, rooted, inside, slot, from, before, a, e, b, f)))
+          inl (mem_slots_from lo first_run k (omega (arith, rooted, inside, slot, from, before, a, e, b, f)) (omega (arith, rooted, inside, slot, from, before, a, e, b, f)))
       go (inr (a, e)) (inl (b, f)) =
-          inl (in_slots lo first_run k (omega (arith, rooted, inside, slot, from, before, a, e, b, f)) (omega (arith, rooted, inside, slot, from, before, a, e, b, f)))
+          inl (mem_slots_from lo first_run k (omega (arith, rooted, inside, slot, from, before, a, e, b, f)) (omega (arith, rooted, inside, slot, from, before, a, e, b, f)))
       go (inr (a, e)) (inr (b, f)) =
-          inl (in_slots lo first_run k (omega (arith, rooted, inside, slot, from, before, a, e, b, f)) (omega (arith, rooted, inside, slot, from, before, a, e, b, f)))
+          inl (mem_slots_from lo first_run k (omega (arith, rooted, inside, slot, from, before, a, e, b, f)) (omega (arith, rooted, inside, slot, from, before, a, e, b, f)))
 
   pub share_length : length (flat_map slots_of_span (share ranks root v s)) ≡ min s (ranks - v)
   share_length =
@@ -175,7 +175,7 @@ module _ (ranks root v s : ℕ) (rooted : root < ranks) (inside : v < ranks) (so
       let b = slots_length 0 (many - first_run) in
       ap length share_slots ∙ length-append (slots_from lo first_run) (slots_from 0 (many - first_run)) ∙ omega (arith, a, b)
 
-  -- its spans are of ranks
+  -- the spans of a share are low
   pub share_low : ranks ≤ rank_limit → All IsLowSpan (share ranks root v s)
   unfolding share
   share_low few = go (leb lo hi)

@@ -29,7 +29,7 @@ sum_below_few (suc n) c f each =
     let here = each n (omega arith) in
     grind arith
 
--- numbers that are each at most c, and from the m-th on 0
+-- n numbers that are each at most c, and 0 from the m-th on
 pub sum_low_few : (n m c : ℕ) (f : ℕ → ℕ) → ((k : ℕ) → f k ≤ c) → ((k : ℕ) → m ≤ k → f k ≡ 0) → sum_below n f ≤ m * c
 unfolding sum_below
 sum_low_few zero m c f each none = omega arith
@@ -62,7 +62,7 @@ module _ (ranks : ℕ) (count : ℕ → ℕ) (e : ℕ → ℕ → Entry) where
   moves_made =
       sum_by-map (λ (p : Plan). sum_by moved_count p.notes) (λ (r : ℕ). plan_by (count r) (e r)) (range_with_len 0 ranks) ∙ ap (λ (f : ℕ → ℕ). sum_by f (range_with_len 0 ranks)) (λ i r. moves_of_rank r i)
 
-  -- entries of which each moves at most so many slots, all of them low, and not too many together
+  -- a schedule is small if entries move at most `load` low slots and all loads are within the limit
   pub entries_moved : (load : ℕ → ℕ → ℕ) → ((r : ℕ) → r < ranks → count r ≤ certified_op_limit) → ((r i : ℕ) → r < ranks → i < count r → All NamesLowSlots (notes_of i (e r i))) → ((r i : ℕ) → r < ranks → i < count r → sum_by moved_count (notes_of i (e r i)) ≤ load r i) → sum_by (λ (r : ℕ). sum_by (load r) (range_with_len 0 (count r))) (range_with_len 0 ranks) ≤ moved_limit → IsSmall (made_by ranks count e)
   entries_moved load few low each total = record {
     operations = All-made (λ (p : Plan). length p.ops ≤ certified_op_limit) (λ r l. few_ops r (few r l));
@@ -70,7 +70,7 @@ module _ (ranks : ℕ) (count : ℕ → ℕ) (e : ℕ → ℕ → Entry) where
     moves = subst (λ (n : ℕ). n ≤ moved_limit) (sym moves_made) (le_trans (sum_by_le (λ (r : ℕ). sum_by (λ (i : ℕ). sum_by moved_count (notes_of i (e r i))) (range_with_len 0 (count r))) (λ (r : ℕ). sum_by (load r) (range_with_len 0 (count r))) (range_with_len 0 ranks) (All-range (λ (r : ℕ). sum_by (λ (i : ℕ). sum_by moved_count (notes_of i (e r i))) (range_with_len 0 (count r)) ≤ sum_by (load r) (range_with_len 0 (count r))) ranks (λ r l. sum_by_le (λ (i : ℕ). sum_by moved_count (notes_of i (e r i))) (load r) (range_with_len 0 (count r)) (All-range (λ (i : ℕ). sum_by moved_count (notes_of i (e r i)) ≤ load r i) (count r) (λ i m. each r i l m))))) total);
   }
 
-  -- the same, where each moves at most c slots
+  -- the same if each entry moves at most c slots
   pub entries_small : (c : ℕ) → ((r : ℕ) → r < ranks → count r ≤ certified_op_limit) → ((r i : ℕ) → r < ranks → i < count r → All NamesLowSlots (notes_of i (e r i))) → ((r i : ℕ) → r < ranks → i < count r → sum_by moved_count (notes_of i (e r i)) ≤ c) → sum_by count (range_with_len 0 ranks) * c ≤ moved_limit → IsSmall (made_by ranks count e)
   entries_small c few low each total =
       entries_moved (λ r i. c) few low each (le_trans (entries_few ranks count (λ r i. c) c (λ r i l m. omega arith)) total)

@@ -17,14 +17,14 @@ pub slots_none : (lo : ℕ) → slots_from lo 0 ≡ []
 unfolding slots_from
 slots_none lo = refl
 
--- one more note
-pub note_more : {A : Type 0} (f : Note → List A) (notes : List Note) (i : ℕ) (d : Note) → i < length notes → flat_map f (take (i + 1) notes) ≡ flat_map f (take i notes) ++ f (get_or notes i d)
-note_more f notes i d l =
+-- taking the next note
+pub flat_map_of_next_note : {A : Type 0} (f : Note → List A) (notes : List Note) (i : ℕ) (d : Note) → i < length notes → flat_map f (take (i + 1) notes) ≡ flat_map f (take i notes) ++ f (get_or notes i d)
+flat_map_of_next_note f notes i d l =
     ap (flat_map f) (take_more notes i d l) ∙ flat_map-append f (take i notes) (get_or notes i d ∷ []) ∙ ap (λ xs. flat_map f (take i notes) ++ xs) (flat_map-cons f (get_or notes i d) [] ∙ append-nil (f (get_or notes i d)))
 
--- what holds of each element holds of each after another is appended, if it holds of that one
-pub pushed_each : {X : Type 0} (P : X → Type 0) (xs : List X) (x : X) (n : ℕ) (d : X) → length xs ≡ n → ((k : ℕ) → k < n → P (get_or xs k d)) → P x → (k : ℕ) → k < n + 1 → P (get_or (xs ++ x ∷ []) k d)
-pushed_each P xs x n d long each last k h = go (cases_lt k n)
+-- if P holds for all elements and for x, it holds for all after x is appended
+pub each_holds_after_append : {X : Type 0} (P : X → Type 0) (xs : List X) (x : X) (n : ℕ) (d : X) → length xs ≡ n → ((k : ℕ) → k < n → P (get_or xs k d)) → P x → (k : ℕ) → k < n + 1 → P (get_or (xs ++ x ∷ []) k d)
+each_holds_after_append P xs x n d long each last k h = go (cases_lt k n)
   where
     go : (k < n) ⊎ (n ≤ k) → P (get_or (xs ++ x ∷ []) k d)
     go (inl l) = subst P (sym (get_or_append_left xs (x ∷ []) d k (omega (arith, l, long)))) (each k l)
@@ -32,14 +32,14 @@ pushed_each P xs x n d long each last k h = go (cases_lt k n)
         let at : k ≡ length xs + 0 = omega (arith, h, l, long) in
         subst P (sym (ap (λ j. get_or (xs ++ x ∷ []) j d) at ∙ get_or-append-add xs (x ∷ []) 0 d)) last
 
--- where it is known which note it is
+-- the same for a note that is known
 module _ {A : Type 0} (f : Note → List A) (notes : List Note) (i : ℕ) (d n : Note) (inside : i < length notes) (is : get_or notes i d ≡ n) where
-  pub note_tells : flat_map f (take (i + 1) notes) ≡ flat_map f (take i notes) ++ f n
-  note_tells = note_more f notes i d inside ∙ ap (λ m. flat_map f (take i notes) ++ f m) is
+  pub known_note_appends_items : flat_map f (take (i + 1) notes) ≡ flat_map f (take i notes) ++ f n
+  known_note_appends_items = flat_map_of_next_note f notes i d inside ∙ ap (λ m. flat_map f (take i notes) ++ f m) is
 
-  pub note_tells_none : f n ≡ [] → flat_map f (take (i + 1) notes) ≡ flat_map f (take i notes)
-  note_tells_none none =
-      note_tells ∙ ap (λ xs. flat_map f (take i notes) ++ xs) none ∙ append-nil (flat_map f (take i notes))
+  pub known_note_appends_nothing : f n ≡ [] → flat_map f (take (i + 1) notes) ≡ flat_map f (take i notes)
+  known_note_appends_nothing none =
+      known_note_appends_items ∙ ap (λ xs. flat_map f (take i notes) ++ xs) none ∙ append-nil (flat_map f (take i notes))
 
 -- the operation of the note, or another
 pub own_moves : (of op lo hi : ℕ) → of ≡ op → moved_by op (Moves of lo hi) ≡ slots_from lo (hi + 1 - lo)
@@ -67,14 +67,14 @@ module _ (plans : List Plan) (x : OpId) (is : IsOp plans x) where
       go None e some = absurd (true≢false (sym some))
       go (Some p) e some = slice_get_within (get_or plans x.rank d).ops x.op p e
 
-  pub notes_there : (d : Plan) → notes_at plans x.rank ≡ (get_or plans x.rank d).notes
+  pub notes_at_existing_rank : (d : Plan) → notes_at plans x.rank ≡ (get_or plans x.rank d).notes
   unfolding notes_at
-  notes_there d = ap (λ (o : Option Plan). unwrap_or (option_map (λ (p : Plan). p.notes) o) []) (slice_get-get_or plans x.rank d rank_below)
+  notes_at_existing_rank d = ap (λ (o : Option Plan). unwrap_or (option_map (λ (p : Plan). p.notes) o) []) (slice_get-get_or plans x.rank d rank_below)
 
-  pub slots_there : (d : Plan) → slots plans x ≡ flat_map (moved_by x.op) (get_or plans x.rank d).notes
+  pub slots_of_existing_op : (d : Plan) → slots plans x ≡ flat_map (moved_by x.op) (get_or plans x.rank d).notes
   unfolding slots
-  slots_there d = ap (flat_map (moved_by x.op)) (notes_there d)
+  slots_of_existing_op d = ap (flat_map (moved_by x.op)) (notes_at_existing_rank d)
 
-  pub adds_there : (d : Plan) → adds plans x ≡ flat_map (added_by x.op) (get_or plans x.rank d).notes
+  pub adds_of_existing_op : (d : Plan) → adds plans x ≡ flat_map (added_by x.op) (get_or plans x.rank d).notes
   unfolding adds
-  adds_there d = ap (flat_map (added_by x.op)) (notes_there d)
+  adds_of_existing_op d = ap (flat_map (added_by x.op)) (notes_at_existing_rank d)

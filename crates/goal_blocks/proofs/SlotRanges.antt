@@ -8,17 +8,17 @@ use Rattle.goal_graph.specs.declared.plan.Note.TheVariants.{Moves, Adds}
 use Rattle.goal_blocks.specs.Slots.{slots_from, moved_by}
 use Rattle.goal_blocks.specs.SlotRanges.{SlotRange, slots_of, slots_in, ranges_by}
 
-pub length_from : (lo n : ℕ) → length (slots_from lo n) ≡ n
+pub length_of_slots_from : (lo n : ℕ) → length (slots_from lo n) ≡ n
 unfolding slots_from
-length_from lo zero = refl
-length_from lo (suc n) = ap suc (length_from (lo + 1) n)
+length_of_slots_from lo zero = refl
+length_of_slots_from lo (suc n) = ap suc (length_of_slots_from (lo + 1) n)
 
-pub slot_from : (lo n i : ℕ) → i < n → get_or (slots_from lo n) i 0 ≡ lo + i
+pub get_of_slots_from : (lo n i : ℕ) → i < n → get_or (slots_from lo n) i 0 ≡ lo + i
 unfolding slots_from
-slot_from lo zero i inside = absurd (omega (arith, inside))
-slot_from lo (suc n) zero inside = omega arith
-slot_from lo (suc n) (suc i) inside =
-    let rest : get_or (slots_from (lo + 1) n) i 0 ≡ lo + 1 + i = slot_from (lo + 1) n i (omega (arith, inside)) in
+get_of_slots_from lo zero i inside = absurd (omega (arith, inside))
+get_of_slots_from lo (suc n) zero inside = omega arith
+get_of_slots_from lo (suc n) (suc i) inside =
+    let rest : get_or (slots_from (lo + 1) n) i 0 ≡ lo + 1 + i = get_of_slots_from (lo + 1) n i (omega (arith, inside)) in
     let same : lo + 1 + i ≡ lo + suc i = omega arith in
     rest ∙ same
 
@@ -41,12 +41,12 @@ slots_more ranges i d inside =
     ∙ ap (λ (ks : List ℕ). slots_in (take i ranges) ++ ks) (flat_map-cons slots_of (get_or ranges i d) [] ∙ append-nil (slots_of (get_or ranges i d)))
 
 -- the slots from the range at a place on
-pub slots_behind : (ranges : List SlotRange) (i : ℕ) (d : SlotRange) → i < length ranges → slots_in (drop i ranges) ≡ slots_of (get_or ranges i d) ++ slots_in (drop (i + 1) ranges)
-slots_behind ranges i d inside =
+pub slots_in_remaining_ranges : (ranges : List SlotRange) (i : ℕ) (d : SlotRange) → i < length ranges → slots_in (drop i ranges) ≡ slots_of (get_or ranges i d) ++ slots_in (drop (i + 1) ranges)
+slots_in_remaining_ranges ranges i d inside =
     let opened : drop i ranges ≡ get_or ranges i d ∷ drop (i + 1) ranges = rw (add-one, drop-cons ranges i d) refl in
     ap slots_in opened ∙ flat_map-cons slots_of (get_or ranges i d) (drop (i + 1) ranges)
 
--- The slots from `next` up to `end`, and then those of ranges: where none is left of the first, the next range is opened.
+-- The slots from `next` to before `end`, then those of `ranges`. When the first run out, the next one opens.
 module _ (ranges : List SlotRange) (next end : ℕ) (all : List ℕ) (left : slots_from next (end - next) ++ slots_in ranges ≡ all) where
   pub next_range : (range : SlotRange) (rest : List SlotRange) (lo to : ℕ) → ranges ≡ range ∷ rest → end ≤ next → lo ≡ range.lo → to ≡ range.hi + 1 → slots_from lo (to - lo) ++ slots_in rest ≡ all
   next_range range rest lo to opened none from till =
@@ -55,8 +55,8 @@ module _ (ranges : List SlotRange) (next end : ℕ) (all : List ℕ) (left : slo
   pub next_slot : next < end → all ≡ next ∷ (slots_from (next + 1) (end - (next + 1)) ++ slots_in ranges)
   next_slot some = sym left ∙ ap (λ (ks : List ℕ). ks ++ slots_in ranges) (first_slot next end some)
 
-  pub none_left : length ranges ≡ 0 → end ≤ next → (all ≡ []) × (slots_from next (end - next) ++ slots_in ranges ≡ [])
-  none_left empty none =
+  pub no_slot_left_at_end : length ranges ≡ 0 → end ≤ next → (all ≡ []) × (slots_from next (end - next) ++ slots_in ranges ≡ [])
+  no_slot_left_at_end empty none =
       let nothing : slots_from next (end - next) ++ slots_in ranges ≡ [] = ap (λ (ks : List ℕ). ks ++ slots_in ranges) (no_slots next end none) ∙ ap slots_in (is_empty ranges empty) in
       (sym left ∙ nothing, nothing)
     where
@@ -66,13 +66,13 @@ module _ (ranges : List SlotRange) (next end : ℕ) (all : List ℕ) (left : slo
 
 -- a slot of the first range, and one of the others
 module _ (range : SlotRange) (others : List ℕ) (i : ℕ) where
-  pub slot_behind : length (slots_of range) ≤ i → get_or (slots_of range ++ others) i 0 ≡ get_or others (i - length (slots_of range)) 0
-  slot_behind past = get_or-append_right (slots_of range) others (length (slots_of range)) i 0 refl past
+  pub get_after_first_range : length (slots_of range) ≤ i → get_or (slots_of range ++ others) i 0 ≡ get_or others (i - length (slots_of range)) 0
+  get_after_first_range past = get_or-append_right (slots_of range) others (length (slots_of range)) i 0 refl past
 
 one_range : (range : SlotRange) → slots_in (range ∷ []) ≡ slots_of range
 one_range range = flat_map-cons slots_of range [] ∙ append-nil (slots_of range)
 
--- one more range
+-- appending a range
 pub pushed_range : (ranges more : List SlotRange) (range : SlotRange) → more ≡ ranges ++ range ∷ [] → slots_in more ≡ slots_in ranges ++ slots_of range
 pushed_range ranges more range pushed =
     ap slots_in pushed ∙ flat_map-append slots_of ranges (range ∷ []) ∙ ap (λ (ks : List ℕ). slots_in ranges ++ ks) (one_range range)
@@ -85,7 +85,7 @@ slots_by_range : (op : ℕ) (note : Note) → slots_in (ranges_by op note) ≡ m
 slots_by_range op (Moves of lo hi) = if_range (of == op) (record { lo = lo; hi = hi })
 slots_by_range op (Adds of from to) = refl
 
--- what the ranges of an operation tell is what its notes tell
+-- the ranges of an operation have the slots that its notes move
 pub slots_by_ranges : (op : ℕ) (notes : List Note) → slots_in (flat_map (ranges_by op) notes) ≡ flat_map (moved_by op) notes
 slots_by_ranges op [] = refl
 slots_by_ranges op (note ∷ notes) =

@@ -13,39 +13,39 @@ lower a b c d = nat_lt a c || ((a == c) && nat_lt b d)
 lower_not : (a b c d : ℕ) → lower a b c d ≡ true → lower c d a b ≡ false
 lower_not a b c d h = grind (arith, nat_tests)
 
-trans_low : (a b c d e f : ℕ) → lower a b c d ≡ true → lower e f c d ≡ false → lower a b e f ≡ true
-trans_low a b c d e f h g = grind (arith, nat_tests)
+pair_lower_than_not_lower : (a b c d e f : ℕ) → lower a b c d ≡ true → lower e f c d ≡ false → lower a b e f ≡ true
+pair_lower_than_not_lower a b c d e f h g = grind (arith, nat_tests)
 
-trans_not : (a b c d e f : ℕ) → lower c d a b ≡ false → lower e f c d ≡ false → lower e f a b ≡ false
-trans_not a b c d e f h g = grind (arith, nat_tests)
+pair_not_lower_transitive : (a b c d e f : ℕ) → lower c d a b ≡ false → lower e f c d ≡ false → lower e f a b ≡ false
+pair_not_lower_transitive a b c d e f h g = grind (arith, nat_tests)
 
-same_first : (a b c d : ℕ) → lower a b c d ≡ false → lower c d a b ≡ false → a ≡ c
-same_first a b c d h g = grind (arith, nat_tests)
+pair_firsts_equal : (a b c d : ℕ) → lower a b c d ≡ false → lower c d a b ≡ false → a ≡ c
+pair_firsts_equal a b c d h g = grind (arith, nat_tests)
 
-same_second : (a b c d : ℕ) → lower a b c d ≡ false → lower c d a b ≡ false → b ≡ d
-same_second a b c d h g = grind (arith, nat_tests)
+pair_seconds_equal : (a b c d : ℕ) → lower a b c d ≡ false → lower c d a b ≡ false → b ≡ d
+pair_seconds_equal a b c d h g = grind (arith, nat_tests)
 
 pub not_after : (c d : Contribution) → is_lower c d ≡ true → is_lower d c ≡ false
 not_after c d h = lower_not c.rank c.item d.rank d.item h
 
--- what is lower than c is lower than what is no lower than c
-pub lower_still : (c d x : Contribution) → is_lower d c ≡ true → is_lower x c ≡ false → is_lower d x ≡ true
-lower_still c d x h g = trans_low d.rank d.item c.rank c.item x.rank x.item h g
+-- if d is lower than c and x is not, then d is lower than x
+pub lower_than_not_lower : (c d x : Contribution) → is_lower d c ≡ true → is_lower x c ≡ false → is_lower d x ≡ true
+lower_than_not_lower c d x h g = pair_lower_than_not_lower d.rank d.item c.rank c.item x.rank x.item h g
 
-pub not_lower_still : (c d x : Contribution) → is_lower d c ≡ false → is_lower x d ≡ false → is_lower x c ≡ false
-not_lower_still c d x h g = trans_not c.rank c.item d.rank d.item x.rank x.item h g
+pub not_lower_transitive : (c d x : Contribution) → is_lower d c ≡ false → is_lower x d ≡ false → is_lower x c ≡ false
+not_lower_transitive c d x h g = pair_not_lower_transitive c.rank c.item d.rank d.item x.rank x.item h g
 
 pub not_lower_is_equal : (c d : Contribution) → is_lower c d ≡ false → is_lower d c ≡ false → c ≡ d
 not_lower_is_equal c d h g =
-    let ranks = same_first c.rank c.item d.rank d.item h g in
-    let items = same_second c.rank c.item d.rank d.item h g in
+    let ranks = pair_firsts_equal c.rank c.item d.rank d.item h g in
+    let items = pair_seconds_equal c.rank c.item d.rank d.item h g in
     λ i. record { rank = ranks i; item = items i }
 
-pub all_from : {P Q : Contribution → Type 0} → ((x : Contribution) → P x → Q x) → (v : Value) → AllByRecursion P v → AllByRecursion Q v
-all_from f [] h = tt
-all_from f (x ∷ v) h = (f x h.0, all_from f v h.1)
+pub all_by_recursion_weaker : {P Q : Contribution → Type 0} → ((x : Contribution) → P x → Q x) → (v : Value) → AllByRecursion P v → AllByRecursion Q v
+all_by_recursion_weaker f [] h = tt
+all_by_recursion_weaker f (x ∷ v) h = (f x h.0, all_by_recursion_weaker f v h.1)
 
--- what comes first goes to the front
+-- a contribution that comes first is inserted at the front
 pub insert_first : (c : Contribution) (v : Value) → ComesFirst c v → insert_one c v ≡ c ∷ v
 unfolding insert_one
 insert_first c [] h = refl
@@ -71,7 +71,7 @@ unfolding merge
 first_of_merge c [] w h g = g
 first_of_merge c (x ∷ v) w h g = first_of_insert c x (merge v w) h.0 (first_of_merge c v w h.1 g)
 
--- the first of the left value comes before all
+-- merging takes the first contribution of the left value, if it comes before all others
 pub merge_left : (c : Contribution) (v w : Value) → ComesFirst c v → ComesFirst c w → merge (c ∷ v) w ≡ c ∷ merge v w
 unfolding merge
 merge_left c v w h g = insert_first c (merge v w) (first_of_merge c v w h g)
@@ -84,7 +84,7 @@ insert_after_lower c d v h = go (is_lower c d) (not_after d c h)
     go true e = absurd (true≢false e)
     go false e = refl
 
--- the first of the right value is lower than each of the left one
+-- merging takes the first contribution of the right value, if it is lower than all of the left
 pub merge_right : (d : Contribution) (v w : Value) → AllByRecursion (λ c. is_lower d c ≡ true) v → merge v (d ∷ w) ≡ d ∷ merge v w
 unfolding merge
 merge_right d [] w h = refl
@@ -102,7 +102,7 @@ sorted_insert c (d ∷ v) s = go (is_lower c d) refl (sorted_insert c v s.1)
   where
     go : (b : Bool) → is_lower c d ≡ b → IsSorted (insert_one c v) → IsSorted (if b then c ∷ d ∷ v else d ∷ insert_one c v)
     go true e rest =
-        ((not_after c d e, all_from (λ x h. not_lower_still c d x (not_after c d e) h) v s.0), s)
+        ((not_after c d e, all_by_recursion_weaker (λ x h. not_lower_transitive c d x (not_after c d e) h) v s.0), s)
     go false e rest = (first_of_insert d c v e s.0, rest)
 
 pub sorted_merge : (v w : Value) → IsSorted w → IsSorted (merge v w)
@@ -111,12 +111,12 @@ sorted_merge [] w s = s
 sorted_merge (c ∷ v) w s = sorted_insert c (merge v w) (sorted_merge v w s)
 
 -- the head of the right value is taken
-pub take_right : (c d : Contribution) (v w : Value) → IsSorted (c ∷ v) → is_lower d c ≡ true → merge (c ∷ v) (d ∷ w) ≡ d ∷ merge (c ∷ v) w
-take_right c d v w s h = merge_right d (c ∷ v) w (h, all_from (λ x g. lower_still c d x h g) v s.0)
+pub merge_takes_right_head : (c d : Contribution) (v w : Value) → IsSorted (c ∷ v) → is_lower d c ≡ true → merge (c ∷ v) (d ∷ w) ≡ d ∷ merge (c ∷ v) w
+merge_takes_right_head c d v w s h = merge_right d (c ∷ v) w (h, all_by_recursion_weaker (λ x g. lower_than_not_lower c d x h g) v s.0)
 
 -- the head of the left value is taken
-pub take_left : (c d : Contribution) (v w : Value) → IsSorted (c ∷ v) → IsSorted (d ∷ w) → is_lower d c ≡ false → merge (c ∷ v) (d ∷ w) ≡ c ∷ merge v (d ∷ w)
-take_left c d v w s t h = merge_left c v (d ∷ w) s.0 (h, all_from (λ x g. not_lower_still c d x h g) w t.0)
+pub merge_takes_left_head : (c d : Contribution) (v w : Value) → IsSorted (c ∷ v) → IsSorted (d ∷ w) → is_lower d c ≡ false → merge (c ∷ v) (d ∷ w) ≡ c ∷ merge v (d ∷ w)
+merge_takes_left_head c d v w s t h = merge_left c v (d ∷ w) s.0 (h, all_by_recursion_weaker (λ x g. not_lower_transitive c d x h g) w t.0)
 
 pub length_insert : (c : Contribution) (v : Value) → length (insert_one c v) ≡ suc (length v)
 unfolding insert_one
@@ -139,44 +139,44 @@ length_merge (c ∷ v) w =
 abbrev none : Contribution
 none = record { rank = 0; item = 0 }
 
-from_place : (v : Value) (i : ℕ) → i < length v → drop i v ≡ get_or v i none ∷ drop (i + 1) v
-from_place v i l = rw (add-one, drop-cons v i none) refl
+drop_is_get_and_rest : (v : Value) (i : ℕ) → i < length v → drop i v ≡ get_or v i none ∷ drop (i + 1) v
+drop_is_get_and_rest v i l = rw (add-one, drop-cons v i none) refl
 
 pub sorted_more : (v : Value) (i : ℕ) → i < length v → IsSorted (drop i v) → IsSorted (drop (i + 1) v)
 sorted_more v i l s =
-    let both : IsSorted (get_or v i none ∷ drop (i + 1) v) = subst IsSorted (from_place v i l) s in
+    let both : IsSorted (get_or v i none ∷ drop (i + 1) v) = subst IsSorted (drop_is_get_and_rest v i l) s in
     both.1
 
 module _ (sum more a b : Value) (i j : ℕ) (l : i < length a) (m : j < length b) (s : IsSorted (drop i a)) (t : IsSorted (drop j b)) where
-  pub step_right : is_lower (get_or b j none) (get_or a i none) ≡ true → more ≡ sum ++ get_or b j none ∷ [] → more ++ merge (drop i a) (drop (j + 1) b) ≡ sum ++ merge (drop i a) (drop j b)
-  step_right low e =
-      let left : IsSorted (get_or a i none ∷ drop (i + 1) a) = subst IsSorted (from_place a i l) s in
-      let step = take_right (get_or a i none) (get_or b j none) (drop (i + 1) a) (drop (j + 1) b) left low in
+  pub merge_step_takes_right : is_lower (get_or b j none) (get_or a i none) ≡ true → more ≡ sum ++ get_or b j none ∷ [] → more ++ merge (drop i a) (drop (j + 1) b) ≡ sum ++ merge (drop i a) (drop j b)
+  merge_step_takes_right low e =
+      let left : IsSorted (get_or a i none ∷ drop (i + 1) a) = subst IsSorted (drop_is_get_and_rest a i l) s in
+      let step = merge_takes_right_head (get_or a i none) (get_or b j none) (drop (i + 1) a) (drop (j + 1) b) left low in
       ap (λ (x : Value). x ++ merge (drop i a) (drop (j + 1) b)) e ∙ append_assoc sum (get_or b j none ∷ []) (merge (drop i a) (drop (j + 1) b))
-      ∙ ap (λ (x : Value). sum ++ get_or b j none ∷ merge x (drop (j + 1) b)) (from_place a i l) ∙ ap (λ (x : Value). sum ++ x) (sym step)
-      ∙ ap (λ (x : Value). sum ++ merge x (get_or b j none ∷ drop (j + 1) b)) (sym (from_place a i l)) ∙ ap (λ (x : Value). sum ++ merge (drop i a) x) (sym (from_place b j m))
+      ∙ ap (λ (x : Value). sum ++ get_or b j none ∷ merge x (drop (j + 1) b)) (drop_is_get_and_rest a i l) ∙ ap (λ (x : Value). sum ++ x) (sym step)
+      ∙ ap (λ (x : Value). sum ++ merge x (get_or b j none ∷ drop (j + 1) b)) (sym (drop_is_get_and_rest a i l)) ∙ ap (λ (x : Value). sum ++ merge (drop i a) x) (sym (drop_is_get_and_rest b j m))
 
-  pub step_left : is_lower (get_or b j none) (get_or a i none) ≡ false → more ≡ sum ++ get_or a i none ∷ [] → more ++ merge (drop (i + 1) a) (drop j b) ≡ sum ++ merge (drop i a) (drop j b)
-  step_left low e =
-      let left : IsSorted (get_or a i none ∷ drop (i + 1) a) = subst IsSorted (from_place a i l) s in
-      let right : IsSorted (get_or b j none ∷ drop (j + 1) b) = subst IsSorted (from_place b j m) t in
-      let step = take_left (get_or a i none) (get_or b j none) (drop (i + 1) a) (drop (j + 1) b) left right low in
+  pub merge_step_takes_left : is_lower (get_or b j none) (get_or a i none) ≡ false → more ≡ sum ++ get_or a i none ∷ [] → more ++ merge (drop (i + 1) a) (drop j b) ≡ sum ++ merge (drop i a) (drop j b)
+  merge_step_takes_left low e =
+      let left : IsSorted (get_or a i none ∷ drop (i + 1) a) = subst IsSorted (drop_is_get_and_rest a i l) s in
+      let right : IsSorted (get_or b j none ∷ drop (j + 1) b) = subst IsSorted (drop_is_get_and_rest b j m) t in
+      let step = merge_takes_left_head (get_or a i none) (get_or b j none) (drop (i + 1) a) (drop (j + 1) b) left right low in
       ap (λ (x : Value). x ++ merge (drop (i + 1) a) (drop j b)) e ∙ append_assoc sum (get_or a i none ∷ []) (merge (drop (i + 1) a) (drop j b))
-      ∙ ap (λ (x : Value). sum ++ get_or a i none ∷ merge (drop (i + 1) a) x) (from_place b j m) ∙ ap (λ (x : Value). sum ++ x) (sym step)
-      ∙ ap (λ (x : Value). sum ++ merge x (get_or b j none ∷ drop (j + 1) b)) (sym (from_place a i l)) ∙ ap (λ (x : Value). sum ++ merge (drop i a) x) (sym (from_place b j m))
+      ∙ ap (λ (x : Value). sum ++ get_or a i none ∷ merge (drop (i + 1) a) x) (drop_is_get_and_rest b j m) ∙ ap (λ (x : Value). sum ++ x) (sym step)
+      ∙ ap (λ (x : Value). sum ++ merge x (get_or b j none ∷ drop (j + 1) b)) (sym (drop_is_get_and_rest a i l)) ∙ ap (λ (x : Value). sum ++ merge (drop i a) x) (sym (drop_is_get_and_rest b j m))
 
 merge_first_none : (v : Value) → merge [] v ≡ v
 unfolding merge
 merge_first_none v = refl
 
--- where one value is used up, the rest of both completes the sum
-pub merged_all : (sum a b : Value) (i j : ℕ) → IsSorted (drop i a) → (length a ≤ i) ⊎ (length b ≤ j) → (sum ++ drop i a) ++ drop j b ≡ sum ++ merge (drop i a) (drop j b)
-merged_all sum a b i j s (inl l) =
+-- when one value is used up, appending the rest of both completes the sum
+pub merge_with_one_used_up : (sum a b : Value) (i j : ℕ) → IsSorted (drop i a) → (length a ≤ i) ⊎ (length b ≤ j) → (sum ++ drop i a) ++ drop j b ≡ sum ++ merge (drop i a) (drop j b)
+merge_with_one_used_up sum a b i j s (inl l) =
     let none_left : drop i a ≡ [] = drop_all i a l in
     append_assoc sum (drop i a) (drop j b) ∙ ap (λ (x : Value). sum ++ (x ++ drop j b)) none_left ∙ ap (λ (x : Value). sum ++ x) (sym (merge_first_none (drop j b))) ∙ ap (λ (x : Value). sum ++ merge x (drop j b)) (sym none_left)
-merged_all sum a b i j s (inr l) =
+merge_with_one_used_up sum a b i j s (inr l) =
     let none_left : drop j b ≡ [] = drop_all j b l in
     ap (λ (x : Value). (sum ++ drop i a) ++ x) none_left ∙ append-nil (sum ++ drop i a) ∙ ap (λ (x : Value). sum ++ x) (sym (merge_none (drop i a) s)) ∙ ap (λ (x : Value). sum ++ merge (drop i a) x) (sym none_left)
 
-pub whole_rest : (v : Value) (i : ℕ) → take (length v - i) (drop i v) ≡ drop i v
-whole_rest v i = take_all (length v - i) (drop i v) (let rest = length-drop i v in omega (arith, rest))
+pub take_of_whole_rest : (v : Value) (i : ℕ) → take (length v - i) (drop i v) ≡ drop i v
+take_of_whole_rest v i = take_all (length v - i) (drop i v) (let rest = length-drop i v in omega (arith, rest))

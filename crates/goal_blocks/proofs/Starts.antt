@@ -7,7 +7,7 @@ use Rattle.goal_limits.specs.declared.collective.Collective.TheVariants.{Bcast, 
 use Rattle.goal_blocks.specs.Collectives.{single, initial, initial_at}
 use Rattle.goal_blocks.specs.Stored.{IsSorted}
 use Rattle.goal_blocks.specs.Weight.{sum_below, stored}
-use Rattle.goal_blocks.proofs.SlotSums.{sum_same, sum_changed}
+use Rattle.goal_blocks.proofs.SlotSums.{sum_below_of_equal_terms, sum_changed}
 
 pub initial_in : (what : Collective) (ranks r k : ℕ) → r < ranks → initial what ranks r k ≡ initial_at what ranks r k
 unfolding initial
@@ -48,9 +48,9 @@ unfolding sum_below
 sum_constant zero x = sym (zero-mul x)
 sum_constant (suc n) x = let before = sum_constant n x in let more = suc-mul n x in omega (arith, before, more)
 
--- x at one number
-sum_at : (n a x : ℕ) → a < n → sum_below n (λ k. if k == a then x else 0) ≡ x
-sum_at n a x l =
+-- the sum of x at one number and 0 elsewhere
+sum_of_value_at_one_number : (n a x : ℕ) → a < n → sum_below n (λ k. if k == a then x else 0) ≡ x
+sum_of_value_at_one_number n a x l =
     let changed = sum_changed n a (λ k. 0) (λ k. if k == a then x else 0) l (λ k ne. other k ne) in
     let nothing = sum_constant n 0 in
     let here = same (a == a) (eq-eqb a a refl) in
@@ -67,10 +67,10 @@ sum_at n a x l =
     same true e = refl
     same false e = absurd (true≢false (sym e))
 
--- x at a number that is not reached
-sum_past : (n a x : ℕ) → n ≤ a → sum_below n (λ k. if k == a then x else 0) ≡ 0
-sum_past n a x l =
-    sum_same n (λ k. if k == a then x else 0) (λ k. 0) other ∙ nothing
+-- the sum is 0 if that number is not below n
+sum_of_value_past_end : (n a x : ℕ) → n ≤ a → sum_below n (λ k. if k == a then x else 0) ≡ 0
+sum_of_value_past_end n a x l =
+    sum_below_of_equal_terms n (λ k. if k == a then x else 0) (λ k. 0) other ∙ nothing
   where
     nothing : sum_below n (λ k. 0) ≡ 0
     nothing = let all = sum_constant n 0 in omega (arith, all)
@@ -82,7 +82,7 @@ sum_past n a x l =
         go true e = absurd (let same = eqb-true k a e in omega (arith, same, b, l))
         go false e = refl
 
--- 1 at each of the first numbers
+-- 1 at each of the first m numbers, else 0
 abbrev first : ℕ → ℕ → ℕ
 first m k = if nat_lt k m then 1 else 0
 
@@ -101,7 +101,7 @@ sum_first (suc n) m l = ⊎_elim all (λ ne. some ne (sum_first n m (omega (arit
 
     all : m ≡ suc n → sum_below (suc n) (first m) ≡ m
     all e =
-        let same : ◌≡◌ {A = ℕ} (sum_below n (first m)) (sum_below n (λ k. 1)) = sum_same n (first m) (λ k. 1) (λ k b. one (nat_lt k m) (lt-ltb k m (omega (arith, b, e)))) in
+        let same : ◌≡◌ {A = ℕ} (sum_below n (first m)) (sum_below n (λ k. 1)) = sum_below_of_equal_terms n (first m) (λ k. 1) (λ k b. one (nat_lt k m) (lt-ltb k m (omega (arith, b, e)))) in
         let ones = sum_constant n 1 in
         let last = one (nat_lt n m) (lt-ltb n m (omega (arith, e))) in
         omega (arith, same, ones, last, e)
@@ -122,17 +122,17 @@ OneEach what ranks place = (r k : ℕ) → length (initial_at what ranks r k) �
 one_contribution_each : (what : Collective) (ranks : ℕ) (place : ℕ → ℕ) → ((r : ℕ) → r < ranks → place r < 2 ^ 32) → OneEach what ranks place → stored ranks (initial what ranks) ≡ ranks
 unfolding stored
 one_contribution_each what ranks place low one =
-    sum_same ranks (λ r. sum_below (2 ^ 32) (λ k. length (initial what ranks r k))) (λ r. 1) (λ r l. sum_same (2 ^ 32) (λ k. length (initial what ranks r k)) (λ k. if k == place r then 1 else 0) (λ k b. ap length (initial_in what ranks r k l) ∙ one r k) ∙ sum_at (2 ^ 32) (place r) 1 (low r l))
+    sum_below_of_equal_terms ranks (λ r. sum_below (2 ^ 32) (λ k. length (initial what ranks r k))) (λ r. 1) (λ r l. sum_below_of_equal_terms (2 ^ 32) (λ k. length (initial what ranks r k)) (λ k. if k == place r then 1 else 0) (λ k b. ap length (initial_in what ranks r k l) ∙ one r k) ∙ sum_of_value_at_one_number (2 ^ 32) (place r) 1 (low r l))
     ∙ all
   where
     all : sum_below ranks (λ r. 1) ≡ ranks
     all = let ones = sum_constant ranks 1 in omega (arith, ones)
 
 -- each rank has one contribution for each rank
-rank_each : (what : Collective) (ranks : ℕ) → ranks ≤ rank_limit → ((r k : ℕ) → length (initial_at what ranks r k) ≡ (if nat_lt k ranks then 1 else 0)) → stored ranks (initial what ranks) ≡ ranks * ranks
+one_item_per_rank_pair : (what : Collective) (ranks : ℕ) → ranks ≤ rank_limit → ((r k : ℕ) → length (initial_at what ranks r k) ≡ (if nat_lt k ranks then 1 else 0)) → stored ranks (initial what ranks) ≡ ranks * ranks
 unfolding stored
-rank_each what ranks few each =
-    sum_same ranks (λ r. sum_below (2 ^ 32) (λ k. length (initial what ranks r k))) (λ r. ranks) (λ r l. sum_same (2 ^ 32) (λ k. length (initial what ranks r k)) (first ranks) (λ k b. ap length (initial_in what ranks r k l) ∙ each r k) ∙ sum_first (2 ^ 32) ranks (omega (arith, few)))
+one_item_per_rank_pair what ranks few each =
+    sum_below_of_equal_terms ranks (λ r. sum_below (2 ^ 32) (λ k. length (initial what ranks r k))) (λ r. ranks) (λ r l. sum_below_of_equal_terms (2 ^ 32) (λ k. length (initial what ranks r k)) (first ranks) (λ k b. ap length (initial_in what ranks r k l) ∙ each r k) ∙ sum_first (2 ^ 32) ranks (omega (arith, few)))
     ∙ sum_constant ranks ranks
 
 -- only the root has contributions
@@ -140,16 +140,16 @@ abbrev OfRoot : Collective → ℕ → ℕ → ℕ → Type 0
 OfRoot what ranks root x =
     (r : ℕ) → sum_below (2 ^ 32) (λ k. length (initial_at what ranks r k)) ≡ (if r == root then x else 0)
 
-of_root : (what : Collective) (ranks root x : ℕ) → OfRoot what ranks root x → stored ranks (initial what ranks) ≡ sum_below ranks (λ r. if r == root then x else 0)
+stored_only_at_root : (what : Collective) (ranks root x : ℕ) → OfRoot what ranks root x → stored ranks (initial what ranks) ≡ sum_below ranks (λ r. if r == root then x else 0)
 unfolding stored
-of_root what ranks root x has =
-    sum_same ranks (λ r. sum_below (2 ^ 32) (λ k. length (initial what ranks r k))) (λ r. if r == root then x else 0) (λ r l. sum_same (2 ^ 32) (λ k. length (initial what ranks r k)) (λ k. length (initial_at what ranks r k)) (λ k b. ap length (initial_in what ranks r k l)) ∙ has r)
+stored_only_at_root what ranks root x has =
+    sum_below_of_equal_terms ranks (λ r. sum_below (2 ^ 32) (λ k. length (initial what ranks r k))) (λ r. if r == root then x else 0) (λ r l. sum_below_of_equal_terms (2 ^ 32) (λ k. length (initial what ranks r k)) (λ k. length (initial_at what ranks r k)) (λ k b. ap length (initial_in what ranks r k l)) ∙ has r)
 
 root_or_none : (r root item : ℕ) (test : ℕ → Bool) (item_of : ℕ → ℕ) (x : ℕ) → sum_below (2 ^ 32) (λ k. if test k then 1 else 0) ≡ x → sum_below (2 ^ 32) (λ k. length (if (r == root) && test k then single root (item_of k) else [])) ≡ (if r == root then x else 0)
 root_or_none r root item test item_of x sum = go (r == root)
   where
     go : (b : Bool) → sum_below (2 ^ 32) (λ k. length (if b && test k then single root (item_of k) else [])) ≡ (if b then x else 0)
-    go true = sum_same (2 ^ 32) (λ k. length (if test k then single root (item_of k) else [])) (λ k. if test k then 1 else 0) (λ k l. size_if (test k) root (item_of k)) ∙ sum
+    go true = sum_below_of_equal_terms (2 ^ 32) (λ k. length (if test k then single root (item_of k) else [])) (λ k. if test k then 1 else 0) (λ k l. size_if (test k) root (item_of k)) ∙ sum
     go false = let all = sum_constant (2 ^ 32) 0 in omega (arith, all)
 
 pub stored_barrier : (ranks : ℕ) → stored ranks (initial Barrier ranks) ≡ ranks
@@ -171,29 +171,29 @@ pub stored_gather : (ranks root : ℕ) → ranks ≤ rank_limit → stored ranks
 stored_gather ranks root few = one_contribution_each (Gather root) ranks (λ r. r) (λ r l. omega (arith, l, few)) (λ r k. size_if (k == r) r 0)
 
 pub stored_alltoall : (ranks : ℕ) → ranks ≤ rank_limit → stored ranks (initial Alltoall ranks) ≡ ranks * ranks
-stored_alltoall ranks few = rank_each Alltoall ranks few (λ r k. size_if (nat_lt k ranks) r k)
+stored_alltoall ranks few = one_item_per_rank_pair Alltoall ranks few (λ r k. size_if (nat_lt k ranks) r k)
 
 pub stored_reduce_scatter : (ranks : ℕ) → ranks ≤ rank_limit → stored ranks (initial ReduceScatter ranks) ≡ ranks * ranks
-stored_reduce_scatter ranks few = rank_each ReduceScatter ranks few (λ r k. size_if (nat_lt k ranks) r k)
+stored_reduce_scatter ranks few = one_item_per_rank_pair ReduceScatter ranks few (λ r k. size_if (nat_lt k ranks) r k)
 
 bcast_rows : (ranks root : ℕ) → stored ranks (initial (Bcast root) ranks) ≡ sum_below ranks (λ r. if r == root then 1 else 0)
-bcast_rows ranks root = of_root (Bcast root) ranks root 1 (λ r. root_or_none r root 0 (λ k. k == 0) (λ k. 0) 1 (sum_at (2 ^ 32) 0 1 (omega arith)))
+bcast_rows ranks root = stored_only_at_root (Bcast root) ranks root 1 (λ r. root_or_none r root 0 (λ k. k == 0) (λ k. 0) 1 (sum_of_value_at_one_number (2 ^ 32) 0 1 (omega arith)))
 
 scatter_rows : (ranks root : ℕ) → ranks ≤ rank_limit → stored ranks (initial (Scatter root) ranks) ≡ sum_below ranks (λ r. if r == root then ranks else 0)
-scatter_rows ranks root few = of_root (Scatter root) ranks root ranks (λ r. root_or_none r root 0 (λ k. nat_lt k ranks) (λ k. k) ranks (sum_first (2 ^ 32) ranks (omega (arith, few))))
+scatter_rows ranks root few = stored_only_at_root (Scatter root) ranks root ranks (λ r. root_or_none r root 0 (λ k. nat_lt k ranks) (λ k. k) ranks (sum_first (2 ^ 32) ranks (omega (arith, few))))
 
 pub stored_bcast : (ranks root : ℕ) → root < ranks → stored ranks (initial (Bcast root) ranks) ≡ 1
-stored_bcast ranks root l = bcast_rows ranks root ∙ sum_at ranks root 1 l
+stored_bcast ranks root l = bcast_rows ranks root ∙ sum_of_value_at_one_number ranks root 1 l
 
 pub stored_bcast_none : (ranks root : ℕ) → ranks ≤ root → stored ranks (initial (Bcast root) ranks) ≡ 0
-stored_bcast_none ranks root l = bcast_rows ranks root ∙ sum_past ranks root 1 l
+stored_bcast_none ranks root l = bcast_rows ranks root ∙ sum_of_value_past_end ranks root 1 l
 
 pub stored_scatter : (ranks root : ℕ) → ranks ≤ rank_limit → root < ranks → stored ranks (initial (Scatter root) ranks) ≡ ranks
-stored_scatter ranks root few l = scatter_rows ranks root few ∙ sum_at ranks root ranks l
+stored_scatter ranks root few l = scatter_rows ranks root few ∙ sum_of_value_at_one_number ranks root ranks l
 
 pub stored_scatter_none : (ranks root : ℕ) → ranks ≤ rank_limit → ranks ≤ root → stored ranks (initial (Scatter root) ranks) ≡ 0
-stored_scatter_none ranks root few l = scatter_rows ranks root few ∙ sum_past ranks root ranks l
+stored_scatter_none ranks root few l = scatter_rows ranks root few ∙ sum_of_value_past_end ranks root ranks l
 
--- the size of a collective that is told by its case
+-- the size of a collective that is known to be `other`
 pub size_of : (what other : Collective) (ranks x : ℕ) → what ≡ other → stored ranks (initial other ranks) ≡ x → x ≡ stored ranks (initial what ranks)
 size_of what other ranks x is e = sym e ∙ ap (λ (w : Collective). stored ranks (initial w ranks)) (sym is)

@@ -11,13 +11,13 @@ use Rattle.goal_blocks.specs.Stored.{Place, place_cmp, Kept, written_at, values,
 use Rattle.goal_blocks.specs.Weight.{stored}
 use Rattle.goal_blocks.specs.Collectives.{initial}
 use Rattle.goal_limits.specs.declared.collective.Collective.{Collective}
-use Rattle.goal_blocks.proofs.SlotSums.{stored_set, stored_most}
+use Rattle.goal_blocks.proofs.SlotSums.{stored_set, slot_length_at_most_stored}
 use Rattle.goal_blocks.proofs.Starts.{initial_sorted}
 use Rattle.goal_graph.proofs.ForCallers.{nat_cmp_is_eq, eqb-swapped}
 use Rattle.std.specs.Cmp.{tied_then}
 use Rattle.goal_limits.specs.Limits.{rank_limit}
 
--- the test of a place
+-- a place is equal to another if rank and slot are
 pub same_place : (rank slot r k : ℕ) → is_at (place_cmp (rank, slot)) (r, k) ≡ ((r == rank) && (k == slot))
 same_place rank slot r k =
     sym (tied_then (nat_cmp rank r) (nat_cmp slot k)) ∙ ap₂ (λ (s t : Bool). s && t) (nat_cmp_is_eq rank r ∙ eqb-swapped rank r) (nat_cmp_is_eq slot k ∙ eqb-swapped slot k)
@@ -30,8 +30,8 @@ sorted_set rank slot v s sorted each r k = go ((r == rank) && (k == slot))
     go true = sorted
     go false = each r k
 
-is_some_from : {A : Type 0} (o : Option A) (x : A) → o ≡ Some x → IsSome o
-is_some_from o x e = subst (λ p. IsSome p) (sym e) refl
+equal_to_some_is_some : {A : Type 0} (o : Option A) (x : A) → o ≡ Some x → IsSome o
+equal_to_some_is_some o x e = subst (λ p. IsSome p) (sym e) refl
 
 abbrev pub Cells : Type 0
 Cells = BTreeMap Place (Vec Contribution Global)
@@ -47,7 +47,7 @@ lookup_contents : (test : Place → Bool) (es : List (Place × Vec Contribution 
 lookup_contents test [] = refl
 lookup_contents test (e ∷ es) = ap (cond (test e.0) (Some e.1.items)) (lookup_contents test es) ∙ map_contents (test e.0) e.1 (lookup test es)
 
--- what was set at a place, by the map
+-- the map has what was set at a place
 pub written_found : (s : Kept) (m : Cells) → s.written ≡ entries_of m.entries → (a : Place) → written_at s a ≡ option_map contents (get place_cmp m a)
 unfolding written_at
 written_found s m e a = ap (lookup (is_at (place_cmp a))) e ∙ lookup_contents (is_at (place_cmp a)) m.entries
@@ -61,7 +61,7 @@ pub value_if_written : (s : Kept) (r k : ℕ) (v : Value) → written_at s (r, k
 unfolding values
 value_if_written s r k v e = ap (λ (o : Option Value). unwrap_or o (initial s.what s.ranks r k)) e
 
--- and one that was not has its first value
+-- a slot that was not set has its first value
 pub value_if_not_written : (s : Kept) (r k : ℕ) → written_at s (r, k) ≡ None → values s r k ≡ initial s.what s.ranks r k
 unfolding values
 value_if_not_written s r k e = ap (λ (o : Option Value). unwrap_or o (initial s.what s.ranks r k)) e
@@ -89,7 +89,7 @@ module _ (what : Collective) (ranks : ℕ) (m n : Cells) (rank slot : ℕ) (v : 
   set_after = go (rank == rank) (slot == slot) (eq-eqb rank rank refl) (eq-eqb slot slot refl) (written_after rank slot)
     where
       go : (a b : Bool) → a ≡ true → b ≡ true → written_at (kept_of_cells what ranks n) (rank, slot) ≡ cond (a && b) (Some v.items) (written_at (kept_of_cells what ranks m) (rank, slot)) → IsSome (written_at (kept_of_cells what ranks n) (rank, slot))
-      go true true e f w = is_some_from _ v.items w
+      go true true e f w = equal_to_some_is_some _ v.items w
       go true false e f w = absurd (true≢false (sym f))
       go false b e f w = absurd (true≢false (sym e))
 
@@ -97,10 +97,10 @@ module _ (what : Collective) (ranks : ℕ) (m n : Cells) (rank slot : ℕ) (v : 
   still_set k some = go ((rank == rank) && (k == slot)) (written_after rank k)
     where
       go : (b : Bool) → written_at (kept_of_cells what ranks n) (rank, k) ≡ cond b (Some v.items) (written_at (kept_of_cells what ranks m) (rank, k)) → IsSome (written_at (kept_of_cells what ranks n) (rank, k))
-      go true w = is_some_from _ v.items w
+      go true w = equal_to_some_is_some _ v.items w
       go false w = subst (λ (o : Option Value). IsSome o) (sym w) some
 
-  -- the store is sound after it
+  -- the store is sound after a slot is set
   pub sound_after : (held more : ℕ) → rank < ranks → slot < 2 ^ 32 → IsSorted v.items → IsSound (kept_of_cells what ranks m) held → more ≡ held - length (values (kept_of_cells what ranks m) rank slot) + length v.items → IsSound (kept_of_cells what ranks n) more
   sound_after held more low small sorted sound is = record {
     ranks = sound.ranks;
@@ -108,7 +108,7 @@ module _ (what : Collective) (ranks : ℕ) (m n : Cells) (rank slot : ℕ) (v : 
     held_is =
         let kept_before = stored_set ranks rank slot v.items (values (kept_of_cells what ranks m)) low small in
         let now : stored ranks (values (kept_of_cells what ranks n)) ≡ stored ranks (set_slot rank slot v.items (values (kept_of_cells what ranks m))) = ap (stored ranks) values_after in
-        let most = stored_most ranks rank slot (values (kept_of_cells what ranks m)) low small in
+        let most = slot_length_at_most_stored ranks rank slot (values (kept_of_cells what ranks m)) low small in
         omega (arith, kept_before, now, most, is, sound.held_is);
   }
     where
@@ -130,7 +130,7 @@ module _ (what : Collective) (ranks : ℕ) (m : Cells) (s : Kept) (is : kept_of_
   value_there v e =
       sym (value_if_written (kept_of_cells what ranks m) r k v.items (written_found (kept_of_cells what ranks m) m refl (r, k) ∙ ap (option_map contents) (sym e))) ∙ ap (λ (t : Kept). values t r k) is
 
-  -- what it does not have has its first value
+  -- a slot that the map does not have has its first value
   pub value_absent : None ≡ get place_cmp m (r, k) → initial what ranks r k ≡ values s r k
   value_absent e =
       sym (value_if_not_written (kept_of_cells what ranks m) r k (written_found (kept_of_cells what ranks m) m refl (r, k) ∙ ap (option_map contents) (sym e))) ∙ ap (λ (t : Kept). values t r k) is
@@ -139,12 +139,12 @@ module _ (what : Collective) (ranks : ℕ) (m : Cells) (s : Kept) (is : kept_of_
   first_there first e at = at ∙ ap (λ (t : Kept). initial t.what t.ranks r k) (sym is) ∙ value_absent e
 
   -- what the map has there, or else the first value, is the value
-  pub before_there : (old : Option (Vec Contribution Global)) (first : Option Contribution) → old ≡ get place_cmp m (r, k) → one_or_none first ≡ initial s.what s.ranks r k → before old first ≡ values s r k
-  before_there None first e at = first_there first e at
-  before_there (Some v) first e at = value_there v e
+  pub value_or_first_is_value : (old : Option (Vec Contribution Global)) (first : Option Contribution) → old ≡ get place_cmp m (r, k) → one_or_none first ≡ initial s.what s.ranks r k → before old first ≡ values s r k
+  value_or_first_is_value None first e at = first_there first e at
+  value_or_first_is_value (Some v) first e at = value_there v e
 
-  pub absent_there : get place_cmp m (r, k) ≡ None → written_at s (r, k) ≡ None
-  absent_there e =
+  pub absent_means_not_written : get place_cmp m (r, k) ≡ None → written_at s (r, k) ≡ None
+  absent_means_not_written e =
       ap (λ (t : Kept). written_at t (r, k)) (sym is) ∙ written_found (kept_of_cells what ranks m) m refl (r, k) ∙ ap (option_map contents) e
 
   pub is_set_there : is_some (get place_cmp m (r, k)) ≡ true → IsSome (written_at s (r, k))
@@ -152,25 +152,25 @@ module _ (what : Collective) (ranks : ℕ) (m : Cells) (s : Kept) (is : kept_of_
     where
       go : (o : Option (Vec Contribution Global)) → get place_cmp m (r, k) ≡ o → is_some o ≡ true → IsSome (written_at s (r, k))
       go None w some = absurd (true≢false (sym some))
-      go (Some v) w some = is_some_from _ v.items (ap (λ (t : Kept). written_at t (r, k)) (sym is) ∙ written_found (kept_of_cells what ranks m) m refl (r, k) ∙ ap (option_map contents) w)
+      go (Some v) w some = equal_to_some_is_some _ v.items (ap (λ (t : Kept). written_at t (r, k)) (sym is) ∙ written_found (kept_of_cells what ranks m) m refl (r, k) ∙ ap (option_map contents) w)
 
   pub sorted_there : (held : ℕ) → IsSound (kept_of_cells what ranks m) held → IsSorted (values s r k)
   sorted_there held sound = subst (λ (t : Kept). IsSorted (values t r k)) is (sound.sorted r k)
 
-  -- a slot has no more than all together
-  pub few_there : (held : ℕ) → IsSound (kept_of_cells what ranks m) held → r < s.ranks → k < 2 ^ 32 → length (values s r k) ≤ held
-  few_there held sound low small =
-      let most = stored_most s.ranks r k (values s) low small in
+  -- a slot has at most as many contributions as all slots together
+  pub slot_length_at_most_held : (held : ℕ) → IsSound (kept_of_cells what ranks m) held → r < s.ranks → k < 2 ^ 32 → length (values s r k) ≤ held
+  slot_length_at_most_held held sound low small =
+      let most = slot_length_at_most_stored s.ranks r k (values s) low small in
       let same : stored (kept_of_cells what ranks m).ranks (values (kept_of_cells what ranks m)) ≡ stored s.ranks (values s) = ap (λ (t : Kept). stored t.ranks (values t)) is in
       omega (arith, most, same, sound.held_is)
 
-  pub held_there : (held : ℕ) → IsSound (kept_of_cells what ranks m) held → held ≡ stored s.ranks (values s)
-  held_there held sound = sound.held_is ∙ ap (λ (t : Kept). stored t.ranks (values t)) is
+  pub held_is_stored_count : (held : ℕ) → IsSound (kept_of_cells what ranks m) held → held ≡ stored s.ranks (values s)
+  held_is_stored_count held sound = sound.held_is ∙ ap (λ (t : Kept). stored t.ranks (values t)) is
 
-pub sorted_from : (x y : Value) → x ≡ y → IsSorted y → IsSorted x
-sorted_from x y e s = subst IsSorted (sym e) s
+pub sorted_at_equal_value : (x y : Value) → x ≡ y → IsSorted y → IsSorted x
+sorted_at_equal_value x y e s = subst IsSorted (sym e) s
 
--- a store of nothing that was set
+-- a store in which no slot was set
 pub values_empty : (what : Collective) (ranks : ℕ) (m : Cells) → m.entries ≡ [] → values (kept_of_cells what ranks m) ≡ initial what ranks
 values_empty what ranks m e = λ i r k. at r k i
   where
@@ -188,15 +188,15 @@ pub all_sorted : (f : ℕ → Value) → ((k : ℕ) → IsSorted (f k)) → (ks 
 all_sorted f each [] = All-nil IsSorted
 all_sorted f each (k ∷ ks) = All-cons IsSorted (f k) (map f ks) (each k) (all_sorted f each ks)
 
--- the contributions of none or one
+-- the list of an optional contribution
 pub read_contribution : (first : Option Contribution) (v : Value) → MatchOption first (v ≡ []) (λ c. v ≡ c ∷ []) → v ≡ one_or_none first
 read_contribution None v e = e
 read_contribution (Some c) v e = e
 
-pub none_there : (o : Option (Vec Contribution Global)) → is_some o ≡ false → None ≡ o
-none_there None e = refl
-none_there (Some v) e = absurd (true≢false e)
+pub is_some_false_is_none : (o : Option (Vec Contribution Global)) → is_some o ≡ false → None ≡ o
+is_some_false_is_none None e = refl
+is_some_false_is_none (Some v) e = absurd (true≢false e)
 
 pub ok_sorted : {E : Type 0} (r : Result (Vec Contribution Global) E) (v : Value) → IfOk r (λ w. w.items ≡ v) → IsSorted v → IfOk r (λ w. IsSorted w.items)
-ok_sorted (Ok w) v e sorted = sorted_from w.items v e sorted
+ok_sorted (Ok w) v e sorted = sorted_at_equal_value w.items v e sorted
 ok_sorted (Err e) v is sorted = tt

@@ -33,7 +33,7 @@ sum_range_few f n c h =
     let size = length-range_with_len 0 n in
     rw (e, size) at le
 
--- where each entry has at most c of what f counts, all have at most c times their number
+-- if f counts at most c per entry, it counts at most c times their number in all
 pub entries_few : (ranks : ℕ) (count : ℕ → ℕ) (f : ℕ → ℕ → ℕ) (c : ℕ) → ((r i : ℕ) → r < ranks → i < count r → f r i ≤ c) → sum_by (λ (r : ℕ). sum_by (f r) (range_with_len 0 (count r))) (range_with_len 0 ranks) ≤ sum_by count (range_with_len 0 ranks) * c
 entries_few ranks count f c h =
     let le = sum_by_le (λ (r : ℕ). sum_by (f r) (range_with_len 0 (count r))) (λ (r : ℕ). count r * c) (range_with_len 0 ranks) (All-range (λ (r : ℕ). sum_by (f r) (range_with_len 0 (count r)) ≤ count r * c) ranks (λ r in_rank. sum_range_few (f r) (count r) c (λ i inside. h r i in_rank inside))) in

@@ -7,12 +7,12 @@ use Rattle.std.proofs.Math.Pow.{pow_mono}
 use Rattle.std.proofs.lemmas.Bool.{cases_lt}
 use Rattle.goal_limits.specs.Limits.{rank_limit}
 use Rattle.goal_blocks.specs.Positions.{digits, low, rounds}
-use Rattle.goal_blocks.proofs.RingAndTree.{digits_low, digits_high, digits_some}
+use Rattle.goal_blocks.proofs.RingAndTree.{power_below_digits_at_most, below_power_of_digits, digits_some}
 use Rattle.goal_blocks.proofs.Trees.{rounds_few, rounds_zero, rounds_above}
 
 -- the lowest binary digit 1 of a number
 
--- it is one of its digits, and the power of two below it is at most the number
+-- t is one of the k digits of n, and 2^t is at most n
 pub record IsLowest (k n t : ℕ) : Type 0 where
   pub few : t < k
   pub within : 2 ^ t ≤ n
@@ -34,7 +34,7 @@ pub low_is_lowest : (n : ℕ) → 0 < n → n < 2 ^ 32 → IsLowest 32 n (low n)
 unfolding low
 low_is_lowest n some few = lowest 32 n some few
 
--- a digit that is set below it is the lowest then
+-- a digit that is set below the lowest 1 becomes the lowest 1
 trailing_set : (k j n : ℕ) → j < count_trailing_zeros k n → count_trailing_zeros k (n + 2 ^ j) ≡ j
 unfolding count_trailing_zeros
 trailing_set zero j n lt = absurd (omega (arith, lt))
@@ -55,7 +55,7 @@ trailing_set (suc k) (suc j) n lt = go (n % 2) refl lt (trailing_set k j (n / 2)
         rw (still, half) (ap suc (rest (omega (arith, less))))
     go (suc d) odd less rest = absurd (omega (arith, less))
 
--- where it is taken away, the next one is higher
+-- when the lowest 1 is cleared, the next one is higher
 trailing_taken : (k n : ℕ) → count_trailing_zeros k n < k → count_trailing_zeros k n < count_trailing_zeros k (n - 2 ^ count_trailing_zeros k n)
 unfolding count_trailing_zeros
 trailing_taken zero n lt = absurd (omega (arith, lt))
@@ -86,7 +86,7 @@ low_zero = trailing_of_zero 32
 
 -- parents and children
 
--- the parent p of c is lower by 2^low c, and hears it in the round low c
+-- the parent p of c is lower by 2^low c, and has it as its child in round low c
 pub record IsParent (ranks c p : ℕ) : Type 0 where
   pub child : p + 2 ^ low c ≡ c
   pub round : low c < rounds ranks p
@@ -108,47 +108,47 @@ module _ (ranks : ℕ) (few : ranks ≤ rank_limit) where
       let e = rounds_above ranks few (suc w) (omega arith) in
       rw e (omega arith)
 
-  -- and all rounds below it in which there is a child are rounds
-  pub round_there : (v j : ℕ) → j < low v → v + 2 ^ j < ranks → j < rounds ranks v
-  round_there zero j lt child = rw (rounds_zero ranks few) (go (cases_lt j (digits (ranks - 1))))
+  -- a round below the lowest digit 1 exists if its child does
+  pub round_with_child_exists : (v j : ℕ) → j < low v → v + 2 ^ j < ranks → j < rounds ranks v
+  round_with_child_exists zero j lt child = rw (rounds_zero ranks few) (go (cases_lt j (digits (ranks - 1))))
     where
       go : (j < digits (ranks - 1)) ⊎ (digits (ranks - 1) ≤ j) → j < digits (ranks - 1)
       go (inl is) = is
-      go (inr le) = absurd (let high = digits_high (ranks - 1) j (omega (arith, few)) le in omega (arith, high, child))
-  round_there (suc w) j lt child =
+      go (inr le) = absurd (let high = below_power_of_digits (ranks - 1) j (omega (arith, few)) le in omega (arith, high, child))
+  round_with_child_exists (suc w) j lt child =
       let e = rounds_above ranks few (suc w) (omega arith) in
       rw e (go (cases_lt j (digits (ranks - 1 - suc w))))
     where
       go : (j < digits (ranks - 1 - suc w)) ⊎ (digits (ranks - 1 - suc w) ≤ j) → j < min (low (suc w)) (digits (ranks - 1 - suc w))
       go (inl is) = omega (arith, is, lt)
-      go (inr le) = absurd (let high = digits_high (ranks - 1 - suc w) j (omega (arith, few)) le in omega (arith, high, child))
+      go (inr le) = absurd (let high = below_power_of_digits (ranks - 1 - suc w) j (omega (arith, few)) le in omega (arith, high, child))
 
   -- the child of a round has the round's digit as its lowest
   pub child_low : (v j : ℕ) → j < rounds ranks v → low (v + 2 ^ j) ≡ j
   child_low v j lt = let most = rounds_low v in low_set v j (omega (arith, lt, most))
 
-  pub parent_is : (c : ℕ) → 0 < c → c < ranks → IsParent ranks c (c - 2 ^ low c)
-  parent_is c some inside =
+  pub parent_without_low_digit : (c : ℕ) → 0 < c → c < ranks → IsParent ranks c (c - 2 ^ low c)
+  parent_without_low_digit c some inside =
       let lowest = low_is_lowest c some (omega (arith, inside, few)) in
       let above = low_taken c lowest.few in
       let within = lowest.within in
       let child : c - 2 ^ low c + 2 ^ low c ≡ c = omega (arith, within) in
-      record { child = child; round = round_there (c - 2 ^ low c) (low c) above (omega (arith, child, inside)) }
+      record { child = child; round = round_with_child_exists (c - 2 ^ low c) (low c) above (omega (arith, child, inside)) }
 
   -- the block of v, which are the virtual ranks from v on to before v + 2^low v, is v and the blocks of its children
 
-  -- in which round v hears of w
-  pub round_of : (v w : ℕ) → v < w → w < ranks → w < v + 2 ^ low v → (j : ℕ) × IsInRound ranks v w j
-  round_of v w after inside block =
+  -- the round of v whose child has w in its block
+  pub round_of_descendant : (v w : ℕ) → v < w → w < ranks → w < v + 2 ^ low v → (j : ℕ) × IsInRound ranks v w j
+  round_of_descendant v w after inside block =
       let d = w - v in
       let some = digits_some (w - v) (omega (arith, inside, few)) (omega (arith, after)) in
       let whole : suc (digits (w - v) - 1) ≡ digits (w - v) = omega (arith, some) in
-      let from = digits_low (w - v) (digits (w - v) - 1) (omega (arith, inside, few)) (omega (arith, some)) in
-      let high : w - v < 2 ^ suc (digits (w - v) - 1) = subst (λ (n : ℕ). w - v < 2 ^ n) (sym whole) (digits_high (w - v) (digits (w - v)) (omega (arith, inside, few)) (omega arith)) in
+      let from = power_below_digits_at_most (w - v) (digits (w - v) - 1) (omega (arith, inside, few)) (omega (arith, some)) in
+      let high : w - v < 2 ^ suc (digits (w - v) - 1) = subst (λ (n : ℕ). w - v < 2 ^ n) (sym whole) (below_power_of_digits (w - v) (digits (w - v)) (omega (arith, inside, few)) (omega arith)) in
       let up = pow-suc 2 (digits (w - v) - 1) in (
         digits (w - v) - 1,
         record {
-          round = round_there v (digits (w - v) - 1) (below (digits (w - v) - 1) from) (omega (arith, from, after, inside));
+          round = round_with_child_exists v (digits (w - v) - 1) (below (digits (w - v) - 1) from) (omega (arith, from, after, inside));
           from = omega (arith, from, after);
           before = omega (arith, high, up, after);
         },
@@ -157,9 +157,9 @@ module _ (ranks : ℕ) (few : ranks ≤ rank_limit) where
       below : (j : ℕ) → 2 ^ j ≤ w - v → j < low v
       below j le = ⊎_elim (λ lt. lt) (λ ge. absurd (let more = pow_mono ge in omega (arith, more, le, after, block))) (cases_lt j (low v))
 
-  -- it is one round
-  pub one_round : (v w i j : ℕ) → IsInRound ranks v w i → IsInRound ranks v w j → i ≡ j
-  one_round v w i j a b = ⊎_elim (λ lt. absurd (less i j a b lt)) (λ ge. ⊎_elim (λ lt. absurd (less j i b a lt)) (λ le. omega (arith, ge, le)) (cases_lt j i)) (cases_lt i j)
+  -- w is in the block of the child of only one round
+  pub round_of_descendant_unique : (v w i j : ℕ) → IsInRound ranks v w i → IsInRound ranks v w j → i ≡ j
+  round_of_descendant_unique v w i j a b = ⊎_elim (λ lt. absurd (less i j a b lt)) (λ ge. ⊎_elim (λ lt. absurd (less j i b a lt)) (λ le. omega (arith, ge, le)) (cases_lt j i)) (cases_lt i j)
     where
       less : (i j : ℕ) → IsInRound ranks v w i → IsInRound ranks v w j → i < j → ⊥
       less i j a b lt =
@@ -169,7 +169,7 @@ module _ (ranks : ℕ) (few : ranks ≤ rank_limit) where
           let from = b.from in
           omega (arith, more, up, before, from)
 
-  -- the blocks of children are in the block
+  -- the block of a child is in the block of its parent
   pub round_in_block : (v w j : ℕ) → IsInRound ranks v w j → w < v + 2 ^ low v
   round_in_block v w j is =
       let round = is.round in

@@ -8,11 +8,11 @@ use Rattle.goal_graph.specs.declared.plan.Kind.TheVariants.{Calc, Send, Recv}
 use Rattle.goal_blocks.specs.Entries.{Entry}
 use Rattle.goal_blocks.specs.Positions.{ahead, back, low, rounds, parent}
 use Rattle.goal_blocks.specs.Messages.{AreMessages}
-use Rattle.goal_blocks.proofs.MadePaired.{at, same_place}
+use Rattle.goal_blocks.proofs.MadePaired.{at, at_of_equal_numbers}
 use Rattle.goal_blocks.proofs.Ring.{back_ahead, ahead_back}
 use Rattle.goal_blocks.proofs.RingAndTree.{ahead_below, back_below}
 use Rattle.goal_blocks.proofs.Trees.{child_below}
-use Rattle.goal_blocks.proofs.Tree.{IsParent, parent_is, child_low}
+use Rattle.goal_blocks.proofs.Tree.{IsParent, parent_without_low_digit, child_low}
 
 -- a virtual rank with a parent
 pub record TreeEdge (ranks : ℕ) : Type 0 where
@@ -24,13 +24,13 @@ module _ (ranks root bytes : ℕ) (rooted : root < ranks) (few : ranks ≤ rank_
   abbrev pub above : TreeEdge ranks → ℕ
   above m = m.child - 2 ^ low m.child
 
-  pub above_is : (m : TreeEdge ranks) → IsParent ranks m.child (above m)
-  above_is m = parent_is ranks few m.child m.some m.inside
+  pub above_is_parent : (m : TreeEdge ranks) → IsParent ranks m.child (above m)
+  above_is_parent m = parent_without_low_digit ranks few m.child m.some m.inside
 
   pub above_inside : (m : TreeEdge ranks) → above m < ranks
   above_inside m = let inside = m.inside in omega (arith, inside)
 
-  -- a virtual rank is that of its rank
+  -- v is the virtual rank of its rank
   pub virtual : (v : ℕ) → v < ranks → back ranks (ahead ranks v root) root ≡ v
   virtual v inside = back_ahead ranks v root inside (omega (arith, rooted))
 
@@ -56,11 +56,11 @@ module _ (ranks root bytes : ℕ) (rooted : root < ranks) (few : ranks ≤ rank_
 
       parent_there : (m : TreeEdge ranks) → ((parent_end m).rank < ranks) × ((parent_end m).op < count (back ranks (parent_end m).rank root))
       parent_there m =
-          (ahead_below ranks (above m) root (above_inside m) (omega (arith, rooted)), rw (virtual (above m) (above_inside m)) (ends.down_there (above m) (low m.child) (above_inside m) (above_is m).round))
+          (ahead_below ranks (above m) root (above_inside m) (omega (arith, rooted)), rw (virtual (above m) (above_inside m)) (ends.down_there (above m) (low m.child) (above_inside m) (above_is_parent m).round))
 
       cases : (x : OpId) → x.rank < ranks → x.op < count (back ranks x.rank root) → ((nanos : ℕ) × ((e (back ranks x.rank root) x.op).kind ≡ Calc nanos)) ⊎ (((m : TreeEdge ranks) × (child_end m ≡ x)) ⊎ ((m : TreeEdge ranks) × (parent_end m ≡ x)))
       cases x in_rank inside =
-          ⊎_elim (λ c. inl c) (λ c. inr (⊎_elim (λ u. inl (record { child = (back ranks x.rank root); some = u.0; inside = low_rank }, same_place (ahead ranks (back ranks x.rank root) root) (up (back ranks x.rank root)) x.rank x.op home u.1)) (λ d. inr (of_child d.0 d.1 d.2)) c)) (ends.each (back ranks x.rank root) x.op low_rank inside)
+          ⊎_elim (λ c. inl c) (λ c. inr (⊎_elim (λ u. inl (record { child = (back ranks x.rank root); some = u.0; inside = low_rank }, at_of_equal_numbers (ahead ranks (back ranks x.rank root) root) (up (back ranks x.rank root)) x.rank x.op home u.1)) (λ d. inr (of_child d.0 d.1 d.2)) c)) (ends.each (back ranks x.rank root) x.op low_rank inside)
         where
           low_rank : (back ranks x.rank root) < ranks
           low_rank = back_below ranks x.rank root in_rank
@@ -73,7 +73,7 @@ module _ (ranks root bytes : ℕ) (rooted : root < ranks) (few : ranks ≤ rank_
               let lowest = child_low ranks few (back ranks x.rank root) j lt in
               let back_to : (back ranks x.rank root) + 2 ^ j - 2 ^ low ((back ranks x.rank root) + 2 ^ j) ≡ (back ranks x.rank root) = ap (λ (n : ℕ). (back ranks x.rank root) + 2 ^ j - 2 ^ n) lowest ∙ omega arith in (
                 record { child = (back ranks x.rank root) + 2 ^ j; some = omega (arith, pow_pos j); inside = child_below ranks few (back ranks x.rank root) j low_rank lt },
-                same_place (ahead ranks ((back ranks x.rank root) + 2 ^ j - 2 ^ low ((back ranks x.rank root) + 2 ^ j)) root) (down ((back ranks x.rank root) + 2 ^ j - 2 ^ low ((back ranks x.rank root) + 2 ^ j)) (low ((back ranks x.rank root) + 2 ^ j))) x.rank x.op (ap (λ (w : ℕ). ahead ranks w root) back_to ∙ home) ((λ i. down (back_to i) (lowest i)) ∙ number),
+                at_of_equal_numbers (ahead ranks ((back ranks x.rank root) + 2 ^ j - 2 ^ low ((back ranks x.rank root) + 2 ^ j)) root) (down ((back ranks x.rank root) + 2 ^ j - 2 ^ low ((back ranks x.rank root) + 2 ^ j)) (low ((back ranks x.rank root) + 2 ^ j))) x.rank x.op (ap (λ (w : ℕ). ahead ranks w root) back_to ∙ home) ((λ i. down (back_to i) (lowest i)) ∙ number),
               )
 
       -- the child's rank tells the message
@@ -95,7 +95,7 @@ module _ (ranks root bytes : ℕ) (rooted : root < ranks) (few : ranks ≤ rank_
         send_there = child_there;
         recv_there = parent_there;
         sent = λ m. rw (virtual m.child m.inside) (sends m.child m.some m.inside);
-        received = λ m. rw (virtual (above m) (above_inside m)) (takes (above m) (low m.child) (above_inside m) (above_is m).round ∙ ap (λ (c : ℕ). Recv bytes (Some (ahead ranks c root)) (Some (low m.child))) (above_is m).child);
+        received = λ m. rw (virtual (above m) (above_inside m)) (takes (above m) (low m.child) (above_inside m) (above_is_parent m).round ∙ ap (λ (c : ℕ). Recv bytes (Some (ahead ranks c root)) (Some (low m.child))) (above_is_parent m).child);
         cases = cases;
         apart = λ m n source target tag. let same = same_child m n source in (same_child_end m n same, same_parent_end m n same);
       }
@@ -106,7 +106,7 @@ module _ (ranks root bytes : ℕ) (rooted : root < ranks) (few : ranks ≤ rank_
       down_messages takes sends = record {
         send_there = parent_there;
         recv_there = child_there;
-        sent = λ m. rw (virtual (above m) (above_inside m)) (sends (above m) (low m.child) (above_inside m) (above_is m).round ∙ ap (λ (c : ℕ). Send bytes (ahead ranks c root) (low m.child)) (above_is m).child);
+        sent = λ m. rw (virtual (above m) (above_inside m)) (sends (above m) (low m.child) (above_inside m) (above_is_parent m).round ∙ ap (λ (c : ℕ). Send bytes (ahead ranks c root) (low m.child)) (above_is_parent m).child);
         received = λ m. rw (virtual m.child m.inside) (takes m.child m.some m.inside);
         cases = λ x in_rank inside. ⊎_elim (λ c. inl c) (λ c. inr (⊎_elim (λ a. inr a) (λ a. inl a) c)) (cases x in_rank inside);
         apart = λ m n source target tag. let same = same_child m n target in (same_parent_end m n same, same_child_end m n same);

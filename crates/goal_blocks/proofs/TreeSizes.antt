@@ -38,7 +38,7 @@ past_block v w over =
     go true = refl
     go false = refl
 
--- the virtual ranks of a block, among the first n
+-- a bound on how many of the first n virtual ranks are in a block
 block_sum : (v n : ℕ) → sum_below n (in_block v) ≤ min (2 ^ low v) (n - v)
 unfolding sum_below
 block_sum v zero = omega arith

@@ -11,7 +11,7 @@ use Rattle.goal_limits.specs.Limits.{rank_limit}
 use Rattle.goal_blocks.specs.Positions.{back, digits, low, rounds}
 use Rattle.goal_blocks.specs.Weight.{sum_below}
 use Rattle.goal_blocks.proofs.Fitting.{sum_by-map}
-use Rattle.goal_blocks.proofs.RingAndTree.{digits_low, digits_few}
+use Rattle.goal_blocks.proofs.RingAndTree.{power_below_digits_at_most, digits_few}
 
 range_more : (f : ℕ → ℕ) (n : ℕ) → sum_by f (range_with_len 0 (n + 1)) ≡ sum_by f (range_with_len 0 n) + f n
 range_more f n =
@@ -45,7 +45,7 @@ sum_below_add f a (suc b) =
     let more = sum_below_add f a b in
     rw e (omega (arith, more))
 
--- twice as many numbers, by pairs
+-- the sum of 2n numbers, in pairs
 sum_below_pairs : (f : ℕ → ℕ) (n : ℕ) → sum_below (n + n) f ≡ sum_below n (λ u. f (u + u) + f (u + u + 1))
 unfolding sum_below
 sum_below_pairs f zero = refl
@@ -65,7 +65,7 @@ unfolding sum_below
 sum_below_twice f zero = refl
 sum_below_twice f (suc n) = let more = sum_below_twice f n in omega (arith, more)
 
--- how often 2 divides v, up to a number of digits, and 0 for 0
+-- how often 2 divides v, at most k times, and 0 for v = 0
 halvings : ℕ → ℕ → ℕ
 halvings k v = if eqb v 0 then 0 else count_trailing_zeros k v
 
@@ -120,7 +120,7 @@ halvings_sum (suc j) (suc k) =
     let le = sum_below_le (λ u. halvings (suc k) (u + u) + halvings (suc k) (u + u + 1)) (λ u. suc (halvings k u)) (2 ^ j) (λ u l. omega (arith, halvings_even k u, halvings_odd k u)) in
     rw (e, sum_below_pairs (halvings (suc k)) (2 ^ j)) (omega (arith, rest, le, sum_below_suc (halvings k) (2 ^ j)))
 
--- the power of two of the lowest binary digit 1 of v, looking at so many digits, and 0 for 0
+-- the power of two of the lowest binary digit 1 of v among its first k digits, and 0 for v = 0
 unfoldable pub lowest_power : ℕ → ℕ → ℕ
 lowest_power k v = if eqb v 0 then 0 else 2 ^ count_trailing_zeros k v
 
@@ -146,7 +146,7 @@ lowest_power_zero : (k : ℕ) → lowest_power k 0 ≡ 0
 unfolding lowest_power
 lowest_power_zero k = refl
 
--- those of the numbers below 2^j are together at most half of j * 2^j
+-- the lowest powers of the numbers below 2^j add up to at most half of j * 2^j
 pub lowest_powers_sum : (j k : ℕ) → j ≤ k → 2 * sum_below (2 ^ j) (lowest_power k) ≤ j * 2 ^ j
 lowest_powers_sum zero k le = few
   where
@@ -182,10 +182,10 @@ module _ (ranks : ℕ) (few : ranks ≤ rank_limit) where
   pub child_below : (v j : ℕ) → v < ranks → j < rounds ranks v → v + 2 ^ j < ranks
   child_below zero j inside lt =
       let l : j < digits (ranks - 1) = rw rounds_zero at lt in
-      omega (arith, digits_low (ranks - 1) j (omega arith) l)
+      omega (arith, power_below_digits_at_most (ranks - 1) j (omega arith) l)
   child_below (suc w) j inside lt =
       let l : j < min (low (suc w)) (digits (ranks - 1 - suc w)) = rw (rounds_above (suc w) (omega arith)) at lt in
-      omega (arith, digits_low (ranks - 1 - suc w) j (omega arith) (omega arith), pow_pos j)
+      omega (arith, power_below_digits_at_most (ranks - 1 - suc w) j (omega arith) (omega arith), pow_pos j)
 
   rounds_halvings : (w : ℕ) → rounds ranks (1 + w) ≤ halvings 32 (1 + w)
   unfolding halvings low

@@ -60,11 +60,11 @@ pub get_of_each : (n item k : ℕ) (d : Contribution) → k < n → get_or (of_e
 unfolding of_each
 get_of_each n item k d l = get_or-map-range_with_len (λ (q : ℕ). item_of q item) 0 n k k d l (omega arith)
 
--- a value of that length that has at each place the contribution of the rank of that number
+-- a value of length n that has the contribution of rank k at each place k
 pub is_of_each : (v : Value) (n item : ℕ) (e : Contribution) → length v ≡ n → ((k : ℕ) → k < n → get_or v k e ≡ item_of k item) → v ≡ of_each n item
 is_of_each v n item e long each = same_lists v (of_each n item) (long ∙ sym (length_of_each n item)) (λ k d l. get_or_default v k d e l ∙ each k (omega (arith, l, long)) ∙ sym (get_of_each n item k d (omega (arith, l, long))))
 
--- and one that differs at a place
+-- a value that differs from it at a place
 pub not_of_each : (v : Value) (n item k : ℕ) (d : Contribution) → k < n → (get_or v k d ≡ item_of k item → ⊥) → v ≡ of_each n item → ⊥
 not_of_each v n item k d l ne e = ne (ap (λ (x : Value). get_or x k d) e ∙ get_of_each n item k d l)
 
@@ -99,39 +99,39 @@ pub lacks_one : (v : Value) (n q : ℕ) → q < n → has_one v (item_of q 0) �
 unfolding of_each
 lacks_one v n q l lacks = sym (one_item_fails (has_one v) 0 n q (omega arith) (omega (arith, l)) lacks)
 
-pub has_at : (v : Value) (k : ℕ) (c d : Contribution) → k < length v → get_or v k d ≡ c → has_one v c ≡ true
+pub has_one_if_at_place : (v : Value) (k : ℕ) (c d : Contribution) → k < length v → get_or v k d ≡ c → has_one v c ≡ true
 unfolding has_one
-has_at [] k c d l e = absurd (omega (arith, l))
-has_at (x ∷ v) zero c d l e = go (is_one c x) (subst (λ (y : Contribution). is_one c y ≡ true) (sym e) (is_one_reflexive c))
+has_one_if_at_place [] k c d l e = absurd (omega (arith, l))
+has_one_if_at_place (x ∷ v) zero c d l e = go (is_one c x) (subst (λ (y : Contribution). is_one c y ≡ true) (sym e) (is_one_reflexive c))
   where
     go : (b : Bool) → b ≡ true → (if b then true else has_one v c) ≡ true
     go true f = refl
     go false f = absurd (true≢false (sym f))
-has_at (x ∷ v) (suc k) c d l e = go (is_one c x) (has_at v k c d (omega (arith, l)) e)
+has_one_if_at_place (x ∷ v) (suc k) c d l e = go (is_one c x) (has_one_if_at_place v k c d (omega (arith, l)) e)
   where
     go : (b : Bool) → has_one v c ≡ true → (if b then true else has_one v c) ≡ true
     go true f = refl
     go false f = f
 
-pub has_not : (v : Value) (c d : Contribution) → ((k : ℕ) → k < length v → get_or v k d ≡ c → ⊥) → has_one v c ≡ false
+pub has_not_one_if_at_no_place : (v : Value) (c d : Contribution) → ((k : ℕ) → k < length v → get_or v k d ≡ c → ⊥) → has_one v c ≡ false
 unfolding has_one
-has_not [] c d none = refl
-has_not (x ∷ v) c d none = go (is_one c x) refl (has_not v c d (λ k l e. none (suc k) (omega (arith, l)) e))
+has_not_one_if_at_no_place [] c d none = refl
+has_not_one_if_at_no_place (x ∷ v) c d none = go (is_one c x) refl (has_not_one_if_at_no_place v c d (λ k l e. none (suc k) (omega (arith, l)) e))
   where
     go : (b : Bool) → is_one c x ≡ b → has_one v c ≡ false → (if b then true else has_one v c) ≡ false
     go true f rest = absurd (none zero (omega arith) (sym (is_one_means_equal c x f)))
     go false f rest = rest
 
-first_get : (c : Contribution) (v : Value) (k : ℕ) (d : Contribution) → ComesFirst c v → k < length v → is_lower (get_or v k d) c ≡ false
-first_get c [] k d h l = absurd (omega (arith, l))
-first_get c (x ∷ v) zero d h l = h.0
-first_get c (x ∷ v) (suc k) d h l = first_get c v k d h.1 (omega (arith, l))
+get_not_lower_than_first : (c : Contribution) (v : Value) (k : ℕ) (d : Contribution) → ComesFirst c v → k < length v → is_lower (get_or v k d) c ≡ false
+get_not_lower_than_first c [] k d h l = absurd (omega (arith, l))
+get_not_lower_than_first c (x ∷ v) zero d h l = h.0
+get_not_lower_than_first c (x ∷ v) (suc k) d h l = get_not_lower_than_first c v k d h.1 (omega (arith, l))
 
 -- of two places of a sorted value, the later is not lower
 pub in_order : (v : Value) (j k : ℕ) (d : Contribution) → IsSorted v → j < k → k < length v → is_lower (get_or v k d) (get_or v j d) ≡ false
 in_order [] j k d s b l = absurd (omega (arith, l))
 in_order (x ∷ v) j zero d s b l = absurd (omega (arith, b))
-in_order (x ∷ v) zero (suc k) d s b l = first_get x v k d s.0 (omega (arith, l))
+in_order (x ∷ v) zero (suc k) d s b l = get_not_lower_than_first x v k d s.0 (omega (arith, l))
 in_order (x ∷ v) (suc j) (suc k) d s b l = in_order v j k d s.1 (omega (arith, b)) (omega (arith, l))
 
 lower_next : (q : ℕ) → is_lower (item_of q 0) (item_of (q + 1) 0) ≡ true
@@ -141,7 +141,7 @@ lower_next q = go (nat_lt q (q + 1)) (lt-ltb q (q + 1) (omega arith))
     go true h = refl
     go false h = absurd (true≢false (sym h))
 
--- in a sorted value, what comes no later than the first contribution of a rank is not that of the next one
+-- in a sorted value, the contribution of rank q + 1 is not at or before a place of that of rank q
 pub next_is_later : (v : Value) (j k q : ℕ) (d : Contribution) → IsSorted v → j ≤ k → k < length v → get_or v k d ≡ item_of q 0 → get_or v j d ≡ item_of (q + 1) 0 → ⊥
 next_is_later v j k q d s b l e f = ⊎_elim same earlier (cases_eq j k)
   where
@@ -156,7 +156,7 @@ next_is_later v j k q d s b l e f = ⊎_elim same earlier (cases_eq j k)
         let told : is_lower (item_of q 0) (item_of (q + 1) 0) ≡ false = subst (λ (c : Contribution). is_lower c (item_of (q + 1) 0) ≡ false) e (subst (λ (c : Contribution). is_lower (get_or v k d) c ≡ false) f order) in
         true≢false (sym (lower_next q) ∙ told)
 
--- beyond the ranks nothing is asked
+-- nothing is wanted of ranks that do not exist
 pub wanted_past : (what : Collective) (ranks r k : ℕ) (v : Value) → ranks ≤ r → wanted what ranks r k v ≡ true
 unfolding wanted
 wanted_past what ranks r k v l = go (nat_lt r ranks) (le-ltb r ranks l)
@@ -165,12 +165,12 @@ wanted_past what ranks r k v l = go (nat_lt r ranks) (le-ltb r ranks l)
     go true e = absurd (true≢false e)
     go false e = refl
 
--- a rank that was found
-pub found_more : (v : Value) (next : ℕ) (i : ℕ) (c : Contribution) → i < length v → c ≡ get_or v i (item_of 0 0) → c.rank ≡ next → c.item ≡ 0 → ((q : ℕ) → q < next → has_one v (item_of q 0) ≡ true) → (q : ℕ) → q < next + 1 → has_one v (item_of q 0) ≡ true
-found_more v next i c l is rank item found q b = ⊎_elim here (λ ne. found q (omega (arith, b, ne))) (cases_eq q next)
+-- when `next` is found too, all ranks below next + 1 are found
+pub found_up_to_next_rank : (v : Value) (next : ℕ) (i : ℕ) (c : Contribution) → i < length v → c ≡ get_or v i (item_of 0 0) → c.rank ≡ next → c.item ≡ 0 → ((q : ℕ) → q < next → has_one v (item_of q 0) ≡ true) → (q : ℕ) → q < next + 1 → has_one v (item_of q 0) ≡ true
+found_up_to_next_rank v next i c l is rank item found q b = ⊎_elim here (λ ne. found q (omega (arith, b, ne))) (cases_eq q next)
   where
     here : q ≡ next → has_one v (item_of q 0) ≡ true
-    here e = has_at v i (item_of q 0) (item_of 0 0) l (sym is ∙ (λ j. record { rank = (rank ∙ sym e) j; item = item j }))
+    here e = has_one_if_at_place v i (item_of q 0) (item_of 0 0) l (sym is ∙ (λ j. record { rank = (rank ∙ sym e) j; item = item j }))
 
 pub place_of : (c : Contribution) (q : ℕ) → c.rank ≡ q → c.item ≡ 0 → c ≡ item_of q 0
 place_of c q rank item = λ j. record { rank = rank j; item = item j }

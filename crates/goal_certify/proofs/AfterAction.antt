@@ -1,4 +1,4 @@
--- What is kept of each operation after one more action.
+-- The progress entry of each operation after another action.
 use Rattle.std.proofs.Common.{◌≡◌, ◌==◌, ◌⊎◌, true, false, List, ◌∷◌, map, filter, Option, Some, None, inl, inr, refl, sym, ap, ◌∙◌, subst}
 use Rattle.std.specs.Option.{option_map}
 use Rattle.std.proofs.lemmas.Bool.{and_left, and_right, false_from_ne_true}
@@ -10,7 +10,7 @@ use Rattle.goal_graph.specs.Action.{Act, place, same_op, happened}
 use Rattle.goal_graph.specs.Matching.{Pair, partner, new_pair, add_pair, pairs}
 use Rattle.goal_graph.specs.Fault.{IsOp}
 use Rattle.goal_graph.specs.Interleaving.{IsInterleaving}
-use Rattle.goal_graph.proofs.ForCallers.{cases_op, happened_new, happened_unless_newest, is_act_from, same_op_true, not_send_receive, fits_receive, fits_send, new_pair_is, pairs_same, partner_other, IsListed, listed_partners, send_is_op, receive_is_op, same_tables, with_entry_same, with_entry_other, entry_written, same_op_swapped}
+use Rattle.goal_graph.proofs.ForCallers.{same_or_different_op, happened_new, happened_unless_newest, is_act_from, same_op_true, not_send_receive, fits_receive, fits_send, new_pair_is_of_action, pairs_unchanged_without_new_pair, partner_of_others_unchanged, IsListed, listed_partners, send_is_op, receive_is_op, same_tables, with_entry_same, with_entry_other, entry_written, same_op_swapped}
 use Rattle.goal_blocks.specs.Walk.{no_send}
 use Rattle.sim_match.specs.PostsAndArrivals.{is_post_or_arrival}
 use Rattle.sim_match.proofs.ForCallers.{send_for_filtered, receive_for_filtered}
@@ -18,8 +18,8 @@ use Rattle.goal_certify.specs.declared.walk.entry.OpProgress.{OpProgress}
 use Rattle.goal_certify.specs.WalkSoFar.{with_class, with_entry, with_pairing, with_partner, met, entry_known}
 
 -- an entry is written, and two entries get their partners
-pair_written : (y m : OpId) (e : OpProgress) (f g : OpId → OpProgress) → same_op y m ≡ false → g y ≡ record e { paired = Some m } → g m ≡ record (f m) { paired = Some y } → ((x : OpId) → same_op y x ≡ false → same_op m x ≡ false → g x ≡ f x) → (x : OpId) → with_pairing m y (with_pairing y m (with_entry y e f)) x ≡ g x
-pair_written y m e f g differ here there others = entry_written m _ first g second rest
+entries_after_pairing : (y m : OpId) (e : OpProgress) (f g : OpId → OpProgress) → same_op y m ≡ false → g y ≡ record e { paired = Some m } → g m ≡ record (f m) { paired = Some y } → ((x : OpId) → same_op y x ≡ false → same_op m x ≡ false → g x ≡ f x) → (x : OpId) → with_pairing m y (with_pairing y m (with_entry y e f)) x ≡ g x
+entries_after_pairing y m e f g differ here there others = entry_written m _ first g second rest
   where
     base : OpId → OpProgress
     base = with_entry y e f
@@ -33,15 +33,15 @@ pair_written y m e f g differ here there others = entry_written m _ first g seco
 
     rest : (x : OpId) → same_op m x ≡ false → g x ≡ first x
     rest x d =
-        elim (cases_op x y) [ inl s ↦ ap g s ∙ here ∙ ap (λ (d : OpProgress). record d { paired = Some m }) (sym (with_entry_same y e f y refl)) ∙ sym (with_entry_same y _ base x s) | inr o ↦ others x (same_op_swapped x y o) d ∙ sym (with_entry_other y _ base x o ∙ with_entry_other y e f x o) ]
+        elim (same_or_different_op x y) [ inl s ↦ ap g s ∙ here ∙ ap (λ (d : OpProgress). record d { paired = Some m }) (sym (with_entry_same y e f y refl)) ∙ sym (with_entry_same y _ base x s) | inr o ↦ others x (same_op_swapped x y o) d ∙ sym (with_entry_other y _ base x o ∙ with_entry_other y e f x o) ]
 
 -- what is known of the partner is what was known
-same_paired : (c : Class) (e : OpProgress) → record (with_class c e) { paired = e.paired } ≡ with_class c e
-same_paired Arrive e = refl
-same_paired Serve e = refl
-same_paired Data e = refl
-same_paired Post e = refl
-same_paired Begin e = refl
+with_class_keeps_partner : (c : Class) (e : OpProgress) → record (with_class c e) { paired = e.paired } ≡ with_class c e
+with_class_keeps_partner Arrive e = refl
+with_class_keeps_partner Serve e = refl
+with_class_keeps_partner Data e = refl
+with_class_keeps_partner Post e = refl
+with_class_keeps_partner Begin e = refl
 
 module _ (plans : List Plan) (h : List Act) (a : Act) where
   -- the pair that the action makes
@@ -72,7 +72,7 @@ module _ (plans : List Plan) (h : List Act) (a : Act) where
 
     send_met : (p : Pair) → pair_made ≡ Some p → IsMet p.send p.recv
     send_met p e =
-        let new = new_pair_is plans a h p e in
+        let new = new_pair_is_of_action plans a h p e in
         let both = listed_partners plans no_send (a ∷ h) p now (listed_first p e) in
         let receive = fits_receive plans p.recv p.send new.met.fit in
         record {
@@ -80,7 +80,7 @@ module _ (plans : List Plan) (h : List Act) (a : Act) where
           exists = receive_is_op plans p.recv receive;
           this = both.0;
           that = both.1;
-          others = λ y s r. partner_other plans p a h y e s r;
+          others = λ y s r. partner_of_others_unchanged plans p a h y e s r;
         }
 
     receive_met : (p : Pair) → pair_made ≡ Some p → IsMet p.recv p.send
@@ -88,7 +88,7 @@ module _ (plans : List Plan) (h : List Act) (a : Act) where
         let met = send_met p e in
         record {
           apart = same_op_swapped p.send p.recv met.apart;
-          exists = send_is_op plans p.send (fits_send plans p.recv p.send (new_pair_is plans a h p e).met.fit);
+          exists = send_is_op plans p.send (fits_send plans p.recv p.send (new_pair_is_of_action plans a h p e).met.fit);
           this = met.that;
           that = met.this;
           others = λ y r s. met.others y s r;
@@ -97,11 +97,11 @@ module _ (plans : List Plan) (h : List Act) (a : Act) where
     -- the pair of a Post has its receive, the pair of an Arrive its send
     made_by : (p : Pair) → pair_made ≡ Some p → ((a.class ≡ Arrive) × (a.op ≡ p.send)) ⊎ ((a.class ≡ Post) × (a.op ≡ p.recv))
     made_by p e =
-        elim (new_pair_is plans a h p e).by [ inl (f, free) ↦ inl (ap (λ (b : Act). b.class) f, ap (λ (b : Act). b.op) f) | inr (f, free) ↦ inr (ap (λ (b : Act). b.class) f, ap (λ (b : Act). b.op) f) ]
+        elim (new_pair_is_of_action plans a h p e).by [ inl (f, free) ↦ inl (ap (λ (b : Act). b.class) f, ap (λ (b : Act). b.op) f) | inr (f, free) ↦ inr (ap (λ (b : Act). b.class) f, ap (λ (b : Act). b.op) f) ]
 
     none_made : pair_made ≡ None → (o : Option OpId) → o ≡ None → AfterMet o
     none_made e o f =
-        subst AfterMet (sym f) (λ (x : OpId). ap (λ (ps : List Pair). partner ps x) (pairs_same plans a h e))
+        subst AfterMet (sym f) (λ (x : OpId). ap (λ (ps : List Pair). partner ps x) (pairs_unchanged_without_new_pair plans a h e))
 
     arrived : a.class ≡ Arrive → (o : Option OpId) → (q : Option Pair) → pair_made ≡ q → o ≡ option_map (λ (p : Pair). p.recv) q → AfterMet o
     arrived c o None s f = none_made s o f
@@ -172,19 +172,19 @@ module _ (plans : List Plan) (h : List Act) (a : Act) where
           λ i. record { arrived = old Begin Arrive e refl i; served = old Begin Serve e refl i; sent = old Begin Data e refl i; posted = old Begin Post e refl i; begun = new Begin e i; paired = m i }
 
   -- the entries after the action
-  pub written_known : (o : Option OpId) → AfterMet o → (x : OpId) → with_partner a.op o (with_entry a.op (with_class a.class (before a.op)) before) x ≡ after x
-  written_known None same x =
-      entry_written a.op _ before after (this_entry _ (same a.op) ∙ same_paired a.class (before a.op)) (λ y d. other_entry y _ d (same y)) x
-  written_known (Some m) is x =
-      pair_written a.op m _ before after is.apart (this_entry (Some m) is.this) (other_entry m (Some a.op) is.apart is.that) (λ y d f. other_entry y _ d (is.others y d f)) x
+  pub written_entry_is_entry_after : (o : Option OpId) → AfterMet o → (x : OpId) → with_partner a.op o (with_entry a.op (with_class a.class (before a.op)) before) x ≡ after x
+  written_entry_is_entry_after None same x =
+      entry_written a.op _ before after (this_entry _ (same a.op) ∙ with_class_keeps_partner a.class (before a.op)) (λ y d. other_entry y _ d (same y)) x
+  written_entry_is_entry_after (Some m) is x =
+      entries_after_pairing a.op m _ before after is.apart (this_entry (Some m) is.this) (other_entry m (Some a.op) is.apart is.that) (λ y d f. other_entry y _ d (is.others y d f)) x
 
-  pub table_known : (o : Option OpId) → AfterMet o → map (with_partner a.op o (with_entry a.op (with_class a.class (before a.op)) before)) (operations plans) ≡ map after (operations plans)
-  table_known o is = same_tables _ _ (operations plans) (λ i x s. written_known o is x)
+  pub written_table_is_table_after : (o : Option OpId) → AfterMet o → map (with_partner a.op o (with_entry a.op (with_class a.class (before a.op)) before)) (operations plans) ≡ map after (operations plans)
+  written_table_is_table_after o is = same_tables _ _ (operations plans) (λ i x s. written_entry_is_entry_after o is x)
 
   -- the partner exists
-  pub partner_there : (o : Option OpId) → AfterMet o → (m : OpId) → o ≡ Some m → IsOp plans m
-  partner_there None same m e = absurd (cc)
-  partner_there (Some n) is m e = subst (λ (p : OpId). IsOp plans p) (same_some e) is.exists
+  pub met_partner_exists : (o : Option OpId) → AfterMet o → (m : OpId) → o ≡ Some m → IsOp plans m
+  met_partner_exists None same m e = absurd (cc)
+  met_partner_exists (Some n) is m e = subst (λ (p : OpId). IsOp plans p) (same_some e) is.exists
     where
       same_some : Some n ≡ Some m → n ≡ m
       same_some f = cc

@@ -20,19 +20,19 @@ use Rattle.goal_certify.specs.AtOnce.{IsCertifiedApart, IsFaultApart}
 use Rattle.goal_certify.specs.Left.{IsLeft}
 
 -- a value is nothing where it has no contribution
-pub nothing_is : (v : Value) → is_value v [] ≡ not (nat_lt 0 (length v))
+pub is_empty_value_iff_length_zero : (v : Value) → is_value v [] ≡ not (nat_lt 0 (length v))
 unfolding is_value
-nothing_is [] = refl
-nothing_is (c ∷ v) = sym (ap not (lt-ltb 0 (length (c ∷ v)) (omega arith)))
+is_empty_value_iff_length_zero [] = refl
+is_empty_value_iff_length_zero (c ∷ v) = sym (ap not (lt-ltb 0 (length (c ∷ v)) (omega arith)))
 
 not_not : (b : Bool) → not (not b) ≡ b
 not_not true = refl
 not_not false = refl
 
 -- a slot of one of the blocks, but not of this one, may hold nothing
-pub stray_is : (width count block rank slot size : ℕ) (v : Value) → size ≡ length v → slot < count * width → (slot < block * width) ⊎ (block * width + width ≤ slot) → nat_lt 0 size ≡ not (keeps_out width count block rank slot v)
-stray_is width count block rank slot size v same inside out =
-    ap (λ (n : ℕ). nat_lt 0 n) same ∙ (sym (not_not (nat_lt 0 (length v))) ∙ ap not (sym (ap (λ (b : Bool). if b then is_value v [] else true) (⊎_elim before after out) ∙ nothing_is v)))
+pub nonempty_iff_not_keeps_out : (width count block rank slot size : ℕ) (v : Value) → size ≡ length v → slot < count * width → (slot < block * width) ⊎ (block * width + width ≤ slot) → nat_lt 0 size ≡ not (keeps_out width count block rank slot v)
+nonempty_iff_not_keeps_out width count block rank slot size v same inside out =
+    ap (λ (n : ℕ). nat_lt 0 n) same ∙ (sym (not_not (nat_lt 0 (length v))) ∙ ap not (sym (ap (λ (b : Bool). if b then is_value v [] else true) (⊎_elim before after out) ∙ is_empty_value_iff_length_zero v)))
   where
     within : nat_lt slot (count * width) ≡ true
     within = lt-ltb slot (count * width) inside
@@ -56,23 +56,23 @@ module _ (plans : List Plan) (what : Collective) (width count block : ℕ) (excl
   abbrev wish : ℕ → ℕ → Value → Bool
   wish = keeps_out width count block
 
-  -- no fault but a wrong slot, for which what is wanted matters not
-  no_other : (other : CertFault) → fault_place other < 8 → HasFault plans first wish other → ⊥
-  no_other (TooLarge rank) less has = excludes plans first (wanted_in what width block (length plans)) (TooLarge rank) has good
-  no_other (Wildcard op) less has = excludes plans first (wanted_in what width block (length plans)) (Wildcard op) has good
-  no_other (DoubleChannel y x) less has = excludes plans first (wanted_in what width block (length plans)) (DoubleChannel y x) has good
-  no_other (Unpaired op) less has = excludes plans first (wanted_in what width block (length plans)) (Unpaired op) has good
-  no_other (Lengths m x) less has = excludes plans first (wanted_in what width block (length plans)) (Lengths m x) has good
-  no_other (Race rank lower higher slot) less has = excludes plans first (wanted_in what width block (length plans)) (Race rank lower higher slot) has good
-  no_other (Stalls op) less has = excludes plans first (wanted_in what width block (length plans)) (Stalls op) has good
-  no_other (Weight total) less has = excludes plans first (wanted_in what width block (length plans)) (Weight total) has good
-  no_other (Wrong rank slot) less has = absurd (omega (arith, less))
-  no_other NoMemory less has = has
+  -- a certified block has no fault before the wrong slots, whatever values are wanted
+  certified_has_no_fault_before_wrong : (other : CertFault) → fault_place other < 8 → HasFault plans first wish other → ⊥
+  certified_has_no_fault_before_wrong (TooLarge rank) less has = excludes plans first (wanted_in what width block (length plans)) (TooLarge rank) has good
+  certified_has_no_fault_before_wrong (Wildcard op) less has = excludes plans first (wanted_in what width block (length plans)) (Wildcard op) has good
+  certified_has_no_fault_before_wrong (DoubleChannel y x) less has = excludes plans first (wanted_in what width block (length plans)) (DoubleChannel y x) has good
+  certified_has_no_fault_before_wrong (Unpaired op) less has = excludes plans first (wanted_in what width block (length plans)) (Unpaired op) has good
+  certified_has_no_fault_before_wrong (Lengths m x) less has = excludes plans first (wanted_in what width block (length plans)) (Lengths m x) has good
+  certified_has_no_fault_before_wrong (Race rank lower higher slot) less has = excludes plans first (wanted_in what width block (length plans)) (Race rank lower higher slot) has good
+  certified_has_no_fault_before_wrong (Stalls op) less has = excludes plans first (wanted_in what width block (length plans)) (Stalls op) has good
+  certified_has_no_fault_before_wrong (Weight total) less has = excludes plans first (wanted_in what width block (length plans)) (Weight total) has good
+  certified_has_no_fault_before_wrong (Wrong rank slot) less has = absurd (omega (arith, less))
+  certified_has_no_fault_before_wrong NoMemory less has = has
 
-  -- so what stops the walk is want of memory
-  pub only_memory : (fault : CertFault) → (fault ≡ NoMemory) ⊎ ((wanted : ℕ → ℕ → Value → Bool) → IsFirstOf plans first wanted 7 9 fault) → fault ≡ NoMemory
-  only_memory fault (inl e) = e
-  only_memory fault (inr is) =
+  -- so only running out of memory stops the walk
+  pub certified_fault_is_no_memory : (fault : CertFault) → (fault ≡ NoMemory) ⊎ ((wanted : ℕ → ℕ → Value → Bool) → IsFirstOf plans first wanted 7 9 fault) → fault ≡ NoMemory
+  certified_fault_is_no_memory fault (inl e) = e
+  certified_fault_is_no_memory fault (inr is) =
       absurd (excludes plans first (wanted_in what width block (length plans)) fault (is (wanted_in what width block (length plans))).has good)
 
   module _ (s : Kept) (left : IsLeft plans first s) where
@@ -92,7 +92,7 @@ module _ (plans : List Plan) (what : Collective) (width count block : ℕ) (excl
     }
 
     pub least_stray : (rank slot : ℕ) → IsLeast slot_key (λ (a : SlotAt). (a.rank < length plans) × (wish a.rank a.slot (values s a.rank a.slot) ≡ false)) (record { rank = rank; slot = slot }) → IsFaultApart what width count block plans (Wrong rank slot)
-    least_stray rank slot least = record { has = has; none_before = λ other less fault. no_other other less fault }
+    least_stray rank slot least = record { has = has; none_before = λ other less fault. certified_has_no_fault_before_wrong other less fault }
       where
         has : IsLeast slot_key (IsWrong plans first wish) (record { rank = rank; slot = slot })
         has = record {

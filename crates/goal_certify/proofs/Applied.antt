@@ -31,9 +31,9 @@ use Rattle.goal_certify.proofs.Places.{allowed_exists}
 use Rattle.goal_certify.proofs.Carrying.{parcel_within, store_post, receive_adds, parcel_there, sum_taken, carrying_taken, held_before, carrying_calc, calc_over, carrying_same, carrying_handed, handed_over, store_send, send_adds}
 
 -- of answers
-pub both_ok : {T E : Type 0} (P Q R : Type 0) (r : Result T E) → (P → Q → R) → OnOk r P → OnOk r Q → OnOk r R
-both_ok P Q R (Ok x) f p q = f p q
-both_ok P Q R (Err e) f p q = tt
+pub on_ok_combined : {T E : Type 0} (P Q R : Type 0) (r : Result T E) → (P → Q → R) → OnOk r P → OnOk r Q → OnOk r R
+on_ok_combined P Q R (Ok x) f p q = f p q
+on_ok_combined P Q R (Err e) f p q = tt
 
 pub err_map : {T E : Type 0} (P Q : E → Type 0) (r : Result T E) → ((e : E) → P e → Q e) → IfErr r P → IfErr r Q
 err_map P Q (Ok x) f p = tt
@@ -47,8 +47,8 @@ module _ (plans : List Plan) (hist : List Act) (a : Act) (newest : hist ≡ a �
   pub now : IsInterleaving plans no_send (a ∷ drop 1 hist)
   now = subst (λ (l : List Act). IsInterleaving plans no_send l) newest each
 
-  pub op_there : IsOp plans a.op
-  op_there = allowed_exists plans (drop 1 hist) a.class a.op now.1
+  pub op_of_newest_exists : IsOp plans a.op
+  op_of_newest_exists = allowed_exists plans (drop 1 hist) a.class a.op now.1
 
   pub slot_there : (j : ℕ) × (slice_get (operations plans) j ≡ Some a.op)
   slot_there =

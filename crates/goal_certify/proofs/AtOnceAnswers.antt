@@ -14,14 +14,14 @@ use Rattle.goal_certify.specs.declared.at_once.AtOnceFault.TheVariants.{Narrow, 
 use Rattle.goal_certify.specs.AtOnce.{IsCertifiedApart, IsFaultApart, AreCertifiedAtOnce, AreRightAtOnce, IsStray, IsAtOnceFault, IsOutOfMemory}
 use Rattle.goal_certify.proofs.SegmentAnswers.{excluded, one_found}
 
--- what is certified in each block, and keeps out of the others, is right at once
+-- segments that are certified in their blocks and keep out of the other blocks are right at once
 pub right_at_once : SegmentsAtOnce → (what : Collective) (width count : ℕ) (plans : List Plan) → ((block : ℕ) → block < count → IsCertifiedIn what width block plans) → ((block : ℕ) → block < count → IsCertifiedApart what width count block plans) → AreRightAtOnce what width count plans
 right_at_once law what width count plans each apart eager h done block low =
     let is = law what width count plans eager h each apart done block low in
     record { ends = is.0; wanted_held = is.1; own = is.2 }
 
 module _ (what : Collective) (width count : ℕ) (plans : List Plan) where
-  -- one more segment keeps out of the blocks of others
+  -- the segments up to the next one keep out of the blocks of others
   pub more_apart : (block : ℕ) → ((k : ℕ) → k < block → IsCertifiedApart what width count k plans) → IsCertifiedApart what width count block plans → (k : ℕ) → k < block + 1 → IsCertifiedApart what width count k plans
   more_apart block before this k low =
       ⊎_elim (λ e. subst (λ (b : ℕ). IsCertifiedApart what width count b plans) (sym e) this) (λ ne. before k (omega (arith, low, ne))) (cases_eq k block)

@@ -1,4 +1,4 @@
--- What is under way after one more action.
+-- What is under way after another action.
 use Rattle.std.proofs.Common.{◌≡◌, ◌≢◌, ◌==◌, ◌&&◌, ◌+◌, ◌⊎◌, ℕ, Bool, true, false, not, if◌then◌else◌, List, [], ◌∷◌, map, set, length, Option, Some, None, slice_get, inl, inr, refl, sym, ap, ap₂, ◌∙◌, subst}
 use Rattle.std.specs.List.{sum_by}
 use Rattle.std.proofs.lemmas.Bool.{cases_Bool, cond-true, cond-false, and_left, both_ways, false_from_ne_true}
@@ -15,31 +15,31 @@ use Rattle.goal_graph.specs.Allowed.{is_served, allowed}
 use Rattle.std.proofs.lemmas.List.Sums.{sum_by-cons}
 use Rattle.std.proofs.lemmas.List.{length-map}
 use Rattle.goal_graph.specs.Interleaving.{IsInterleaving}
-use Rattle.goal_graph.proofs.ForCallers.{cases_some, happened_newest, happened_unless_newest, is_act_class, is_act_op, same_op_true, same_op_itself, same_op_from, happened_none, partner_stays, partners_mutual, data_paired, served_message, allowed_data, allowed_serve, allowed_fresh, same_tables, written_table, other_place}
+use Rattle.goal_graph.proofs.ForCallers.{value_of_is_some, happened_newest, happened_unless_newest, is_act_class, is_act_op, same_op_true, same_op_itself, same_op_from, happened_none, partner_stays, partners_mutual, data_paired, served_message, allowed_data, allowed_serve, allowed_fresh, same_tables, written_table, operations_at_two_places_differ}
 use Rattle.goal_blocks.specs.Walk.{no_send}
 use Rattle.goal_blocks.specs.Slots.{slots}
 use Rattle.goal_blocks.specs.Values.{Value, Store, Held, change, read, held_after}
 use Rattle.goal_blocks.specs.Weight.{carried, has_received, is_under_way}
 use Rattle.goal_certify.specs.Carried.{ParcelValues, parcel_size, parcel_of, parcel_under_way}
 
--- what a send has read stays, but at its Data
-payload_same : (plans : List Plan) (o : Option OpId) (c : Class) (x m : OpId) (k : Option Kind) (held : Held) → ((place c == 2) ≡ false) ⊎ (same_op m x ≡ false) → (change plans no_send o c x k held).payload m ≡ held.payload m
+-- what a send has read stays, except at its Data
+payload_kept_unless_handed_over : (plans : List Plan) (o : Option OpId) (c : Class) (x m : OpId) (k : Option Kind) (held : Held) → ((place c == 2) ≡ false) ⊎ (same_op m x ≡ false) → (change plans no_send o c x k held).payload m ≡ held.payload m
 unfolding read
-payload_same plans o Data x m (Some (Send bytes to tag)) held (inl f) = absurd (both_ways _ f refl)
-payload_same plans o Data x m (Some (Send bytes to tag)) held (inr f) = cond-false (same_op m x) _ _ f
-payload_same plans o Data x m (Some (Calc nanos)) held d = refl
-payload_same plans o Data x m (Some (Recv room from tag)) held d = refl
-payload_same plans o Data x m None held d = refl
-payload_same plans o Begin x m (Some (Send bytes to tag)) held d = refl
-payload_same plans o Begin x m (Some (Calc nanos)) held d = refl
-payload_same plans o Begin x m (Some (Recv room from tag)) held d = refl
-payload_same plans o Begin x m None held d = refl
-payload_same plans o Serve x m (Some (Send bytes to tag)) held d = refl
-payload_same plans o Serve x m (Some (Calc nanos)) held d = refl
-payload_same plans o Serve x m (Some (Recv room from tag)) held d = refl
-payload_same plans o Serve x m None held d = refl
-payload_same plans o Post x m k held d = refl
-payload_same plans o Arrive x m k held d = refl
+payload_kept_unless_handed_over plans o Data x m (Some (Send bytes to tag)) held (inl f) = absurd (both_ways _ f refl)
+payload_kept_unless_handed_over plans o Data x m (Some (Send bytes to tag)) held (inr f) = cond-false (same_op m x) _ _ f
+payload_kept_unless_handed_over plans o Data x m (Some (Calc nanos)) held d = refl
+payload_kept_unless_handed_over plans o Data x m (Some (Recv room from tag)) held d = refl
+payload_kept_unless_handed_over plans o Data x m None held d = refl
+payload_kept_unless_handed_over plans o Begin x m (Some (Send bytes to tag)) held d = refl
+payload_kept_unless_handed_over plans o Begin x m (Some (Calc nanos)) held d = refl
+payload_kept_unless_handed_over plans o Begin x m (Some (Recv room from tag)) held d = refl
+payload_kept_unless_handed_over plans o Begin x m None held d = refl
+payload_kept_unless_handed_over plans o Serve x m (Some (Send bytes to tag)) held d = refl
+payload_kept_unless_handed_over plans o Serve x m (Some (Calc nanos)) held d = refl
+payload_kept_unless_handed_over plans o Serve x m (Some (Recv room from tag)) held d = refl
+payload_kept_unless_handed_over plans o Serve x m None held d = refl
+payload_kept_unless_handed_over plans o Post x m k held d = refl
+payload_kept_unless_handed_over plans o Arrive x m k held d = refl
 
 -- how many contributions all parcels have
 sum_of_tables : {X Y : Type 0} (f : X → ℕ) (p : Y → ℕ) (g : X → Y) (xs : List X) → ((x : X) → f x ≡ p (g x)) → sum_by f xs ≡ sum_by p (map g xs)
@@ -71,7 +71,7 @@ module _ (plans : List Plan) (first : Store) (h : List Act) (a : Act) (now : IsI
 
   payload_before : (m : OpId) → ((place a.class == 2) ≡ false) ⊎ (same_op m a.op ≡ false) → after.payload m ≡ before.payload m
   unfolding held_after
-  payload_before m d = payload_same plans _ a.class a.op m _ before d
+  payload_before m d = payload_kept_unless_handed_over plans _ a.class a.op m _ before d
 
   received_same : (x : OpId) → is_act Serve x a ≡ false → happened Serve x (a ∷ h) ≡ happened Serve x h
   received_same x d = happened_unless_newest Serve x a h d
@@ -87,23 +87,23 @@ module _ (plans : List Plan) (first : Store) (h : List Act) (a : Act) (now : IsI
       go (inr f) =
           ap (λ b. b && not (has_received (a ∷ h) (partner (pairs plans (a ∷ h)) m))) (data_same ∙ f) ∙ sym (ap (λ b. b && not (has_received h (partner (pairs plans h) m))) f)
       go (inl t) =
-          let x = cases_some (partner (pairs plans h) m) (data_paired plans no_send h m now.0 t) in
+          let x = value_of_is_some (partner (pairs plans h) m) (data_paired plans no_send h m now.0 t) in
           let stays = partner_stays plans a h m x.0 x.1 in
           let received_then : has_received (a ∷ h) (partner (pairs plans (a ∷ h)) m) ≡ happened Serve x.0 (a ∷ h) = ap (has_received (a ∷ h)) stays in
           let was : has_received h (partner (pairs plans h) m) ≡ happened Serve x.0 h = ap (has_received h) x.1 in
           ap₂ (λ b c. b && not c) data_same (received_then ∙ received_same x.0 (s x.0 x.1) ∙ sym was)
 
-  kept_same : (m : OpId) → is_act Data m a ≡ false → ((place a.class == 2) ≡ false) ⊎ (same_op m a.op ≡ false) → ((x : OpId) → partner (pairs plans h) m ≡ Some x → is_act Serve x a ≡ false) → kept_after m ≡ kept_before m
-  kept_same m d p s =
+  parcel_stays : (m : OpId) → is_act Data m a ≡ false → ((place a.class == 2) ≡ false) ⊎ (same_op m a.op ≡ false) → ((x : OpId) → partner (pairs plans h) m ≡ Some x → is_act Serve x a ≡ false) → kept_after m ≡ kept_before m
+  parcel_stays m d p s =
       ap₂ (λ b vs. if b then Some (parcel_of vs) else None) (under_same m d s) (payload_before m p)
 
   not_class : (c : Class) (x : OpId) → (place a.class == place c) ≡ false → is_act c x a ≡ false
   not_class c x e = and_left (place a.class == place c) (same_op a.op x) e
 
   -- any other action changes nothing
-  pub kept_others : (place a.class == 2) ≡ false → (place a.class == 1) ≡ false → map kept_after (operations plans) ≡ map kept_before (operations plans)
-  kept_others d s =
-      same_tables _ _ (operations plans) (λ i m e. kept_same m (not_class Data m d) (inl d) (λ x p. not_class Serve x s))
+  pub parcels_stay_unless_data_or_serve : (place a.class == 2) ≡ false → (place a.class == 1) ≡ false → map kept_after (operations plans) ≡ map kept_before (operations plans)
+  parcels_stay_unless_data_or_serve d s =
+      same_tables _ _ (operations plans) (λ i m e. parcel_stays m (not_class Data m d) (inl d) (λ x p. not_class Serve x s))
 
   -- a send hands over its values
   module _ (class : a.class ≡ Data) where
@@ -116,7 +116,7 @@ module _ (plans : List Plan) (first : Store) (h : List Act) (a : Act) (now : IsI
 
     data_pair : (x : OpId) × (partner (pairs plans h) a.op ≡ Some x)
     data_pair =
-        cases_some (partner (pairs plans h) a.op) (allowed_data plans no_send h a.op (subst (λ (c : Class). allowed plans no_send h c a.op ≡ true) class now.1)).2
+        value_of_is_some (partner (pairs plans h) a.op) (allowed_data plans no_send h a.op (subst (λ (c : Class). allowed plans no_send h c a.op ≡ true) class now.1)).2
 
     not_served : (place a.class == 1) ≡ false
     not_served = ap (λ (c : Class). place c == 1) class
@@ -154,13 +154,13 @@ module _ (plans : List Plan) (first : Store) (h : List Act) (a : Act) (now : IsI
 
     pub kept_handed : (j : ℕ) → slice_get (operations plans) j ≡ Some a.op → set (map kept_before (operations plans)) j (kept_after a.op) ≡ map kept_after (operations plans)
     kept_handed j e =
-        written_table kept_before kept_after (operations plans) j a.op e (λ i m s d. sym (others m (other_place plans i j m a.op s e d)))
+        written_table kept_before kept_after (operations plans) j a.op e (λ i m s d. sym (others m (operations_at_two_places_differ plans i j m a.op s e d)))
       where
         others : (m : OpId) → m ≢ a.op → kept_after m ≡ kept_before m
         others m n =
             let apart : same_op m a.op ≡ false = false_from_ne_true _ (λ t. n (same_op_true m a.op t)) in
             let not_act : is_act Data m a ≡ false = false_from_ne_true _ (λ t. n (sym (is_act_op Data m a t))) in
-            kept_same m not_act (inr apart) (λ x p. not_class Serve x not_served)
+            parcel_stays m not_act (inr apart) (λ x p. not_class Serve x not_served)
 
   -- a receive takes the values of its send
   module _ (class : a.class ≡ Serve) where
@@ -197,11 +197,11 @@ module _ (plans : List Plan) (first : Store) (h : List Act) (a : Act) (now : IsI
 
       pub kept_taken : (j : ℕ) → slice_get (operations plans) j ≡ Some m → set (map kept_before (operations plans)) j (kept_after m) ≡ map kept_after (operations plans)
       kept_taken j e =
-          written_table kept_before kept_after (operations plans) j m e (λ i y s d. sym (others y (other_place plans i j y m s e d)))
+          written_table kept_before kept_after (operations plans) j m e (λ i y s d. sym (others y (operations_at_two_places_differ plans i j y m s e d)))
         where
           others : (y : OpId) → y ≢ m → kept_after y ≡ kept_before y
           others y n =
-              kept_same y (not_class Data y not_data) (inl not_data) (λ x p. false_from_ne_true _ (λ t. n (same y x p (is_act_op Serve x a t))))
+              parcel_stays y (not_class Data y not_data) (inl not_data) (λ x p. false_from_ne_true _ (λ t. n (same y x p (is_act_op Serve x a t))))
             where
               same : (y x : OpId) → partner (pairs plans h) y ≡ Some x → a.op ≡ x → y ≡ m
               same y x p o =
@@ -211,8 +211,8 @@ handed_length : (plans : List Plan) (first : Store) (h : List Act) (a : Act) (no
 handed_length plans first h a now class =
     ap length (payload_now plans first h a now class (is_send plans first h a now class)) ∙ length-map (slots plans a.op) ((held_after plans no_send first h).store a.op.rank)
 
-length_more : (plans : List Plan) (first : Store) (m : OpId) (h : List Act) (a : Act) (now : IsInterleaving plans no_send (a ∷ h)) → happened Data m (a ∷ h) ≡ true → (happened Data m h ≡ true → length ((held_after plans no_send first h).payload m) ≡ length (slots plans m)) → length ((held_after plans no_send first (a ∷ h)).payload m) ≡ length (slots plans m)
-length_more plans first m h a now e was = go (cases_Bool (is_act Data m a))
+payload_length_after_action : (plans : List Plan) (first : Store) (m : OpId) (h : List Act) (a : Act) (now : IsInterleaving plans no_send (a ∷ h)) → happened Data m (a ∷ h) ≡ true → (happened Data m h ≡ true → length ((held_after plans no_send first h).payload m) ≡ length (slots plans m)) → length ((held_after plans no_send first (a ∷ h)).payload m) ≡ length (slots plans m)
+payload_length_after_action plans first m h a now e was = go (cases_Bool (is_act Data m a))
   where
     here : is_act Data m a ≡ true → length ((held_after plans no_send first (a ∷ h)).payload m) ≡ length (slots plans m)
     here t =
@@ -229,4 +229,4 @@ length_more plans first m h a now e was = go (cases_Bool (is_act Data m a))
 pub payload_length : (plans : List Plan) (first : Store) (m : OpId) (h : List Act) → IsInterleaving plans no_send h → happened Data m h ≡ true → length ((held_after plans no_send first h).payload m) ≡ length (slots plans m)
 payload_length plans first m [] now e = absurd (both_ways _ (happened_none Data m) e)
 payload_length plans first m (a ∷ h) now e =
-    length_more plans first m h a now e (λ f. payload_length plans first m h now.0 f)
+    payload_length_after_action plans first m h a now e (λ f. payload_length plans first m h now.0 f)

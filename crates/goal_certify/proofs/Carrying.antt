@@ -1,4 +1,4 @@
--- What is kept of values after one more action, and when it is too much.
+-- Which values are held after another action, and when they are too many.
 use Rattle.std.proofs.Common.{All, ◌≡◌, ◌==◌, ◌+◌, ◌^◌, ◌<◌, ◌≤◌, ℕ, false, List, [], ◌∷◌, map, set, get_or, length, take, Option, Some, None, slice_get, inl, inr, refl, sym, ap, ap₂, ◌∙◌, subst, arith}
 use Rattle.std.specs.List.{sum_by}
 use Rattle.std.proofs.lemmas.List.{take_all}
@@ -22,7 +22,7 @@ use Rattle.goal_blocks.specs.Certification.{AddsAreLight, IsLight}
 use Rattle.goal_blocks.specs.Faults.{IsTooHeavy, AddsTooMuch, IsFirstTooHeavy}
 use Rattle.goal_values.specs.Kept.{Kept, values}
 use Rattle.goal_certify.specs.Carried.{ParcelValues, size_of, parcel_size, parcel_of, parcel_under_way, IsCarrying, AddsOver, AddsWithin}
-use Rattle.goal_certify.proofs.Carried.{carried_kept, kept_others, handed_before, handed_now, kept_handed, taken_before, taken_now, kept_taken}
+use Rattle.goal_certify.proofs.Carried.{carried_kept, parcels_stay_unless_data_or_serve, handed_before, handed_now, kept_handed, taken_before, taken_now, kept_taken}
 use Rattle.goal_certify.proofs.SlotFacts.{IsLow, stored_write}
 use Rattle.goal_graph.proofs.ForCallers.{get_or_mapped, index_in_table}
 
@@ -135,7 +135,7 @@ module _ (plans : List Plan) (first : Store) (h : List Act) (a : Act) (now : IsI
     -- an action that leaves all values
     pub carrying_same : (place a.class == 2) ≡ false → (place a.class == 1) ≡ false → after.store ≡ before.store → AddsAreLight plans h before a.op (kind_at plans a.op) → IsCarrying plans first (a ∷ h) s parcels count
     carrying_same d v e adds_light =
-        carrying_after s parcels count (so_far.values_are ∙ sym e) refl (so_far.parcels_are ∙ sym (kept_others plans first h a now d v)) sum_before adds_light held_before
+        carrying_after s parcels count (so_far.values_are ∙ sym e) refl (so_far.parcels_are ∙ sym (parcels_stay_unless_data_or_serve plans first h a now d v)) sum_before adds_light held_before
 
     -- a calc has added
     pub carrying_calc : a.class ≡ Begin → IsCalc plans a.op → (t : Kept) → values t ≡ add_all a.op.rank (adds plans a.op) (values s) → t.ranks ≡ s.ranks → AddsWithin s.ranks a.op.rank (adds plans a.op) (values s) count → IsCarrying plans first (a ∷ h) t parcels count
@@ -144,7 +144,7 @@ module _ (plans : List Plan) (first : Store) (h : List Act) (a : Act) (now : IsI
         let v = ap (λ (b : Class). place b == 1) c in
         let added = e ∙ ap (λ (u : Store). add_all a.op.rank (adds plans a.op) u) so_far.values_are ∙ sym (store_calc c k) in
         let all : stored s.ranks (add_all a.op.rank (adds plans a.op) (values s)) + count ≤ weight_limit = subst (λ (items : List _). stored s.ranks (add_all a.op.rank items (values s)) + count ≤ weight_limit) (take_all (length (adds plans a.op)) (adds plans a.op) (omega arith)) (within (length (adds plans a.op))) in
-        carrying_after t parcels count added r (so_far.parcels_are ∙ sym (kept_others plans first h a now d v)) sum_before (calc_adds k within) (omega (arith, all, ap (stored t.ranks) e, ap (λ (n : ℕ). stored n (add_all a.op.rank (adds plans a.op) (values s))) r))
+        carrying_after t parcels count added r (so_far.parcels_are ∙ sym (parcels_stay_unless_data_or_serve plans first h a now d v)) sum_before (calc_adds k within) (omega (arith, all, ap (stored t.ranks) e, ap (λ (n : ℕ). stored n (add_all a.op.rank (adds plans a.op) (values s))) r))
 
     -- what is kept at the place of an operation
     read_parcel : (j : ℕ) (x : OpId) → slice_get (operations plans) j ≡ Some x → get_or parcels j None ≡ parcel_under_way plans h before x

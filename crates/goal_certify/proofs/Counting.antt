@@ -20,11 +20,11 @@ unfolding slots_from
 length-slots_from lo zero = refl
 length-slots_from lo (suc n) = ap suc (length-slots_from (lo + 1) n)
 
-moved_here : (op of lo hi : ℕ) → of ≡ op → length (moved_by op (Moves of lo hi)) ≡ hi + 1 - lo
-moved_here op of lo hi e = rw (eq-eqb of op e) (length-slots_from lo (hi + 1 - lo))
+moved_length_of_named_op : (op of lo hi : ℕ) → of ≡ op → length (moved_by op (Moves of lo hi)) ≡ hi + 1 - lo
+moved_length_of_named_op op of lo hi e = rw (eq-eqb of op e) (length-slots_from lo (hi + 1 - lo))
 
-moved_elsewhere : (op of lo hi : ℕ) → of ≢ op → length (moved_by op (Moves of lo hi)) ≡ 0
-moved_elsewhere op of lo hi differ = rw (ne_eqb of op differ) refl
+moved_length_of_other_op : (op of lo hi : ℕ) → of ≢ op → length (moved_by op (Moves of lo hi)) ≡ 0
+moved_length_of_other_op op of lo hi differ = rw (ne_eqb of op differ) refl
 
 -- how many slots of an operation a note names
 abbrev pub moved_slots : ℕ → Note → ℕ
@@ -48,9 +48,9 @@ module _ (ops : ℕ) (counts : List ℕ) (notes : List Note) (i : ℕ) (d : Note
   pub counted_adds : (of from to : ℕ) → get_or notes i d ≡ Adds of from to → AreCounted ops counts notes (i + 1)
   counted_adds of from to is = counted_same (λ op l. ap (moved_slots op) is)
 
-  pub counted_past : (of lo hi : ℕ) → get_or notes i d ≡ Moves of lo hi → ops ≤ of → AreCounted ops counts notes (i + 1)
-  counted_past of lo hi is past =
-      counted_same (λ op l. ap (moved_slots op) is ∙ moved_elsewhere op of lo hi (λ e. omega (arith, l, past, e)))
+  pub counted_with_move_past_ops : (of lo hi : ℕ) → get_or notes i d ≡ Moves of lo hi → ops ≤ of → AreCounted ops counts notes (i + 1)
+  counted_with_move_past_ops of lo hi is past =
+      counted_same (λ op l. ap (moved_slots op) is ∙ moved_length_of_other_op op of lo hi (λ e. omega (arith, l, past, e)))
 
   pub counted_moves : (of lo hi more : ℕ) → get_or notes i d ≡ Moves of lo hi → of < ops → more ≡ moved_count (get_or notes i d) → more ≤ 2 ^ 32 → AreCounted ops (set counts of (get_or counts of 0 + more)) notes (i + 1)
   counted_moves of lo hi more is below next few = record {
@@ -71,11 +71,11 @@ module _ (ops : ℕ) (counts : List ℕ) (notes : List Note) (i : ℕ) (d : Note
 
       here : (op : ℕ) → op < ops → of ≡ op → get_or (set counts of (get_or counts of 0 + more)) op 0 ≡ sum_by (moved_slots op) (take (i + 1) notes)
       here op l e =
-          omega (arith, read op e, are.counted op l, ap (λ (k : ℕ). get_or counts k 0) e, next, ap moved_count is, ap (moved_slots op) is, moved_here op of lo hi e, sum_by_more (moved_slots op) notes i d inside)
+          omega (arith, read op e, are.counted op l, ap (λ (k : ℕ). get_or counts k 0) e, next, ap moved_count is, ap (moved_slots op) is, moved_length_of_named_op op of lo hi e, sum_by_more (moved_slots op) notes i d inside)
 
       elsewhere : (op : ℕ) → op < ops → of ≢ op → get_or (set counts of (get_or counts of 0 + more)) op 0 ≡ sum_by (moved_slots op) (take (i + 1) notes)
       elsewhere op l differ =
-          omega (arith, other op differ, are.counted op l, ap (moved_slots op) is, moved_elsewhere op of lo hi differ, sum_by_more (moved_slots op) notes i d inside)
+          omega (arith, other op differ, are.counted op l, ap (moved_slots op) is, moved_length_of_other_op op of lo hi differ, sum_by_more (moved_slots op) notes i d inside)
 
       few_here : (op : ℕ) → of ≡ op → get_or (set counts of (get_or counts of 0 + more)) op 0 ≤ (i + 1) * 2 ^ 32
       few_here op e = omega (arith, read op e, are.few of, few)
@@ -90,7 +90,7 @@ counted_read ops counts notes i d of lo hi had more are inside is below read nex
     let same : had ≡ get_or counts of 0 = read ∙ get_or_default counts of had 0 within in
     subst (λ (n : ℕ). AreCounted ops (set counts of (n + more)) notes (i + 1)) (sym same) (counted_moves ops counts notes i d are inside of lo hi more is below next few)
 
--- the operations of one more rank
+-- the operations after appending a rank
 operations_push : (base : ℕ) (ps : List Plan) (p : Plan) → places_from base (ps ++ p ∷ []) ≡ places_from base ps ++ places_of_rank (base + length ps) 0 p.ops
 unfolding places_from
 operations_push base [] p = append-nil (places_of_rank base 0 p.ops) ∙ ap (λ (n : ℕ). places_of_rank n 0 p.ops) (sym (add-zero base))
@@ -123,8 +123,8 @@ module _ (plans : List Plan) where
   slots_of_rank rank op p at =
       ap (λ (ns : List Note). length (flat_map (moved_by op) ns)) (notes_at_some plans rank p at) ∙ length-flat_map (moved_by op) p.notes
 
-  pub counts_more : (i : ℕ) (p : Plan) (notes : List Note) (ops : ℕ) (counts of_rank after : List ℕ) → slice_get plans i ≡ Some p → notes ≡ p.notes → ops ≡ length p.ops → counts ≡ map slot_count (operations (take i plans)) → length of_rank ≡ ops → ((op : ℕ) → op < ops → get_or of_rank op 0 ≡ sum_by (moved_slots op) notes) → after ≡ counts ++ of_rank → after ≡ map slot_count (operations (take (i + 1) plans))
-  counts_more i p notes ops counts of_rank after at same size so_far long each joined =
+  pub slot_counts_with_next_plan : (i : ℕ) (p : Plan) (notes : List Note) (ops : ℕ) (counts of_rank after : List ℕ) → slice_get plans i ≡ Some p → notes ≡ p.notes → ops ≡ length p.ops → counts ≡ map slot_count (operations (take i plans)) → length of_rank ≡ ops → ((op : ℕ) → op < ops → get_or of_rank op 0 ≡ sum_by (moved_slots op) notes) → after ≡ counts ++ of_rank → after ≡ map slot_count (operations (take (i + 1) plans))
+  slot_counts_with_next_plan i p notes ops counts of_rank after at same size so_far long each joined =
       joined ∙ ap (λ (ns : List ℕ). ns ++ of_rank) so_far ∙ ap (λ (ns : List ℕ). map slot_count (operations (take i plans)) ++ ns) (counted_places i 0 p.ops of_rank (long ∙ size) (λ k l. each k (omega (arith, l, size)) ∙ ap (sum_by (moved_slots k)) same ∙ sym (slots_of_rank i k p at) ∙ ap (λ (j : ℕ). slot_count (record { rank = i; op = j })) (sym (zero-add k)))) ∙ sym (map-append slot_count (operations (take i plans)) (places_of_rank i 0 p.ops)) ∙ ap (map slot_count) (sym (operations_more i p at))
 
   pub counts_none : [] ≡ map slot_count (operations (take 0 plans))

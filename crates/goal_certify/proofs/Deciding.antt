@@ -17,25 +17,25 @@ module _ (plans : List Plan) (first : Store) (wanted : ℕ → ℕ → Value →
   abbrev pub IsFaultFrom : ℕ → ℕ → CertFault → Type 0
   IsFaultFrom from end fault = (fault ≡ NoMemory) ⊎ IsFirstOf plans first wanted from end fault
 
-  pub told_stopped : (from end : ℕ) (fault : CertFault) → IsStopped plans from end fault → IsFaultFrom from end fault
-  told_stopped from end fault (inl e) = inl e
-  told_stopped from end fault (inr is) = inr (is first wanted)
+  pub fault_from_if_stopped : (from end : ℕ) (fault : CertFault) → IsStopped plans from end fault → IsFaultFrom from end fault
+  fault_from_if_stopped from end fault (inl e) = inl e
+  fault_from_if_stopped from end fault (inr is) = inr (is first wanted)
 
-  pub told_later : (a b c : ℕ) (fault : CertFault) → a ≤ b → HasNone plans first wanted a b → IsFaultFrom b c fault → IsFaultFrom a c fault
-  told_later a b c fault le none (inl e) = inl e
-  told_later a b c fault le none (inr is) = inr (first_later plans first wanted a b c fault le none is)
+  pub fault_from_with_earlier_start : (a b c : ℕ) (fault : CertFault) → a ≤ b → HasNone plans first wanted a b → IsFaultFrom b c fault → IsFaultFrom a c fault
+  fault_from_with_earlier_start a b c fault le none (inl e) = inl e
+  fault_from_with_earlier_start a b c fault le none (inr is) = inr (first_later plans first wanted a b c fault le none is)
 
-  pub told_sooner : (a b c : ℕ) (fault : CertFault) → b ≤ c → IsFaultFrom a b fault → IsFaultFrom a c fault
-  told_sooner a b c fault le (inl e) = inl e
-  told_sooner a b c fault le (inr is) = inr (first_sooner plans first wanted a b c fault le is)
+  pub fault_from_with_later_end : (a b c : ℕ) (fault : CertFault) → b ≤ c → IsFaultFrom a b fault → IsFaultFrom a c fault
+  fault_from_with_later_end a b c fault le (inl e) = inl e
+  fault_from_with_later_end a b c fault le (inr is) = inr (first_sooner plans first wanted a b c fault le is)
 
-  pub answer_none : {T : Type 0} (r : Result T CertFault) (a b c : ℕ) → HasNone plans first wanted a b → OnOk r (HasNone plans first wanted b c) → OnOk r (HasNone plans first wanted a c)
-  answer_none (Ok x) a b c lower upper = none_joined plans first wanted a b c lower upper
-  answer_none (Err fault) a b c lower upper = tt
+  pub none_on_ok_with_earlier_start : {T : Type 0} (r : Result T CertFault) (a b c : ℕ) → HasNone plans first wanted a b → OnOk r (HasNone plans first wanted b c) → OnOk r (HasNone plans first wanted a c)
+  none_on_ok_with_earlier_start (Ok x) a b c lower upper = none_joined plans first wanted a b c lower upper
+  none_on_ok_with_earlier_start (Err fault) a b c lower upper = tt
 
-  pub answer_told : {T : Type 0} (r : Result T CertFault) (a b c : ℕ) → a ≤ b → HasNone plans first wanted a b → IfErr r (IsFaultFrom b c) → IfErr r (IsFaultFrom a c)
-  answer_told (Ok x) a b c le none told = tt
-  answer_told (Err fault) a b c le none told = told_later a b c fault le none told
+  pub fault_on_err_with_earlier_start : {T : Type 0} (r : Result T CertFault) (a b c : ℕ) → a ≤ b → HasNone plans first wanted a b → IfErr r (IsFaultFrom b c) → IfErr r (IsFaultFrom a c)
+  fault_on_err_with_earlier_start (Ok x) a b c le none told = tt
+  fault_on_err_with_earlier_start (Err fault) a b c le none told = fault_from_with_earlier_start a b c fault le none told
 
   -- no fault at all
   no_fault : HasNone plans first wanted 0 9 → (fault : CertFault) → HasFault plans first wanted fault → ⊥

@@ -18,11 +18,11 @@ search_below D (suc n) cases =
     ⊎_elim (λ d. inl (n, omega arith, d)) (λ not. ⊎_elim (λ f. inl (f.0, omega (arith, f.1), f.2)) (λ none. inr (λ k h d. elim (cases_eq k n) [ inl e ↦ not (subst D e d) | inr e ↦ none k (omega arith) d ])) (search_below D n cases)) (cases n)
 
 -- a bound of a depth stays one where it grows
-deeper : (plans : List Plan) (m : ℕ) (x : OpId) → is_below plans m x ≡ true → is_below plans (suc m) x ≡ true
+is_below_next_bound : (plans : List Plan) (m : ℕ) (x : OpId) → is_below plans m x ≡ true → is_below plans (suc m) x ≡ true
 unfolding is_below
-deeper plans zero x h = absurd (true≢false (sym h))
-deeper plans (suc m) x h =
-    list_all-from_AllPass (λ (d : Need). is_below plans (suc m) (needed x d)) (needs plans x) (λ i d lt. deeper plans m (needed x (get_or (needs plans x) i d)) (AllPass-from_list_all (λ (d : Need). is_below plans m (needed x d)) (needs plans x) h i d lt))
+is_below_next_bound plans zero x h = absurd (true≢false (sym h))
+is_below_next_bound plans (suc m) x h =
+    list_all-from_AllPass (λ (d : Need). is_below plans (suc m) (needed x d)) (needs plans x) (λ i d lt. is_below_next_bound plans m (needed x (get_or (needs plans x) i d)) (AllPass-from_list_all (λ (d : Need). is_below plans m (needed x d)) (needs plans x) h i d lt))
 
 module _ (plans : List Plan) (rank n : ℕ) (in_range : (k : ℕ) → k < n → All (λ (d : Need). d.op < n) (needs plans (op_id rank k))) where
   abbrev deep : ℕ → ℕ → Bool
@@ -37,23 +37,23 @@ module _ (plans : List Plan) (rank n : ℕ) (in_range : (k : ℕ) → k < n → 
   deep_with_more zero m k h = subst (λ (x : ℕ). deep x k ≡ true) (sym (zero-add m)) h
   deep_with_more (suc j) m k h =
       let e : suc j + m ≡ suc (j + m) = omega arith in
-      subst (λ (x : ℕ). deep x k ≡ true) (sym e) (deeper plans (j + m) (op_id rank k) (deep_with_more j m k h))
+      subst (λ (x : ℕ). deep x k ≡ true) (sym e) (is_below_next_bound plans (j + m) (op_id rank k) (deep_with_more j m k h))
 
   abbrev Settled : ℕ → Type 0
   Settled m = (k : ℕ) → k < n → deep (suc m) k ≡ true → deep m k ≡ true
 
-  settled_on : (m j : ℕ) → Settled m → Settled (j + m)
-  settled_on m zero s = subst Settled (sym (zero-add m)) s
-  settled_on m (suc j) s =
+  settled_at_larger_bound : (m j : ℕ) → Settled m → Settled (j + m)
+  settled_at_larger_bound m zero s = subst Settled (sym (zero-add m)) s
+  settled_at_larger_bound m (suc j) s =
       let e : suc j + m ≡ suc (j + m) = omega arith in
-      let before : Settled (j + m) = settled_on m j s in
+      let before : Settled (j + m) = settled_at_larger_bound m j s in
       subst Settled (sym e) (λ k inside h. next (suc (j + m)) (j + m) k inside before h)
 
   settled_depth_stays : (m j k : ℕ) → Settled m → k < n → deep (j + m) k ≡ true → deep m k ≡ true
   settled_depth_stays m zero k s inside h = subst (λ (x : ℕ). deep x k ≡ true) (zero-add m) h
   settled_depth_stays m (suc j) k s inside h =
       let e : suc j + m ≡ suc (j + m) = omega arith in
-      settled_depth_stays m j k s inside (settled_on m j s k inside (subst (λ (x : ℕ). deep x k ≡ true) e h))
+      settled_depth_stays m j k s inside (settled_at_larger_bound m j s k inside (subst (λ (x : ℕ). deep x k ≡ true) e h))
 
   abbrev numbers : List ℕ
   numbers = range_with_len 0 n
@@ -61,14 +61,14 @@ module _ (plans : List Plan) (rank n : ℕ) (in_range : (k : ℕ) → k < n → 
   is_number : (k : ℕ) → k < n → Contains numbers k
   is_number k h = (k, omega (arith, length-range_with_len 0 n), get_or-range_with_len 0 n k k h ∙ zero-add k)
 
-  -- so many operations have a depth below m
+  -- the number of operations with a depth below m
   abbrev count : ℕ → ℕ
   count m = count_by (deep m) numbers
 
-  -- a depth that one more operation has, or none
+  -- either no operation has depth m, or the count grows at the next bound
   settled_or_more : (m : ℕ) → Settled m ⊎ (count m + 1 ≤ count (suc m))
   settled_or_more m =
-      ⊎_elim (λ f. inr (count_falls (deep (suc m)) (deep m) numbers f.0 (is_number f.0 f.1) (λ k h. deeper plans m (op_id rank k) h) f.2.1 f.2.0)) (λ no. inl (λ k inside h. ⊎_elim (λ yes. yes) (λ not. absurd (no k inside (h, not))) (cases_Bool (deep m k)))) (search_below New n cases)
+      ⊎_elim (λ f. inr (count_falls (deep (suc m)) (deep m) numbers f.0 (is_number f.0 f.1) (λ k h. is_below_next_bound plans m (op_id rank k) h) f.2.1 f.2.0)) (λ no. inl (λ k inside h. ⊎_elim (λ yes. yes) (λ not. absurd (no k inside (h, not))) (cases_Bool (deep m k)))) (search_below New n cases)
     where
       New : ℕ → Type 0
       New k = (deep (suc m) k ≡ true) × (deep m k ≡ false)
@@ -82,8 +82,8 @@ module _ (plans : List Plan) (rank n : ℕ) (in_range : (k : ℕ) → k < n → 
   settles_below (suc m) =
       ⊎_elim (λ f. inl (f.0, omega (arith, f.1), f.2)) (λ high. ⊎_elim (λ s. inl (m, omega arith, s)) (λ up. inr (omega arith)) (settled_or_more m)) (settles_below m)
 
-  pub deep_enough : (b k : ℕ) → k < n → is_below plans b (op_id rank k) ≡ true → is_below plans n (op_id rank k) ≡ true
-  deep_enough b k inside h = ⊎_elim settled (λ high. absurd (too_many high)) (settles_below (suc n))
+  pub is_below_op_count : (b k : ℕ) → k < n → is_below plans b (op_id rank k) ≡ true → is_below plans n (op_id rank k) ≡ true
+  is_below_op_count b k inside h = ⊎_elim settled (λ high. absurd (too_many high)) (settles_below (suc n))
     where
       settled : (l : ℕ) × (l < suc n) × Settled l → deep n k ≡ true
       settled (l, lt, s) =

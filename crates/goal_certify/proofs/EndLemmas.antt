@@ -25,14 +25,14 @@ channel_at e = record { source = e.source; target = e.target; tag = e.tag }
 abbrev pub end_at : Channel → Bool → End
 end_at c side = record { source = c.source; target = c.target; tag = c.tag; is_send = side }
 
--- what stands at an end
+-- the operation at an end: its channel and its kind
 pub record StandsAt (plans : List Plan) (x : OpId) (e : End) : Type 0 where
   pub of_channel : channel plans x ≡ Some (channel_at e)
   pub send : e.is_send ≡ true → IsSend plans x
   pub receive : e.is_send ≡ false → IsReceive plans x
 
-not_both : (plans : List Plan) (x : OpId) → IsSend plans x → IsReceive plans x → ⊥
-not_both plans x s r = go (sym s.kind ∙ r.kind)
+not_send_and_receive : (plans : List Plan) (x : OpId) → IsSend plans x → IsReceive plans x → ⊥
+not_send_and_receive plans x s r = go (sym s.kind ∙ r.kind)
   where
     go : ◌≡◌ {A = Option Kind} (Some (Send s.bytes s.to s.tag)) (Some (Recv r.room r.from r.tag)) → ⊥
     go e = cc e
@@ -111,11 +111,11 @@ module _ (plans : List Plan) where
     pub send_at : end_of plans m ≡ Some end
     pub receive_at : end_of plans x ≡ Some (other_end end)
 
-  pub one_ends : (m x : OpId) → AreOfOneChannel plans m x → AreAtEnds m x
-  one_ends m x one = record { end = end_at one.shared true; is_send = refl; send_at = send_stands m one.shared one.is_send one.of_send; receive_at = receive_stands x one.shared one.is_receive one.of_receive }
+  pub at_ends_if_of_one_channel : (m x : OpId) → AreOfOneChannel plans m x → AreAtEnds m x
+  at_ends_if_of_one_channel m x one = record { end = end_at one.shared true; is_send = refl; send_at = send_stands m one.shared one.is_send one.of_send; receive_at = receive_stands x one.shared one.is_receive one.of_receive }
 
-  pub ends_one : (m x : OpId) (e : End) → e.is_send ≡ true → end_of plans m ≡ Some e → end_of plans x ≡ Some (other_end e) → AreOfOneChannel plans m x
-  ends_one m x e s p q =
+  pub of_one_channel_if_at_ends : (m x : OpId) (e : End) → e.is_send ≡ true → end_of plans m ≡ Some e → end_of plans x ≡ Some (other_end e) → AreOfOneChannel plans m x
+  of_one_channel_if_at_ends m x e s p q =
       let at_m = stands_at m e p in
       let at_x = stands_at x (other_end e) q in
       record {
@@ -126,7 +126,7 @@ module _ (plans : List Plan) where
         of_receive = at_x.of_channel;
       }
 
-  -- where there are no wildcards, a receive stands at an end, as a send does
+  -- without wildcards, every receive has an end, as every send does
   pub receive_end : HasNoWildcard plans → (x : OpId) → IsReceive plans x → end_of plans x ≡ None → ⊥
   unfolding end_of
   receive_end known x r none = go r.from r.tag r.kind
@@ -140,7 +140,7 @@ module _ (plans : List Plan) where
   unfolding end_of
   send_end m s none = none-some _ (sym none ∙ ap (end_in m) s.kind)
 
-  -- what stands at an end exists
+  -- an operation with an end exists
   pub end_exists : (x : OpId) (e : End) → end_of plans x ≡ Some e → IsOp plans x
   end_exists x e at =
       let s = stands_at x e at in
@@ -159,7 +159,7 @@ other_twice e = λ i. record e { is_send = twice e.is_send i }
     twice true = refl
     twice false = refl
 
--- of two operations at the two ends of a channel none is unpaired
+-- an operation is not unpaired if another has the other end of its channel
 pub paired_ends : (plans : List Plan) (x z : OpId) (e : End) → end_of plans x ≡ Some e → end_of plans z ≡ Some (other_end e) → IsUnpaired plans x → ⊥
 paired_ends plans x z e at other un = go (cases_Bool e.is_send) un
   where
@@ -167,17 +167,17 @@ paired_ends plans x z e at other un = go (cases_Bool e.is_send) un
     s = stands_at plans x e at
 
     go : (e.is_send ≡ true) ⊎ (e.is_send ≡ false) → IsUnpaired plans x → ⊥
-    go (inl b) (inl un) = un.1 z (ends_one plans x z e b at other)
-    go (inl b) (inr un) = not_both plans x (s.send b) un.0
-    go (inr b) (inl un) = not_both plans x un.0 (s.receive b)
-    go (inr b) (inr un) = un.1 z (ends_one plans z x (other_end e) (ap not b) other (at ∙ ap (λ (d : End). Some d) (sym (other_twice e))))
+    go (inl b) (inl un) = un.1 z (of_one_channel_if_at_ends plans x z e b at other)
+    go (inl b) (inr un) = not_send_and_receive plans x (s.send b) un.0
+    go (inr b) (inl un) = not_send_and_receive plans x un.0 (s.receive b)
+    go (inr b) (inr un) = un.1 z (of_one_channel_if_at_ends plans z x (other_end e) (ap not b) other (at ∙ ap (λ (d : End). Some d) (sym (other_twice e))))
 
 module _ (plans : List Plan) (entries : List OpAtEnd) (are : AreEndsOf plans entries) where
   pub first_stands : (x : OpId) (e : End) → IsFirstAt entries e x → end_of plans x ≡ Some e
   first_stands x e first =
       All-contains (λ (a : OpAtEnd). end_of plans a.op ≡ Some a.end) entries (record { end = e; op = x }) are.right first.listed
 
-  -- who shares the end of x stands at it
+  -- an operation that shares the end of x is among the entries of that end
   double_shares_end : (y x : OpId) (e : End) → end_of plans x ≡ Some e → AreDouble plans y x → Contains entries (record { end = e; op = y })
   double_shares_end y x e at d =
       let s = double_ends plans y x d in
@@ -200,33 +200,33 @@ module _ (plans : List Plan) (entries : List OpAtEnd) (are : AreEndsOf plans ent
       let s = double_ends plans y x d in
       none-some s.shared (sym none ∙ s.second_at)
 
-  -- who is of the channel of m and x stands at the other end
+  -- the other operation of a channel is among the entries of the other end
   send_has_receive_end : (m x : OpId) (e : End) → end_of plans m ≡ Some e → AreOfOneChannel plans m x → (e.is_send ≡ true) × Contains entries (record { end = other_end e; op = x })
   send_has_receive_end m x e at one =
-      let a = one_ends plans m x one in
+      let a = at_ends_if_of_one_channel plans m x one in
       let same : a.end ≡ e = same_Some a.end e (sym a.send_at ∙ at) in
       (sym (ap (λ (d : End). d.is_send) same) ∙ a.is_send, are.listed x (other_end e) (a.receive_at ∙ ap (λ (d : End). Some (other_end d)) same))
 
   receive_has_send_end : (m x : OpId) (e : End) → end_of plans x ≡ Some e → AreOfOneChannel plans m x → Contains entries (record { end = other_end e; op = m })
   receive_has_send_end m x e at one =
-      let a = one_ends plans m x one in
+      let a = at_ends_if_of_one_channel plans m x one in
       let same : other_end a.end ≡ e = same_Some (other_end a.end) e (sym a.receive_at ∙ at) in
       are.listed m (other_end e) (a.send_at ∙ ap (λ (d : End). Some d) (sym (other_twice a.end) ∙ ap other_end same))
 
-  pub unpaired_there : (x : OpId) (e : End) → end_of plans x ≡ Some e → ((z : OpId) → Contains entries (record { end = other_end e; op = z }) → ⊥) → IsUnpaired plans x
-  unpaired_there x e at none =
+  pub unpaired_if_none_at_other_end : (x : OpId) (e : End) → end_of plans x ≡ Some e → ((z : OpId) → Contains entries (record { end = other_end e; op = z }) → ⊥) → IsUnpaired plans x
+  unpaired_if_none_at_other_end x e at none =
       let s = stands_at plans x e at in
       ⊎_elim (λ b. inl (s.send b, λ y one. none y (send_has_receive_end x y e at one).1)) (λ b. inr (s.receive b, λ m one. none m (receive_has_send_end m x e at one))) (cases_Bool e.is_send)
 
-  pub paired_there : (x z : OpId) (e : End) → end_of plans x ≡ Some e → IsFirstAt entries (other_end e) z → IsUnpaired plans x → ⊥
-  paired_there x z e at first = paired_ends plans x z e at (first_stands z (other_end e) first)
+  pub not_unpaired_if_first_at_other_end : (x z : OpId) (e : End) → end_of plans x ≡ Some e → IsFirstAt entries (other_end e) z → IsUnpaired plans x → ⊥
+  not_unpaired_if_first_at_other_end x z e at first = paired_ends plans x z e at (first_stands z (other_end e) first)
 
   pub no_end_paired : HasNoWildcard plans → (x : OpId) → end_of plans x ≡ None → IsUnpaired plans x → ⊥
   no_end_paired known x none (inl un) = send_end plans x un.0 none
   no_end_paired known x none (inr un) = receive_end plans known x un.0 none
 
   pub receive_found : (m x : OpId) (e : End) → end_of plans m ≡ Some e → e.is_send ≡ true → IsFirstAt entries (other_end e) x → AreOfOneChannel plans m x
-  receive_found m x e at b first = ends_one plans m x e b at (first_stands x (other_end e) first)
+  receive_found m x e at b first = of_one_channel_if_at_ends plans m x e b at (first_stands x (other_end e) first)
 
   pub receive_nowhere : (m : OpId) (e : End) → end_of plans m ≡ Some e → ((z : OpId) → Contains entries (record { end = other_end e; op = z }) → ⊥) → (x : OpId) → AreOfOneChannel plans m x → ⊥
   receive_nowhere m e at none x one = none x (send_has_receive_end m x e at one).1
@@ -238,6 +238,6 @@ module _ (plans : List Plan) (entries : List OpAtEnd) (are : AreEndsOf plans ent
   receive_no_end m none x one = send_end plans m one.is_send none
 
 -- the receive of a channel is the only one
-pub one_receive : (plans : List Plan) → HasNoDoubleChannel plans → (m x y : OpId) → AreOfOneChannel plans m x → AreOfOneChannel plans m y → y ≡ x
-one_receive plans single m x y one other =
+pub receive_of_channel_is_unique : (plans : List Plan) → HasNoDoubleChannel plans → (m x y : OpId) → AreOfOneChannel plans m x → AreOfOneChannel plans m y → y ≡ x
+receive_of_channel_is_unique plans single m x y one other =
     single.receives y x one.shared other.is_receive one.is_receive (other.of_receive ∙ sym other.of_send ∙ one.of_send) one.of_receive

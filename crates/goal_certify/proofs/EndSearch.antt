@@ -19,7 +19,7 @@ use Rattle.goal_graph.specs.Keys.{op_cmp}
 use Rattle.goal_graph.proofs.ForCallers.{listed_places}
 use Rattle.goal_certify.specs.declared.ends.End.{End}
 use Rattle.goal_certify.specs.declared.ends.OpAtEnd.{OpAtEnd}
-use Rattle.goal_certify.proofs.InOrder.{at_place}
+use Rattle.goal_certify.proofs.InOrder.{place_of_contained}
 use Rattle.goal_certify.proofs.EndLemmas.{end_exists}
 use Rattle.goal_certify.specs.Ends.{end_of, end_cmp, entry_cmp, AreEndsOf, IsFirstAt}
 
@@ -134,9 +134,9 @@ sorted_ends entries sorted k d low b =
     not_less Equal b q = refl
     not_less Greater b q = refl
 
--- the ends rise up to one place more
-pub rise_more : (entries read : List OpAtEnd) (place : ℕ) (e : OpAtEnd) → read ≡ entries → 1 ≤ place → place < length read → is_lt (end_cmp (get_or read (place - 1) e).end (get_or read place e).end) ≡ true → ((k : ℕ) (d : OpAtEnd) → k + 1 < place → is_lt (end_cmp (get_or entries k d).end (get_or entries (k + 1) d).end) ≡ true) → (k : ℕ) (d : OpAtEnd) → k + 1 < place + 1 → is_lt (end_cmp (get_or entries k d).end (get_or entries (k + 1) d).end) ≡ true
-rise_more entries read place e same some inside rises before k d l =
+-- the ends rise up to the next place
+pub ends_rise_up_to_next_place : (entries read : List OpAtEnd) (place : ℕ) (e : OpAtEnd) → read ≡ entries → 1 ≤ place → place < length read → is_lt (end_cmp (get_or read (place - 1) e).end (get_or read place e).end) ≡ true → ((k : ℕ) (d : OpAtEnd) → k + 1 < place → is_lt (end_cmp (get_or entries k d).end (get_or entries (k + 1) d).end) ≡ true) → (k : ℕ) (d : OpAtEnd) → k + 1 < place + 1 → is_lt (end_cmp (get_or entries k d).end (get_or entries (k + 1) d).end) ≡ true
+ends_rise_up_to_next_place entries read place e same some inside rises before k d l =
     ⊎_elim (λ less. before k d less) (λ last.
     let low : k ≡ place - 1 = omega (arith, l, last, some) in
     let high : k + 1 ≡ place = omega (arith, l, last) in
@@ -215,6 +215,6 @@ module _ (plans : List Plan) where
 
   pub collected_all : (n : ℕ) (entries sorted : List OpAtEnd) → AreCollected plans n entries → length (operations plans) ≤ n → IsPermutation entries sorted → AreEndsOf plans sorted
   collected_all n entries sorted are all moved = record {
-    listed = λ x e is. Contains-permutation entries sorted _ moved (let place = at_place (operations plans) x ((listed_places plans x).1 (end_exists plans x e is)) in are.listed place.0 x e (omega (arith, all, slice_get_within (operations plans) place.0 x place.1)) place.1 is);
+    listed = λ x e is. Contains-permutation entries sorted _ moved (let place = place_of_contained (operations plans) x ((listed_places plans x).1 (end_exists plans x e is)) in are.listed place.0 x e (omega (arith, all, slice_get_within (operations plans) place.0 x place.1)) place.1 is);
     right = All-permutation (λ (a : OpAtEnd). end_of plans a.op ≡ Some a.end) entries sorted moved are.right;
   }

@@ -8,7 +8,7 @@ use Rattle.goal_blocks.specs.declared.segment.Segment.{Segment}
 use Rattle.goal_blocks.specs.Values.{Value, Store}
 use Rattle.goal_blocks.specs.Collectives.{initial, wanted}
 use Rattle.goal_blocks.specs.Segments.{initial_in, wanted_in}
-use Rattle.goal_blocks.proofs.ForCallers.{first_initial, first_wanted}
+use Rattle.goal_blocks.proofs.ForCallers.{initial_in_first_block, wanted_in_first_block}
 use Rattle.goal_certify.specs.Stages.{HasNone, IsFirstOf, IsFreeIn, IsStoppedIn}
 
 module _ (what : Collective) (plans : List Plan) (segment : Segment) (is : segment ≡ record { width = 0; block = 0 }) where
@@ -16,7 +16,7 @@ module _ (what : Collective) (plans : List Plan) (segment : Segment) (is : segme
   in_first_segment : (P : Store → (ℕ → ℕ → Value → Bool) → Type 0) → P (initial_in what segment.width segment.block (length plans)) (wanted_in what segment.width segment.block (length plans)) → P (initial what (length plans)) (wanted what (length plans))
   in_first_segment P told =
       let there = subst (λ (s : Segment). P (initial_in what s.width s.block (length plans)) (wanted_in what s.width s.block (length plans))) is told in
-      subst (λ (s : Store). P s (wanted what (length plans))) (first_initial what (length plans)) (subst (λ (w : ℕ → ℕ → Value → Bool). P (initial_in what 0 0 (length plans)) w) (first_wanted what (length plans)) there)
+      subst (λ (s : Store). P s (wanted what (length plans))) (initial_in_first_block what (length plans)) (subst (λ (w : ℕ → ℕ → Value → Bool). P (initial_in what 0 0 (length plans)) w) (wanted_in_first_block what (length plans)) there)
 
   pub first_free : {T : Type 0} (r : Result T CertFault) → OnOk r (IsFreeIn what segment plans 6 9) → OnOk r (HasNone plans (initial what (length plans)) (wanted what (length plans)) 6 9)
   first_free r free = in_first_segment (λ (s : Store) (w : ℕ → ℕ → Value → Bool). OnOk r (HasNone plans s w 6 9)) free

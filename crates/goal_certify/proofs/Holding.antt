@@ -13,7 +13,7 @@ use Rattle.goal_values.proofs.ForCallers.{payload_stays}
 use Rattle.goal_certify.specs.declared.walk.parcel.Parcel.{Parcel}
 use Rattle.goal_certify.specs.Carried.{ParcelValues, values_of_parcel, values_of_parcels, IsKnown, IsCarrying, IsHolding}
 
--- where more sums are made the same is told of a parcel
+-- making more sums leaves the values of a parcel
 parcel_values_stay : (old new : List Value) → HasGrown old new → (o : Option Parcel) → IsKnown old o → (option_map (values_of_parcel new) o ≡ option_map (values_of_parcel old) o) × IsKnown new o
 parcel_values_stay old new grown None known = (refl, tt)
 parcel_values_stay old new grown (Some p) known =
@@ -26,7 +26,7 @@ all_parcel_values_stay old new grown (o ∷ ps) known =
     ap₂ (λ (t : Option ParcelValues) (ts : List (Option ParcelValues)). t ∷ ts) (parcel_values_stay old new grown o (All-head (IsKnown old) o ps known)).0 (all_parcel_values_stay old new grown ps (All-tail (IsKnown old) o ps known))
 
 module _ (plans : List Plan) (first : Store) (h : List Act) (parcels : List (Option Parcel)) where
-  -- what is carried beside the parcels that there were, while more sums may have been made
+  -- the same parcels are held after more sums were made
   pub holding_grown : (s t : Summed) (before : List Act) (count total : ℕ) → IsHolding plans first before s parcels count → HasGrown s.sums t.sums → IsCarrying plans first h t.kept (values_of_parcels s.sums parcels) total → IsHolding plans first h t parcels total
   holding_grown s t before count total holding grown carrying = record {
     carrying = subst (λ (ts : List (Option ParcelValues)). IsCarrying plans first h t.kept ts total) (sym (all_parcel_values_stay s.sums t.sums grown parcels holding.known)) carrying;
@@ -40,7 +40,7 @@ module _ (plans : List Plan) (first : Store) (h : List Act) (parcels : List (Opt
     known = subst (λ (vs : List Value). All (IsKnown vs) (set parcels j o)) (sym same) (All-set (IsKnown s.sums) parcels j o known holding.known);
   })
 
--- what is told at the place of a parcel
+-- the values at the place of a parcel
 module _ (sums : List Value) (parcels : List (Option Parcel)) (j : ℕ) (inside : j < length (values_of_parcels sums parcels)) where
   within : j < length parcels
   within = omega (arith, inside, length-map parcels (option_map (values_of_parcel sums)))
@@ -54,7 +54,7 @@ module _ (sums : List Value) (parcels : List (Option Parcel)) (j : ℕ) (inside 
   pub parcel_known_at : All (IsKnown sums) parcels → (p : Parcel) → get_or parcels j None ≡ Some p → IsPayload sums p.payload
   parcel_known_at known p e = subst (IsKnown sums) e (known j None within)
 
-  -- there is a parcel where one is told
+  -- where a parcel has values, the parcel exists
   pub parcel_with_values : (t : ParcelValues) → get_or (values_of_parcels sums parcels) j None ≡ Some t → (p : Parcel) × (get_or parcels j None ≡ Some p)
   parcel_with_values t e = go (get_or parcels j None) (sym parcel_values_map ∙ e)
     where
@@ -62,7 +62,7 @@ module _ (sums : List Value) (parcels : List (Option Parcel)) (j : ℕ) (inside 
       go None w = cc
       go (Some p) w = (p, refl)
 
--- nothing is told of no parcels
+-- without parcels there are no parcel values
 pub no_parcel_values : (sums : List Value) (n : ℕ) → values_of_parcels sums (replicate n None) ≡ replicate n None
 no_parcel_values sums zero = refl
 no_parcel_values sums (suc n) = ap (λ (ts : List (Option ParcelValues)). None ∷ ts) (no_parcel_values sums n)

@@ -23,30 +23,30 @@ not_both_before y x (inr l) (inr m) = omega (arith, l.1, m.1)
 pub not_before_itself : (x : OpId) → IsBefore x x → ⊥
 not_before_itself x b = not_both_before x x b b
 
--- of two operations one stands before the other
+-- of two different operations, one is before the other
 pub other_before : (y x : OpId) → y ≢ x → (IsBefore x y → ⊥) → IsBefore y x
 other_before y x differ not =
     ⊎_elim (λ l. inl l) (λ g. ⊎_elim (λ l. absurd (not (inl l))) (λ h. let e : y.rank ≡ x.rank = omega (arith, g, h) in ⊎_elim (λ l. inr (e, l)) (λ i. ⊎_elim (λ l. absurd (not (inr (sym e, l)))) (λ j. let f : y.op ≡ x.op = omega (arith, i, j) in absurd (differ (λ k. record { rank = e k; op = f k }))) (cases_lt x.op y.op)) (cases_lt y.op x.op)) (cases_lt x.rank y.rank)) (cases_lt y.rank x.rank)
 
-pub at_place : {X : Type 0} (xs : List X) (x : X) → Contains xs x → (k : ℕ) × (slice_get xs k ≡ Some x)
-at_place xs x c = (c.0, slice_get_read xs (length xs) c.0 x refl c.1 (sym c.2))
+pub place_of_contained : {X : Type 0} (xs : List X) (x : X) → Contains xs x → (k : ℕ) × (slice_get xs k ≡ Some x)
+place_of_contained xs x c = (c.0, slice_get_read xs (length xs) c.0 x refl c.1 (sym c.2))
 
 -- P holds of none of the first n operations
 abbrev pub NoneSoFar : List Plan → (OpId → Type 0) → ℕ → Type 0
 NoneSoFar plans P n = (k : ℕ) (x : OpId) → k < n → slice_get (operations plans) k ≡ Some x → P x → ⊥
 
 module _ (plans : List Plan) (P : OpId → Type 0) where
-  pub none_more : (n : ℕ) (x : OpId) → NoneSoFar plans P n → slice_get (operations plans) n ≡ Some x → (P x → ⊥) → NoneSoFar plans P (n + 1)
-  none_more n x before at not k y l e p =
+  pub none_so_far_with_next : (n : ℕ) (x : OpId) → NoneSoFar plans P n → slice_get (operations plans) n ≡ Some x → (P x → ⊥) → NoneSoFar plans P (n + 1)
+  none_so_far_with_next n x before at not k y l e p =
       ⊎_elim (λ less. before k y less e p) (λ no_less. let same : n ≡ k = omega (arith, l, no_less) in not (subst P (same_Some y x (sym e ∙ ap (slice_get (operations plans)) (sym same) ∙ at)) p)) (cases_lt k n)
 
-  pub none_at_all : (n : ℕ) → NoneSoFar plans P n → length (operations plans) ≤ n → ((x : OpId) → P x → IsOp plans x) → (x : OpId) → P x → ⊥
-  none_at_all n none all exists x p =
-      let place = at_place (operations plans) x ((listed_places plans x).1 (exists x p)) in
+  pub none_if_none_in_list : (n : ℕ) → NoneSoFar plans P n → length (operations plans) ≤ n → ((x : OpId) → P x → IsOp plans x) → (x : OpId) → P x → ⊥
+  none_if_none_in_list n none all exists x p =
+      let place = place_of_contained (operations plans) x ((listed_places plans x).1 (exists x p)) in
       none place.0 x (omega (arith, all, slice_get_within (operations plans) place.0 x place.1)) place.1 p
 
-  pub least_at : (n : ℕ) (x : OpId) → NoneSoFar plans P n → slice_get (operations plans) n ≡ Some x → P x → ((y : OpId) → P y → IsOp plans y) → IsLeast op_key P x
-  least_at n x none at p exists = record { holds = p; none_less = λ y less q. go y (before_from_less y x less) q (at_place (operations plans) y ((listed_places plans y).1 (exists y q))) }
+  pub least_if_first_that_holds : (n : ℕ) (x : OpId) → NoneSoFar plans P n → slice_get (operations plans) n ≡ Some x → P x → ((y : OpId) → P y → IsOp plans y) → IsLeast op_key P x
+  least_if_first_that_holds n x none at p exists = record { holds = p; none_less = λ y less q. go y (before_from_less y x less) q (place_of_contained (operations plans) y ((listed_places plans y).1 (exists y q))) }
     where
       later : (y : OpId) (k : ℕ) → n ≤ k → slice_get (operations plans) k ≡ Some y → IsBefore y x → ⊥
       later y k g e b =

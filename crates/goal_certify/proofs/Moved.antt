@@ -18,7 +18,7 @@ use Rattle.goal_graph.specs.Matching.{Pair, new_pair, add_pair, pairs, partner, 
 use Rattle.goal_graph.specs.Allowed.{is_met, is_ready, is_served, may, allowed}
 use Rattle.goal_graph.specs.Interleaving.{IsInterleaving}
 use Rattle.goal_graph.specs.Concerned.{later_of, waiting_on}
-use Rattle.goal_graph.proofs.ForCallers.{act_of, contains_first, contains_more, happened_before, happened_cases, is_act_class, is_act_op, cases_some, partner_stays, allowed_fresh, allowed_from, allowed_may, fits_receive, not_send_receive, data_paired, IsListed, listed_partners, new_pair_is, newly_paired, partners_mutual, ready_need, unready_need, unread_after_next, nothing_after_end}
+use Rattle.goal_graph.proofs.ForCallers.{act_of, contains_first, contains_more, not_happened_before_newest, happened_cases, is_act_class, is_act_op, value_of_is_some, partner_stays, allowed_fresh, allowed_from, allowed_may, fits_receive, not_send_receive, data_paired, IsListed, listed_partners, new_pair_is_of_action, newly_paired, partners_mutual, ready_need, unready_need, unread_after_next, nothing_after_end}
 use Rattle.goal_blocks.specs.Walk.{no_send}
 use Rattle.goal_certify.specs.WalkQueue.{class_at, moves_partner, IsNamedAt, WaitsAt, IsMoved}
 
@@ -28,7 +28,7 @@ is_later op p = p.later == op
 abbrev is_earlier : ℕ → Dep → Bool
 is_earlier op p = p.earlier == op
 
--- one of the needs names that operation, and waits for that moment
+-- one of the needs names that operation, and waits for its start or its end, as given
 abbrev IsListedAt : List Need → ℕ → When → Type 0
 IsListedAt ws op when = (w : Need) × Contains ws w × (w.op ≡ op) × (w.when ≡ when)
 
@@ -36,10 +36,10 @@ one_before : (v : Need) (ws : List Need) (op : ℕ) (when : When) → IsListedAt
 one_before v ws op when n = (n.0, contains_more v ws n.0 n.1, n.2, n.3)
 
 -- a dependency is listed at its earlier side as at its later side
-other_side : (ds : List Dep) (later earlier : ℕ) (d : Need) → Contains (map earlier_of (filter (is_later later) ds)) d → d.op ≡ earlier → IsListedAt (map later_of (filter (is_earlier earlier) ds)) later d.when
-other_side [] later earlier d c e = absurd (omega (arith, c.1))
-other_side (p ∷ ds) later earlier d c e =
-    go (λ q. other_side ds later earlier d q e) (is_later later p) refl (is_earlier earlier p) refl c
+listed_at_earlier_side : (ds : List Dep) (later earlier : ℕ) (d : Need) → Contains (map earlier_of (filter (is_later later) ds)) d → d.op ≡ earlier → IsListedAt (map later_of (filter (is_earlier earlier) ds)) later d.when
+listed_at_earlier_side [] later earlier d c e = absurd (omega (arith, c.1))
+listed_at_earlier_side (p ∷ ds) later earlier d c e =
+    go (λ q. listed_at_earlier_side ds later earlier d q e) (is_later later p) refl (is_earlier earlier p) refl c
   where
     go : (Contains (map earlier_of (filter (is_later later) ds)) d → IsListedAt (map later_of (filter (is_earlier earlier) ds)) later d.when) → (s : Bool) → is_later later p ≡ s → (b : Bool) → is_earlier earlier p ≡ b → Contains (map earlier_of (cond s (p ∷ filter (is_later later) ds) (filter (is_later later) ds))) d → IsListedAt (map later_of (cond b (p ∷ filter (is_earlier earlier) ds) (filter (is_earlier earlier) ds))) later d.when
     go more false l false f q = more q
@@ -51,11 +51,11 @@ other_side (p ∷ ds) later earlier d c e =
     go more true l true f (suc n, k, g) = one_before (later_of p) _ later d.when (more (n, omega (arith, k), g))
     go more true l false f (suc n, k, g) = more (n, omega (arith, k), g)
 
--- what x needs, x waits for, and for that moment of it
+-- x waits for the start or end of each operation that it needs
 waits_at : (plans : List Plan) (x y : OpId) (d : Need) (class : Class) → Contains (needs plans x) d → y ≡ needed x d → class_at d.when (kind_at plans y) ≡ class → WaitsAt plans class y x
 unfolding needs waiting_on
 waits_at plans x y d class c e at =
-    let found = other_side (deps_at plans x.rank) x.op d.op d c refl in
+    let found = listed_at_earlier_side (deps_at plans x.rank) x.op d.op d c refl in
     let same : x.op ≡ found.0.op = sym found.2 in
     let reached : class_at found.0.when (kind_at plans (needed x d)) ≡ class = ap (λ (w : When). class_at w (kind_at plans (needed x d))) found.3 ∙ ap (λ (z : OpId). class_at d.when (kind_at plans z)) (sym e) ∙ at in
     let waits : WaitsAt plans class (needed x d) x = record { need = found.0; listed = found.1; named = λ i. record { rank = x.rank; op = same i }; at = reached } in
@@ -96,7 +96,7 @@ module _ (plans : List Plan) (a : Act) (h : List Act) (now : IsInterleaving plan
   newly_partner x is free taken =
       let p = newly_paired plans a h x free taken in
       let both = listed_partners plans no_send (a ∷ h) p.0 now (listed_new p.0 p.1) in
-      let new = new_pair_is plans a h p.0 p.1 in
+      let new = new_pair_is_of_action plans a h p.0 p.1 in
       go p.0 new.by (λ r. not_send_receive plans x is (subst (λ (y : OpId). IsReceive plans y) r (fits_receive plans p.0.recv p.0.send new.met.fit))) both p.2
     where
       go : (p : Pair) → ((a ≡ act_of Arrive p.send) × (is_paired (pairs plans h) p.recv ≡ false)) ⊎ ((a ≡ act_of Post p.recv) × (is_paired (pairs plans h) p.send ≡ false)) → (p.recv ≡ x → ⊥) → (partner (pairs plans (a ∷ h)) p.send ≡ Some p.recv) × (partner (pairs plans (a ∷ h)) p.recv ≡ Some p.send) → ((p.send ≡ x) ⊎ (p.recv ≡ x)) → MayMove x
@@ -111,7 +111,7 @@ module _ (plans : List Plan) (a : Act) (h : List Act) (now : IsInterleaving plan
       -- its send had transferred its data before, so the two were paired
       before : (m : OpId) → partner (pairs plans (a ∷ h)) x ≡ Some m → happened Data m h ≡ true → is_served plans no_send h (partner (pairs plans h) x) ≡ true
       before m f was =
-          let y = cases_some (partner (pairs plans h) m) (data_paired plans no_send h m now.0 was) in
+          let y = value_of_is_some (partner (pairs plans h) m) (data_paired plans no_send h m now.0 was) in
           let back = partners_mutual plans no_send (a ∷ h) x m now f in
           let same : y.0 ≡ x = same_Some y.0 x (sym (partner_stays plans a h m y.0 y.1) ∙ back) in
           let there = partners_mutual plans no_send h m x now.0 (y.1 ∙ ap Some same) in
@@ -136,17 +136,17 @@ module _ (plans : List Plan) (a : Act) (h : List Act) (now : IsInterleaving plan
   -- an action that a newly allows is one of an operation that it moves
   pub newly_moved : (c : Class) (x : OpId) → allowed plans no_send (a ∷ h) c x ≡ true → (allowed plans no_send h c x ≡ true) ⊎ MayMove x
   newly_moved c x e =
-      let before = happened_before c x a h (allowed_fresh plans no_send (a ∷ h) c x e) in
+      let before = not_happened_before_newest c x a h (allowed_fresh plans no_send (a ∷ h) c x e) in
       ⊎_elim (λ m. inl (allowed_from plans no_send h c x before m)) (λ m. inr m) (newly_may c x (kind_at plans x) refl (allowed_may plans no_send (a ∷ h) c x e))
 
 -- the needs that are not yet read, where this one was read or does not wait for the action
-pub rest_at : (plans : List Plan) (items : List Need) (k : ℕ) (d : Need) (class : Class) (x y : OpId) → k < length items → IsNamedAt plans (drop k items) class x y → (class_at (get_or items k d).when (kind_at plans x) ≡ class → ¬ (y ≡ needed x (get_or items k d))) → IsNamedAt plans (drop (k + 1) items) class x y
-rest_at plans items k d class x y l n differ = record {
+pub named_at_after_next_need : (plans : List Plan) (items : List Need) (k : ℕ) (d : Need) (class : Class) (x y : OpId) → k < length items → IsNamedAt plans (drop k items) class x y → (class_at (get_or items k d).when (kind_at plans x) ≡ class → ¬ (y ≡ needed x (get_or items k d))) → IsNamedAt plans (drop (k + 1) items) class x y
+named_at_after_next_need plans items k d class x y l n differ = record {
   need = n.need;
   listed = unread_after_next items k d n.need l n.listed (λ e. differ (ap (λ (m : Need). class_at m.when (kind_at plans x)) (sym e) ∙ n.at) (n.named ∙ ap (needed x) e));
   named = n.named;
   at = n.at;
 }
 
-pub none_at : (plans : List Plan) (items : List Need) (k : ℕ) (class : Class) (x y : OpId) → length items ≤ k → IsNamedAt plans (drop k items) class x y → ⊥
-none_at plans items k class x y l n = nothing_after_end items k n.need l n.listed
+pub none_named_past_end : (plans : List Plan) (items : List Need) (k : ℕ) (class : Class) (x y : OpId) → length items ≤ k → IsNamedAt plans (drop k items) class x y → ⊥
+none_named_past_end plans items k class x y l n = nothing_after_end items k n.need l n.listed

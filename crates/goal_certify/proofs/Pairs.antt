@@ -18,7 +18,7 @@ use Rattle.goal_certify.specs.declared.ends.End.{End}
 use Rattle.goal_certify.specs.declared.ends.OpAtEnd.{OpAtEnd}
 use Rattle.goal_certify.specs.Ends.{end_of, end_cmp, entry_cmp, other_end, DoRise, DoAlternate, ArePaired, AreEndsOf}
 use Rattle.goal_certify.specs.Stages.{IsFree}
-use Rattle.goal_certify.proofs.EndLemmas.{AreAtEnds, end_exists, double_ends, one_ends, paired_ends, no_end_paired, other_twice}
+use Rattle.goal_certify.proofs.EndLemmas.{AreAtEnds, end_exists, double_ends, at_ends_if_of_one_channel, paired_ends, no_end_paired, other_twice}
 use Rattle.goal_certify.proofs.EndSearch.{end_total, sorted_ends}
 use Rattle.goal_certify.proofs.InOrder.{not_before_itself}
 use Rattle.goal_certify.proofs.StageLemmas.{free_double, free_unpaired, free_lengths, free_joined}
@@ -33,9 +33,9 @@ module _ (entries : List OpAtEnd) (sorted : IsSorted entry_cmp entries) (rise : 
       let far = sorted_far (λ (a b : OpAtEnd). is_lt (end_cmp a.end b.end)) (ranks_by end_total (λ (a : OpAtEnd). a.end)) entries (sorted_ends entries sorted) (i + 1) j d (omega (arith, l)) inside in
       both_ways (is_lt (end_cmp (get_or entries i d).end (get_or entries (i + 1) d).end)) (subst (λ (e : End). is_lt (end_cmp e (get_or entries (i + 1) d).end) ≡ false) (sym same) far) (rise i d (omega (arith, l, inside)))
 
-  -- who stands at one end is one
-  one_at : (e : End) (x y : OpId) → Contains entries (entry e x) → Contains entries (entry e y) → x ≡ y
-  one_at e x y (i, i_in, at_i) (j, j_in, at_j) =
+  -- at each end there is one operation
+  op_at_end_is_unique : (e : End) (x y : OpId) → Contains entries (entry e x) → Contains entries (entry e y) → x ≡ y
+  op_at_end_is_unique e x y (i, i_in, at_i) (j, j_in, at_j) =
       ⊎_elim (λ same. ap (λ (a : OpAtEnd). a.op) (sym at_i ∙ ap (λ (k : ℕ). get_or entries k (entry e x)) same ∙ there)) (λ differ. ⊎_elim (λ l. absurd (ends_are_apart i j (entry e x) l j_in alike)) (λ g. absurd (ends_are_apart j i (entry e x) (omega (arith, g, differ)) i_in (sym alike))) (cases_lt i j)) (cases_eq i j)
     where
       there : get_or entries j (entry e x) ≡ entry e y
@@ -45,18 +45,18 @@ module _ (entries : List OpAtEnd) (sorted : IsSorted entry_cmp entries) (rise : 
       alike = ap (λ (a : OpAtEnd). a.end) at_i ∙ sym (ap (λ (a : OpAtEnd). a.end) there)
 
   pub alternating_are_paired : (pairs : ℕ) → length entries ≡ 2 * pairs → DoAlternate entries pairs → ArePaired entries pairs
-  alternating_are_paired pairs all are = record { all = all; alternate = are; single = one_at }
+  alternating_are_paired pairs all are = record { all = all; alternate = are; single = op_at_end_is_unique }
 
 -- the two operations of each of the first pairs have the same number of slots
 abbrev pub AreAlike : List Plan → List OpAtEnd → ℕ → Type 0
 AreAlike plans entries n = (k : ℕ) (d : OpAtEnd) → k < n → length (slots plans (get_or entries (2 * k) d).op) ≡ length (slots plans (get_or entries (2 * k + 1) d).op)
 
 module _ (plans : List Plan) (entries : List OpAtEnd) where
-  pub alike_more : (n : ℕ) (x y : OpId) → AreAlike plans entries n → ((d : OpAtEnd) → x ≡ (get_or entries (2 * n) d).op) → ((d : OpAtEnd) → y ≡ (get_or entries (2 * n + 1) d).op) → length (slots plans x) ≡ length (slots plans y) → AreAlike plans entries (n + 1)
-  alike_more n x y so_far at_x at_y same k d l =
+  pub alike_with_next_pair : (n : ℕ) (x y : OpId) → AreAlike plans entries n → ((d : OpAtEnd) → x ≡ (get_or entries (2 * n) d).op) → ((d : OpAtEnd) → y ≡ (get_or entries (2 * n + 1) d).op) → length (slots plans x) ≡ length (slots plans y) → AreAlike plans entries (n + 1)
+  alike_with_next_pair n x y so_far at_x at_y same k d l =
       ⊎_elim (λ less. so_far k d less) (λ g. let e : k ≡ n = omega (arith, l, g) in ap (λ (i : ℕ). length (slots plans (get_or entries (2 * i) d).op)) e ∙ ap (λ (z : OpId). length (slots plans z)) (sym (at_x d)) ∙ same ∙ ap (λ (z : OpId). length (slots plans z)) (at_y d) ∙ ap (λ (i : ℕ). length (slots plans (get_or entries (2 * i + 1) d).op)) (sym e)) (cases_lt k n)
 
-  -- who stands at an end exists
+  -- an operation at an end exists
   pub end_has_op : AreEndsOf plans entries → (x : OpId) (j : ℕ) (d : OpAtEnd) → x ≡ (get_or entries j d).op → j < length entries → IsOp plans x
   end_has_op are x j d at l =
       let a = get_or entries j d in
@@ -73,7 +73,7 @@ module _ (plans : List Plan) (entries : List OpAtEnd) (are : AreEndsOf plans ent
       let same : x ≡ y = p.single s.shared x y (are.listed x s.shared s.second_at) (are.listed y s.shared s.first_at) in
       not_before_itself y (subst (λ (z : OpId). IsBefore y z) same d.in_order)
 
-  -- at the other end of its channel stands another
+  -- the other end of its channel has an operation, too
   other_end_exists : (e : End) (x : OpId) → Contains entries (entry e x) → (z : OpId) × (end_of plans z ≡ Some (other_end e))
   other_end_exists e x (i, inside, at) = ⊎_elim before after (even_or_odd i)
     where
@@ -112,7 +112,7 @@ module _ (plans : List Plan) (entries : List OpAtEnd) (are : AreEndsOf plans ent
   no_other_lengths alike m x h = go (are.listed m a.end a.send_at)
     where
       a : AreAtEnds plans m x
-      a = one_ends plans m x h.one
+      a = at_ends_if_of_one_channel plans m x h.one
 
       go : Contains entries (entry a.end m) → ⊥
       go (i, inside, at) = ⊎_elim even odd (even_or_odd i)

@@ -18,10 +18,10 @@ use Rattle.goal_certify.specs.declared.ends.End.{End}
 use Rattle.goal_certify.specs.declared.ends.OpAtEnd.{OpAtEnd}
 use Rattle.goal_certify.specs.Ends.{end_of, other_end, AreEndsOf, IsFirstAt}
 use Rattle.goal_certify.proofs.InOrder.{before_from_less, not_before_itself}
-use Rattle.goal_certify.proofs.EndLemmas.{unpaired_there, paired_there, receive_found, receive_nowhere, one_receive}
+use Rattle.goal_certify.proofs.EndLemmas.{unpaired_if_none_at_other_end, not_unpaired_if_first_at_other_end, receive_found, receive_nowhere, receive_of_channel_is_unique}
 
 module _ (plans : List Plan) where
-  -- who has a fault of channels exists
+  -- an operation with a channel fault exists
   pub wildcard_exists : (x : OpId) → IsWildcard plans x → IsOp plans x
   wildcard_exists x w = (listed_places plans x).0 (kind_listed plans x _ w.kind)
 
@@ -55,7 +55,7 @@ module _ (plans : List Plan) where
         send : (bytes to tag : ℕ) → ◌≡◌ {A = Option Kind} (Some (Recv w.room w.from w.tag)) (Some (Send bytes to tag)) → ⊥
         send bytes to tag e = cc e
 
--- a test and its contrary
+-- a test and its negation
 pub negation_false : (s t : Bool) → s ≡ not t → t ≡ true → s ≡ false
 negation_false s t e q = e ∙ ap not q
 
@@ -64,25 +64,25 @@ negation_true s true e q = refl
 negation_true s false e q = absurd (both_ways s q e)
 
 module _ (plans : List Plan) (entries : List OpAtEnd) (are : AreEndsOf plans entries) where
-  pub unpaired_told : (x : OpId) (e d : End) (r : Option OpId) (t : Bool) → end_of plans x ≡ Some e → d ≡ other_end e → is_some r ≡ not t → IfSome r (IsFirstAt entries d) → IfNone r ((z : OpId) → Contains entries (record { end = d; op = z }) → ⊥) → (IsTrue t → IsUnpaired plans x) × (IsUnpaired plans x → IsTrue t)
-  unpaired_told x e d (Some z) t at is told found none =
-      (λ q. absurd (both_ways true (told ∙ ap not q) refl), λ un. absurd (paired_there plans entries are x z e at (subst (λ (f : End). IsFirstAt entries f z) is found) un))
-  unpaired_told x e d None true at is told found none =
-      (λ q. unpaired_there plans entries are x e at (subst (λ (f : End). (z : OpId) → Contains entries (record { end = f; op = z }) → ⊥) is none), λ un. refl)
-  unpaired_told x e d None false at is told found none = absurd (both_ways true (sym told) refl)
+  pub unpaired_iff_search_finds_none : (x : OpId) (e d : End) (r : Option OpId) (t : Bool) → end_of plans x ≡ Some e → d ≡ other_end e → is_some r ≡ not t → IfSome r (IsFirstAt entries d) → IfNone r ((z : OpId) → Contains entries (record { end = d; op = z }) → ⊥) → (IsTrue t → IsUnpaired plans x) × (IsUnpaired plans x → IsTrue t)
+  unpaired_iff_search_finds_none x e d (Some z) t at is told found none =
+      (λ q. absurd (both_ways true (told ∙ ap not q) refl), λ un. absurd (not_unpaired_if_first_at_other_end plans entries are x z e at (subst (λ (f : End). IsFirstAt entries f z) is found) un))
+  unpaired_iff_search_finds_none x e d None true at is told found none =
+      (λ q. unpaired_if_none_at_other_end plans entries are x e at (subst (λ (f : End). (z : OpId) → Contains entries (record { end = f; op = z }) → ⊥) is none), λ un. refl)
+  unpaired_iff_search_finds_none x e d None false at is told found none = absurd (both_ways true (sym told) refl)
 
-  pub receive_told : (m : OpId) (e d : End) (r : Option OpId) → end_of plans m ≡ Some e → e.is_send ≡ true → d ≡ other_end e → IfSome r (IsFirstAt entries d) → IfSome r (AreOfOneChannel plans m)
-  receive_told m e d (Some x) at b is found =
+  pub found_entry_is_of_channel : (m : OpId) (e d : End) (r : Option OpId) → end_of plans m ≡ Some e → e.is_send ≡ true → d ≡ other_end e → IfSome r (IsFirstAt entries d) → IfSome r (AreOfOneChannel plans m)
+  found_entry_is_of_channel m e d (Some x) at b is found =
       receive_found plans entries are m x e at b (subst (λ (f : End). IsFirstAt entries f x) is found)
-  receive_told m e d None at b is found = tt
+  found_entry_is_of_channel m e d None at b is found = tt
 
-  pub receive_only : (m : OpId) (e d : End) (r : Option OpId) → HasNoDoubleChannel plans → end_of plans m ≡ Some e → e.is_send ≡ true → d ≡ other_end e → IfSome r (IsFirstAt entries d) → IfSome r (λ recv. (x : OpId) → AreOfOneChannel plans m x → x ≡ recv)
-  receive_only m e d (Some x) single at b is found = λ y one. one_receive plans single m x y (receive_told m e d (Some x) at b is found) one
-  receive_only m e d None single at b is found = tt
+  pub found_receive_is_the_only_one : (m : OpId) (e d : End) (r : Option OpId) → HasNoDoubleChannel plans → end_of plans m ≡ Some e → e.is_send ≡ true → d ≡ other_end e → IfSome r (IsFirstAt entries d) → IfSome r (λ recv. (x : OpId) → AreOfOneChannel plans m x → x ≡ recv)
+  found_receive_is_the_only_one m e d (Some x) single at b is found = λ y one. receive_of_channel_is_unique plans single m x y (found_entry_is_of_channel m e d (Some x) at b is found) one
+  found_receive_is_the_only_one m e d None single at b is found = tt
 
-  pub receive_not : (m : OpId) (e d : End) (r : Option OpId) → end_of plans m ≡ Some e → d ≡ other_end e → IfNone r ((z : OpId) → Contains entries (record { end = d; op = z }) → ⊥) → IfNone r ((x : OpId) → AreOfOneChannel plans m x → ⊥)
-  receive_not m e d (Some x) at is none = tt
-  receive_not m e d None at is none =
+  pub no_receive_if_none_found : (m : OpId) (e d : End) (r : Option OpId) → end_of plans m ≡ Some e → d ≡ other_end e → IfNone r ((z : OpId) → Contains entries (record { end = d; op = z }) → ⊥) → IfNone r ((x : OpId) → AreOfOneChannel plans m x → ⊥)
+  no_receive_if_none_found m e d (Some x) at is none = tt
+  no_receive_if_none_found m e d None at is none =
       receive_nowhere plans entries are m e at (subst (λ (f : End). (z : OpId) → Contains entries (record { end = f; op = z }) → ⊥) is none)
 
 -- the number of slots that is read
@@ -91,15 +91,15 @@ count_read plans counts i x are at =
     ap (λ (ns : List ℕ). get_or ns i 0) are ∙ get_or_from_slice_get (map (λ (y : OpId). length (slots plans y)) (operations plans)) i (length (slots plans x)) 0 (slice_get-map (λ (y : OpId). length (slots plans y)) (operations plans) i ∙ ap (option_map (λ (y : OpId). length (slots plans y))) at)
 
 module _ (plans : List Plan) (m x : OpId) (one : AreOfOneChannel plans m x) (only : (y : OpId) → AreOfOneChannel plans m y → y ≡ x) where
-  pub lengths_alike : length (slots plans m) ≡ length (slots plans x) → (y : OpId) → HaveOtherLengths plans m y → ⊥
-  lengths_alike same y h = h.differ (same ∙ ap (λ (z : OpId). length (slots plans z)) (sym (only y h.one)))
+  pub no_other_length_if_equal : length (slots plans m) ≡ length (slots plans x) → (y : OpId) → HaveOtherLengths plans m y → ⊥
+  no_other_length_if_equal same y h = h.differ (same ∙ ap (λ (z : OpId). length (slots plans z)) (sym (only y h.one)))
 
   pub lengths_least : (length (slots plans m) ≡ length (slots plans x) → ⊥) → IsLeast op_key (λ (y : OpId). HaveOtherLengths plans m y) x
   lengths_least differ = record { holds = record { one = one; differ = differ }; none_less = λ y less h. not_before_itself x (subst (λ (z : OpId). IsBefore z x) (only y h.one) (before_from_less y x less)) }
 
 -- what the test of two operations says
-pub other_op : (y x : OpId) → true ≡ not ((y.rank == x.rank) && (y.op == x.op)) → y ≡ x → ⊥
-other_op y x told e =
+pub ops_differ_if_test_true : (y x : OpId) → true ≡ not ((y.rank == x.rank) && (y.op == x.op)) → y ≡ x → ⊥
+ops_differ_if_test_true y x told e =
     both_ways ((x.rank == x.rank) && (x.op == x.op)) (flipped _ (subst (λ (z : OpId). true ≡ not ((z.rank == x.rank) && (z.op == x.op))) e told)) (and_from _ _ (eq-eqb x.rank x.rank refl) (eq-eqb x.op x.op refl))
   where
     flipped : (b : Bool) → true ≡ not b → b ≡ false
@@ -117,5 +117,5 @@ same_op_told y x told =
     flipped true q = refl
     flipped false q = absurd (both_ways true (sym q) refl)
 
-pub none_passes : {P : Type 0} (r : Option OpId) → r ≡ None → IfNone r P → P
-none_passes {P} r e p = subst (λ (s : Option OpId). IfNone s P) e p
+pub holds_if_none : {P : Type 0} (r : Option OpId) → r ≡ None → IfNone r P → P
+holds_if_none {P} r e p = subst (λ (s : Option OpId). IfNone s P) e p

@@ -15,7 +15,7 @@ use Rattle.goal_blocks.specs.Race.{EndsBefore}
 use Rattle.goal_certify.specs.Rows.{has}
 use Rattle.goal_graph.specs.Search.{op_id}
 use Rattle.goal_certify.specs.Before.{AreRows, HasNeedsDone, IsMissing}
-use Rattle.goal_certify.proofs.Before.{some_depth, needed_depth}
+use Rattle.goal_certify.proofs.Before.{depth_bound_is_positive, needed_depth}
 
 -- how many operations are not done
 abbrev pub undone : List Bool → ℕ
@@ -36,12 +36,12 @@ module _ (plans : List Plan) (rank : ℕ) where
     pub needed : (i : ℕ) → i + 1 < length path → (d : Need) × Contains (needs plans (op_id rank (get_or path i 0))) d × (d.op ≡ get_or path (i + 1) 0)
     pub left_out : (i : ℕ) → i < length path → get_or done (get_or path i 0) false ≡ false
 
-  pub path_short : (done : List Bool) (path : List ℕ) → IsPath done path → length path ≤ length (ops_at plans rank)
-  path_short done path p =
+  pub path_at_most_op_count : (done : List Bool) (path : List ℕ) → IsPath done path → length path ≤ length (ops_at plans rank)
+  path_at_most_op_count done path p =
       elim (cases_lt 0 (length path)) [
         | inl some ↦
             let last = p.deep (length path - 1) (omega (arith, some)) in
-            omega (arith, some, some_depth plans _ _ last)
+            omega (arith, some, depth_bound_is_positive plans _ _ last)
         | inr none ↦ omega (arith, none)
       ]
 

@@ -1,4 +1,4 @@
--- The fields of a state before the first action, and after one more.
+-- The fields of a state before the first action, and after another action.
 use Rattle.std.proofs.Common.{◌≡◌, ℕ, true, false, List, [], ◌∷◌, ◌++◌, length, map, take, drop, Option, Some, None, IfSome, refl, sym, ap, ◌∙◌, subst}
 use Rattle.std.proofs.lemmas.List.{reverse-append}
 use Rattle.goal_graph.specs.declared.action.OpId.{OpId}
@@ -16,7 +16,7 @@ use Rattle.goal_certify.specs.declared.walk.action.PlainAction.{PlainAction}
 use Rattle.goal_certify.specs.declared.walk.entry.OpProgress.{OpProgress}
 use Rattle.goal_certify.specs.WalkSoFar.{WalkSoFar, act_of, acts, with_class, with_entry, with_partner, met, more_met, entry_known, Represents}
 use Rattle.goal_certify.specs.WalkQueue.{may_act}
-use Rattle.goal_certify.proofs.AfterAction.{AfterMet, after_met, table_known, partner_there}
+use Rattle.goal_certify.proofs.AfterAction.{AfterMet, after_met, written_table_is_table_after, met_partner_exists}
 
 -- another action is the newest
 acts_push : (items : List PlainAction) (a : PlainAction) → acts (items ++ a ∷ []) ≡ act_of a ∷ acts items
@@ -56,22 +56,22 @@ module _ (plans : List Plan) (h : List Act) (entries : List OpProgress) (matcher
 
     pub partner_exists : (o : Option OpId) → o ≡ met matcher.plans matcher.actions a.class a.op → IfSome o (IsOp plans)
     partner_exists None e = tt
-    partner_exists (Some y) e = partner_there plans h a (Some y) (met_after (Some y) e) y refl
+    partner_exists (Some y) e = met_partner_exists plans h a (Some y) (met_after (Some y) e) y refl
 
     -- the fields after it
     pub represents_after : (new_entries : List OpProgress) (new_matcher : PostsAndArrivals) (o : Option OpId) (entry : OpProgress) → entry ≡ entry_known plans h a.op → o ≡ met matcher.plans matcher.actions a.class a.op → new_matcher.plans ≡ matcher.plans → new_matcher.actions ≡ more_met matcher.actions a.class a.op → new_entries ≡ map (with_partner a.op o (with_entry a.op (with_class a.class entry) (entry_known plans h))) (operations plans) → Represents plans (a ∷ h) new_entries new_matcher
     represents_after new_entries new_matcher o entry was is same more told = record {
       accepted = m.accepted;
       allowed_each = (m.allowed_each, may);
-      known = told ∙ ap (λ (e : OpProgress). map (with_partner a.op o (with_entry a.op (with_class a.class e) (entry_known plans h))) (operations plans)) was ∙ table_known plans h a o (met_after o is);
+      known = told ∙ ap (λ (e : OpProgress). map (with_partner a.op o (with_entry a.op (with_class a.class e) (entry_known plans h))) (operations plans)) was ∙ written_table_is_table_after plans h a o (met_after o is);
       same_plans = same ∙ m.same_plans;
       events = more ∙ ap (λ (l : List Act). more_met l a.class a.op) m.events;
     }
 
--- the same, as they lie
-pub performed : (plans : List Plan) (items : List PlainAction) (entries : List OpProgress) (matcher : PostsAndArrivals) (m : Represents plans (acts items) entries matcher) (a : PlainAction) (may : may_act plans (acts items) a.class a.op ≡ true)
+-- the same for the fields as the program writes them
+pub represents_after_performed : (plans : List Plan) (items : List PlainAction) (entries : List OpProgress) (matcher : PostsAndArrivals) (m : Represents plans (acts items) entries matcher) (a : PlainAction) (may : may_act plans (acts items) a.class a.op ≡ true)
     (new_items : List PlainAction) (payload written : List OpProgress) (new_matcher : PostsAndArrivals) (n : ℕ) (o : Option OpId) (entry done : OpProgress) → entry ≡ entry_known plans (acts items) a.op → done ≡ with_class a.class entry → new_items ≡ items ++ a ∷ [] → n ≡ length entries → payload ≡ entries → length written ≡ length payload → o ≡ met matcher.plans matcher.actions a.class a.op → new_matcher.plans ≡ matcher.plans → new_matcher.actions ≡ more_met matcher.actions a.class a.op → written ≡ map (with_partner a.op o (with_entry a.op done (entry_known plans (acts items)))) (operations plans) → Represents plans (acts new_items) (take n (written ++ drop (length written) entries)) new_matcher
-performed plans items entries matcher m a may new_items payload written new_matcher n o entry done was is_done pushed count same kept is plans_same more told =
+represents_after_performed plans items entries matcher m a may new_items payload written new_matcher n o entry done was is_done pushed count same kept is plans_same more told =
     let table : take n (written ++ drop (length written) entries) ≡ written = borrowed_whole_restored n written entries (kept ∙ ap length same) count in
     let list : act_of a ∷ acts items ≡ acts new_items = sym (ap acts pushed ∙ acts_push items a) in
     let known = table ∙ told ∙ ap (λ (e : OpProgress). map (with_partner a.op o (with_entry a.op e (entry_known plans (acts items)))) (operations plans)) is_done in

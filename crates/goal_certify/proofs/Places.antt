@@ -26,8 +26,8 @@ allowed_exists plans h c x e =
     subst (λ o. is_some o ≡ true) (sym a.is) refl
 
 -- the operation that exists
-pub the_op : (plans : List Plan) (x : OpId) → IsOp plans x → (o : Op) × (op_at plans x ≡ Some o)
-the_op plans x e = go (op_at plans x) refl e
+pub op_at_is_some : (plans : List Plan) (x : OpId) → IsOp plans x → (o : Op) × (op_at plans x ≡ Some o)
+op_at_is_some plans x e = go (op_at plans x) refl e
   where
     go : (q : Option Op) → op_at plans x ≡ q → is_some q ≡ true → (o : Op) × (op_at plans x ≡ Some o)
     go None s f = absurd (cc)

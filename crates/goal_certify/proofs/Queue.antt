@@ -9,7 +9,7 @@ use Rattle.goal_graph.specs.Schedule.{Plan, operations}
 use Rattle.goal_graph.specs.Action.{Act, place, same_op}
 use Rattle.goal_graph.specs.Order.{IsBefore}
 use Rattle.goal_graph.specs.Interleaving.{IsInterleaving, IsCompleteInterleaving}
-use Rattle.goal_graph.proofs.ForCallers.{cases_op, same_op_false, allowed_listed, one_allowed, allowed_stays, operations_in_order, other_place, find_class}
+use Rattle.goal_graph.proofs.ForCallers.{same_or_different_op, same_op_false, allowed_listed, one_allowed, allowed_stays, operations_in_order, operations_at_two_places_differ, find_class}
 use Rattle.goal_blocks.specs.Walk.{no_send, ComesFirst}
 use Rattle.sim_queue.specs.Map.{key_at, IsEmptyMap, IsLeast}
 use Rattle.goal_certify.specs.WalkQueue.{may_act, IsIdle, IsChoice, IsKeyOf, IsQueueBut, IsQueue, IsRefreshed, IsMoved}
@@ -33,9 +33,9 @@ module _ (plans : List Plan) (h : List Act) where
     put = put;
   }
 
-  -- where an operation has got its key it is no longer due
-  pub refreshed : (Due Later : ℕ → OpId → Type 0) (old new : List (Option ℕ)) (x : OpId) → IsQueueBut plans h Due old → IsRefreshed plans h x old new → ((slot : ℕ) (y : OpId) → slice_get (operations plans) slot ≡ Some y → Due slot y → ¬ (y ≡ x) → Later slot y) → IsQueueBut plans h Later new
-  refreshed Due Later old new x q r still = record {
+  -- an operation whose key was refreshed is no longer due
+  pub queue_after_refresh : (Due Later : ℕ → OpId → Type 0) (old new : List (Option ℕ)) (x : OpId) → IsQueueBut plans h Due old → IsRefreshed plans h x old new → ((slot : ℕ) (y : OpId) → slice_get (operations plans) slot ≡ Some y → Due slot y → ¬ (y ≡ x) → Later slot y) → IsQueueBut plans h Later new
+  queue_after_refresh Due Later old new x q r still = record {
     each = ap length r.put ∙ length-set old r.slot r.key ∙ q.each;
     bounds = λ i y e. subst (λ (keys : List (Option ℕ)). IsKeyOf plans h i y (key_at keys i) ⊎ Later i y) (sym r.put) (go i y e (cases_eq i r.slot));
   }
@@ -51,7 +51,7 @@ module _ (plans : List Plan) (h : List Act) where
           inl (subst (λ (k : Option ℕ). IsKeyOf plans h i y k) (sym here) (subst (λ (z : OpId). IsKeyOf plans h i z r.key) same there))
       go i y e (inr d) =
           let there : key_at (set old r.slot r.key) i ≡ key_at old i = get_or-set_other old r.slot i r.key None d in
-          elim (q.bounds i y e) [ inl b ↦ inl (subst (λ (k : Option ℕ). IsKeyOf plans h i y k) (sym there) b) | inr due ↦ inr (still i y e due (other_place plans i r.slot y x e r.is_slot d)) ]
+          elim (q.bounds i y e) [ inl b ↦ inl (subst (λ (k : Option ℕ). IsKeyOf plans h i y k) (sym there) b) | inr due ↦ inr (still i y e due (operations_at_two_places_differ plans i r.slot y x e r.is_slot d)) ]
 
   -- fewer are due
   pub fewer_due : (Due Later : ℕ → OpId → Type 0) (keys : List (Option ℕ)) → IsQueueBut plans h Due keys → ((slot : ℕ) (y : OpId) → slice_get (operations plans) slot ≡ Some y → Due slot y → Later slot y) → IsQueueBut plans h Later keys
@@ -60,7 +60,7 @@ module _ (plans : List Plan) (h : List Act) where
     bounds = λ i y e. elim (q.bounds i y e) [ inl b ↦ inl b | inr due ↦ inr (still i y e due) ];
   }
 
-  -- where all are due nothing is asked
+  -- if all operations are due, only the number of keys matters
   pub all_due : (Due : ℕ → OpId → Type 0) (keys : List (Option ℕ)) → length keys ≡ length (operations plans) → ((slot : ℕ) (y : OpId) → Due slot y) → IsQueueBut plans h Due keys
   all_due Due keys e every = record { each = e; bounds = λ i y f. inr (every i y) }
 
@@ -123,7 +123,7 @@ module _ (plans : List Plan) (h : List Act) where
     own_place : (slot : ℕ) (k : ℕ) (x : OpId) → key_at keys slot ≡ Some k → slice_get (operations plans) slot ≡ Some x → k ≡ slot
     own_place slot k x has at = (subst (λ (o : Option ℕ). IsKeyOf plans h slot x o) has (bound slot x at)).0
 
-    -- what stands earlier in the list of operations is before
+    -- an operation earlier in the list of operations comes before
     earlier_before : (i j : ℕ) (x y : OpId) → i < j → slice_get (operations plans) i ≡ Some x → slice_get (operations plans) j ≡ Some y → IsBefore x y
     earlier_before i j x y l e f =
         let before = operations_in_order plans i j x l (slice_get_within (operations plans) j y f) in
@@ -149,11 +149,11 @@ module _ (plans : List Plan) (h : List Act) where
                 inr (same, omega (arith, ap place classes))
             order (inr d) = inl (earlier_before slot other x b.op (omega (arith, ahead, d)) at is.at)
 
--- one more action
+-- after another action
 module _ (plans : List Plan) (h : List Act) (a : Act) (now : IsInterleaving plans no_send (a ∷ h)) where
   may_act_stays : (c : Class) (x : OpId) → ¬ (x ≡ a.op) → may_act plans h c x ≡ true → may_act plans (a ∷ h) c x ≡ true
   may_act_stays c x d e =
-      elim (cases_op a.op x) [ inl s ↦ absurd (d (sym s)) | inr o ↦ allowed_stays plans no_send a h c x (and_right _ (same_op a.op x) o) e ]
+      elim (same_or_different_op a.op x) [ inl s ↦ absurd (d (sym s)) | inr o ↦ allowed_stays plans no_send a h c x (and_right _ (same_op a.op x) o) e ]
 
   -- the key of an operation stays, or the action moves it
   key_stays : (slot : ℕ) (x : OpId) (k : Option ℕ) → IsKeyOf plans h slot x k → IsKeyOf plans (a ∷ h) slot x k ⊎ IsMoved plans (a ∷ h) a.class a.op x
@@ -162,7 +162,7 @@ module _ (plans : List Plan) (h : List Act) (a : Act) (now : IsInterleaving plan
       go : ((c : Class) × (may_act plans (a ∷ h) c x ≡ true)) ⊎ ((c : Class) → may_act plans (a ∷ h) c x ≡ false) → IsIdle plans (a ∷ h) x ⊎ IsMoved plans (a ∷ h) a.class a.op x
       go (inr none) = inl none
       go (inl (c, t)) = elim (newly_moved plans a h now c x t) [ inl was ↦ absurd (both_ways _ (idle c) was) | inr new ↦ inr new ]
-  key_stays slot x (Some k) b = go (cases_op a.op x)
+  key_stays slot x (Some k) b = go (same_or_different_op a.op x)
     where
       go : (a.op ≡ x) ⊎ (same_op a.op x ≡ false) → IsKeyOf plans (a ∷ h) slot x (Some k) ⊎ IsMoved plans (a ∷ h) a.class a.op x
       go (inl s) = inr (inl (sym s))

@@ -238,7 +238,7 @@ unfolding has
 no_word rows row k i none at =
     ap (λ (j : ℕ). bit (get_or rows j 0) k) at ∙ ap (λ w. bit w k) none ∙ ap (λ b. eqb b 1) (bit_at-zero (k % 64))
 
--- below the lowest 1 of a word stand none
+-- all bits below the lowest 1 of a word are 0
 pub below_lowest : (word i : ℕ) → word < 2 ^ 64 → i < trailing_zeros w64 word → bit_at word i ≡ 0
 below_lowest word i fits low =
     elim (cases_lt 0 word) [
@@ -247,17 +247,17 @@ below_lowest word i fits low =
     ]
 
 -- where the bit is not one of those that the one row has without the other, the other has it too
-pub none_beside : (these : List ℕ) (row : ℕ) (others : List ℕ) (other k : ℕ) → k < certified_op_limit → get_or others (32 * other + k / 64) 0 < 2 ^ 64 → bit_at (bit_and (get_or these (32 * row + k / 64) 0) (bit_not w64 (get_or others (32 * other + k / 64) 0))) (k % 64) ≡ 0 → has these row k ≡ true → has others other k ≡ false → ⊥
+pub covered_if_bit_clear : (these : List ℕ) (row : ℕ) (others : List ℕ) (other k : ℕ) → k < certified_op_limit → get_or others (32 * other + k / 64) 0 < 2 ^ 64 → bit_at (bit_and (get_or these (32 * row + k / 64) 0) (bit_not w64 (get_or others (32 * other + k / 64) 0))) (k % 64) ≡ 0 → has these row k ≡ true → has others other k ≡ false → ⊥
 unfolding has
-none_beside these row others other k small fits none h alone =
+covered_if_bit_clear these row others other k small fits none h alone =
     let x : bit_at (get_or these (32 * row + k / 64) 0) (k % 64) ≡ 1 = equals_one _ h in
     let y : bit_at (get_or others (32 * other + k / 64) 0) (k % 64) ≢ 1 = λ e. true≢false (sym (eq-eqb _ 1 e) ∙ alone) in
     let z : bit_at (get_or others (32 * other + k / 64) 0) (k % 64) < 2 = bit_at-lt _ (k % 64) in
     let n : bit_at (bit_not w64 (get_or others (32 * other + k / 64) 0)) (k % 64) ≡ 1 - bit_at (get_or others (32 * other + k / 64) 0) (k % 64) = bit_at_not w64 _ (k % 64) fits (omega arith) in
     omega (arith, none, n, x, y, z, bit_at_and (get_or these (32 * row + k / 64) 0) (bit_not w64 (get_or others (32 * other + k / 64) 0)) (k % 64))
 
-pub none_alone : (these others : List ℕ) (row k : ℕ) → k < certified_op_limit → get_or others (32 * row + k / 64) 0 < 2 ^ 64 → bit_at (bit_and (get_or these (32 * row + k / 64) 0) (bit_not w64 (get_or others (32 * row + k / 64) 0))) (k % 64) ≡ 0 → has these row k ≡ true → has others row k ≡ false → ⊥
-none_alone these others row k = none_beside these row others row k
+pub covered_if_bit_clear_same_row : (these others : List ℕ) (row k : ℕ) → k < certified_op_limit → get_or others (32 * row + k / 64) 0 < 2 ^ 64 → bit_at (bit_and (get_or these (32 * row + k / 64) 0) (bit_not w64 (get_or others (32 * row + k / 64) 0))) (k % 64) ≡ 0 → has these row k ≡ true → has others row k ≡ false → ⊥
+covered_if_bit_clear_same_row these others row k = covered_if_bit_clear these row others row k
 
 -- the words of two rows at one place, where the first has no number below a bound without the other
 module _ (these : List ℕ) (row : ℕ) (others : List ℕ) (other place bound : ℕ) where
@@ -269,4 +269,4 @@ module _ (these : List ℕ) (row : ℕ) (others : List ℕ) (other place bound :
       let zero_bit : bit_at alone (k % 64) ≡ 0 = ⊎_elim (λ e. ap (λ w. bit_at w (k % 64)) e ∙ bit_at-zero (k % 64)) (λ above. below_lowest alone (k % 64) (omega (arith, and_le_l (get_or these (32 * row + place) 0) (bit_not w64 (get_or others (32 * other + place) 0)), fits_these)) (omega (arith, above, low, here))) none in
       let read : bit_at (bit_and (get_or these (32 * row + k / 64) 0) (bit_not w64 (get_or others (32 * other + k / 64) 0))) (k % 64) ≡ 0 = ap (λ (p : ℕ). bit_at (bit_and (get_or these (32 * row + p) 0) (bit_not w64 (get_or others (32 * other + p) 0))) (k % 64)) here ∙ zero_bit in
       let fits : get_or others (32 * other + k / 64) 0 < 2 ^ 64 = subst (λ (p : ℕ). get_or others (32 * other + p) 0 < 2 ^ 64) (sym here) fits_others in
-      ⊎_elim (λ yes. yes) (λ no. absurd (none_beside these row others other k (omega (arith, low, few)) fits read h no)) (cases_Bool (has others other k))
+      ⊎_elim (λ yes. yes) (λ no. absurd (covered_if_bit_clear these row others other k (omega (arith, low, few)) fits read h no)) (cases_Bool (has others other k))

@@ -16,7 +16,7 @@ use Rattle.goal_certify.specs.declared.segments.SegmentFault.{SegmentFault}
 use Rattle.goal_certify.specs.Stages.{HasNone, IsFree, IsStopped}
 use Rattle.goal_certify.specs.Segments.{IsSegmentFault}
 use Rattle.goal_certify.proofs.StageLemmas.{none_joined}
-use Rattle.goal_certify.proofs.Deciding.{certified, is_fault, IsFaultFrom, told_stopped, told_sooner, told_later}
+use Rattle.goal_certify.proofs.Deciding.{certified, is_fault, IsFaultFrom, fault_from_if_stopped, fault_from_with_later_end, fault_from_with_earlier_start}
 
 -- the slots of the block of that number
 pub block_fits : (width count block : ℕ) → count * width ≤ 2 ^ 32 → block < count → block * width + width ≤ 2 ^ 32
@@ -54,11 +54,11 @@ module _ (what : Collective) (width : ℕ) (plans : List Plan) where
 
       pub stopped_there : (fault : CertFault) → 0 < count → IsStopped plans 0 6 fault → IsTold (record { block = 0; fault = fault })
       stopped_there fault some stopped =
-          told_there 0 fault some (λ k low. absurd (omega (arith, low))) (told_sooner plans (start 0) (wish 0) 0 6 9 fault (omega arith) (told_stopped plans (start 0) (wish 0) 0 6 fault stopped))
+          told_there 0 fault some (λ k low. absurd (omega (arith, low))) (fault_from_with_later_end plans (start 0) (wish 0) 0 6 9 fault (omega arith) (fault_from_if_stopped plans (start 0) (wish 0) 0 6 fault stopped))
 
       pub walked_there : (block : ℕ) (fault : CertFault) → block < count → ((k : ℕ) → k < block → IsCertifiedIn what width k plans) → IsFree plans 0 6 → IsFaultFrom plans (start block) (wish block) 6 9 fault → IsTold (record { block = block; fault = fault })
       walked_there block fault low before free told =
-          told_there block fault low before (told_later plans (start block) (wish block) 0 6 9 fault (omega arith) (free (start block) (wish block)) told)
+          told_there block fault low before (fault_from_with_earlier_start plans (start block) (wish block) 0 6 9 fault (omega arith) (free (start block) (wish block)) told)
 
       pub excluded : (found : SegmentFault) → IsSegmentFault what width count plans found → IsCertifiedIn what width found.block plans → ⊥
       excluded found is good =

@@ -46,8 +46,8 @@ module _ (plans : List Plan) where
       high (All-contains NamesLowSlots p.notes note low (subst (λ (ns : List Note). Contains ns note) (notes_at_some plans rank p e) c))
   not_large rank p e few low light (too_much inside more) = omega (arith, light, more)
 
-  pub none_more_below : (rank : ℕ) (p : Plan) → NoneBelow plans rank → slice_get plans rank ≡ Some p → length p.ops ≤ certified_op_limit → All NamesLowSlots p.notes → sum_by moved_of (take (rank + 1) plans) ≤ moved_limit → NoneBelow plans (rank + 1)
-  none_more_below rank p before e few low light other below large =
+  pub none_large_below_next_rank : (rank : ℕ) (p : Plan) → NoneBelow plans rank → slice_get plans rank ≡ Some p → length p.ops ≤ certified_op_limit → All NamesLowSlots p.notes → sum_by moved_of (take (rank + 1) plans) ≤ moved_limit → NoneBelow plans (rank + 1)
+  none_large_below_next_rank rank p before e few low light other below large =
       ⊎_elim (λ l. before other l large) (λ g. let same : other ≡ rank = omega (arith, below, g) in not_large rank p e few low light (subst (λ (n : ℕ). IsLarge plans n) same large)) (cases_lt other rank)
 
   pub none_large : (n : ℕ) → NoneBelow plans n → length plans ≤ n → (rank : ℕ) → IsLarge plans rank → ⊥
@@ -80,18 +80,18 @@ module _ (plans : List Plan) where
   stopped_by_moves rank p before e more =
       least_large rank before (too_much (slice_get_within plans rank p e) more)
 
--- one more note
+-- counting another note
 pub low_moves : (n : Note) → NamesLowSlots n → moved_count n ≤ slot_limit + 1
 low_moves (Moves op lo hi) low = let l = low.1 in omega (arith, l)
 low_moves (Adds op from to) low = omega arith
 
-pub counted_more : (notes : List Note) (i : ℕ) (d : Note) (count more : ℕ) → i < length notes → count ≡ sum_by moved_count (take i notes) → more ≡ moved_count (get_or notes i d) → count + more ≡ sum_by moved_count (take (i + 1) notes)
-counted_more notes i d count more inside so_far next = omega (arith, so_far, next, sum_by_more moved_count notes i d inside)
+pub moved_sum_with_next_note : (notes : List Note) (i : ℕ) (d : Note) (count more : ℕ) → i < length notes → count ≡ sum_by moved_count (take i notes) → more ≡ moved_count (get_or notes i d) → count + more ≡ sum_by moved_count (take (i + 1) notes)
+moved_sum_with_next_note notes i d count more inside so_far next = omega (arith, so_far, next, sum_by_more moved_count notes i d inside)
 
-pub few_more : (note : Note) (i count more : ℕ) → count ≤ i * (slot_limit + 1) → more ≡ moved_count note → NamesLowSlots note → count + more ≤ (i + 1) * (slot_limit + 1)
-few_more note i count more few next low = omega (arith, few, next, low_moves note low)
+pub moved_bound_with_next_note : (note : Note) (i count more : ℕ) → count ≤ i * (slot_limit + 1) → more ≡ moved_count note → NamesLowSlots note → count + more ≤ (i + 1) * (slot_limit + 1)
+moved_bound_with_next_note note i count more few next low = omega (arith, few, next, low_moves note low)
 
--- one more rank
+-- counting another rank
 pub rank_read : (plans read : List Plan) (rank : ℕ) (p : Plan) → read ≡ plans → rank < length read → p ≡ get_or read rank p → slice_get plans rank ≡ Some p
 rank_read plans read rank p same inside is =
     subst (λ (ps : List Plan). slice_get ps rank ≡ Some p) same (slice_get_read read (length read) rank p refl inside is)

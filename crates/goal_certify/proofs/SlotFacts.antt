@@ -18,7 +18,7 @@ use Rattle.goal_blocks.specs.Slots.{slots_from, moved_by, added_by, slots, adds}
 use Rattle.goal_blocks.specs.Values.{Value, Store, merge, set_slot, write, add_all}
 use Rattle.goal_blocks.specs.Weight.{stored}
 use Rattle.goal_blocks.specs.Certification.{NamesLowSlots, moved_count, IsSmall}
-use Rattle.goal_blocks.proofs.ForCallers.{length_merge, stored_most, stored_set}
+use Rattle.goal_blocks.proofs.ForCallers.{length_merge, slot_length_at_most_stored, stored_set}
 use Rattle.goal_certify.specs.Carried.{size_of, AddsOver}
 use Rattle.goal_certify.proofs.Places.{rank_below, notes_there}
 use Rattle.goal_certify.proofs.Counting.{length-slots_from}
@@ -35,27 +35,27 @@ all_flat P f Q each [] all = all_of_empty P
 all_flat P f Q each (x ∷ xs) all =
     All-append P (f x) (flat_map f xs) (each x (all 0 x (omega arith))) (all_flat P f Q each xs (λ k d l. all (suc k) d (omega (arith, l))))
 
-low_from : (lo n : ℕ) → lo + n ≤ slot_limit + 1 → All IsLow (slots_from lo n)
+slots_from_are_low : (lo n : ℕ) → lo + n ≤ slot_limit + 1 → All IsLow (slots_from lo n)
 unfolding slots_from
-low_from lo zero l = all_of_empty IsLow
-low_from lo (suc n) l = All-append IsLow (lo ∷ []) (slots_from (lo + 1) n) (all_of_single IsLow lo (omega (arith, l))) (low_from (lo + 1) n (omega (arith, l)))
+slots_from_are_low lo zero l = all_of_empty IsLow
+slots_from_are_low lo (suc n) l = All-append IsLow (lo ∷ []) (slots_from (lo + 1) n) (all_of_single IsLow lo (omega (arith, l))) (slots_from_are_low (lo + 1) n (omega (arith, l)))
 
 none_from : (lo : ℕ) → All IsLow (slots_from lo 0)
 unfolding slots_from
 none_from lo = all_of_empty IsLow
 
-some_from : (lo n : ℕ) → (n ≡ 0) ⊎ (lo + n ≤ slot_limit + 1) → All IsLow (slots_from lo n)
-some_from lo n (inl e) = subst (λ (m : ℕ). All IsLow (slots_from lo m)) (sym e) (none_from lo)
-some_from lo n (inr l) = low_from lo n l
+slots_from_low_if_empty_or_inside : (lo n : ℕ) → (n ≡ 0) ⊎ (lo + n ≤ slot_limit + 1) → All IsLow (slots_from lo n)
+slots_from_low_if_empty_or_inside lo n (inl e) = subst (λ (m : ℕ). All IsLow (slots_from lo m)) (sym e) (none_from lo)
+slots_from_low_if_empty_or_inside lo n (inr l) = slots_from_are_low lo n l
 
-cases_from : (lo hi : ℕ) → hi ≤ slot_limit → (hi + 1 - lo ≡ 0) ⊎ (lo + (hi + 1 - lo) ≤ slot_limit + 1)
-cases_from lo hi l = elim (cases_lt hi lo) [ inl less ↦ inl (omega (arith, less)) | inr le ↦ inr (omega (arith, le, l)) ]
+slot_range_is_empty_or_inside : (lo hi : ℕ) → hi ≤ slot_limit → (hi + 1 - lo ≡ 0) ⊎ (lo + (hi + 1 - lo) ≤ slot_limit + 1)
+slot_range_is_empty_or_inside lo hi l = elim (cases_lt hi lo) [ inl less ↦ inl (omega (arith, less)) | inr le ↦ inr (omega (arith, le, l)) ]
 
 moved_low : (op : ℕ) (n : Note) → NamesLowSlots n → All IsLow (moved_by op n)
 moved_low op (Moves of lo hi) low = go (of == op)
   where
     go : (b : Bool) → All IsLow (if b then slots_from lo (hi + 1 - lo) else [])
-    go true = some_from lo (hi + 1 - lo) (cases_from lo hi low.1)
+    go true = slots_from_low_if_empty_or_inside lo (hi + 1 - lo) (slot_range_is_empty_or_inside lo hi low.1)
     go false = all_of_empty IsLow
 moved_low op (Adds of from to) low = all_of_empty IsLow
 
@@ -67,21 +67,21 @@ added_low op (Adds of from to) low = go (of == op)
     go true = all_of_single AddsLow (record { from = from; to = to }) low
     go false = all_of_empty AddsLow
 
-moved_few : (op : ℕ) (n : Note) → length (moved_by op n) ≤ moved_count n
-moved_few op (Moves of lo hi) = go (of == op)
+moved_length_at_most_count : (op : ℕ) (n : Note) → length (moved_by op n) ≤ moved_count n
+moved_length_at_most_count op (Moves of lo hi) = go (of == op)
   where
     go : (b : Bool) → length (if b then slots_from lo (hi + 1 - lo) else []) ≤ hi + 1 - lo
     go true = omega (arith, length-slots_from lo (hi + 1 - lo))
     go false = omega arith
-moved_few op (Adds of from to) = omega arith
+moved_length_at_most_count op (Adds of from to) = omega arith
 
-sum_few : (op : ℕ) (ns : List Note) → length (flat_map (moved_by op) ns) ≤ sum_by moved_count ns
-sum_few op ns = omega (arith, length-flat_map (moved_by op) ns, go ns)
+moved_lengths_at_most_sum : (op : ℕ) (ns : List Note) → length (flat_map (moved_by op) ns) ≤ sum_by moved_count ns
+moved_lengths_at_most_sum op ns = omega (arith, length-flat_map (moved_by op) ns, go ns)
   where
     go : (ns : List Note) → sum_by (λ n. length (moved_by op n)) ns ≤ sum_by moved_count ns
     go [] = omega arith
     go (n ∷ ns) =
-        omega (arith, sum_by-cons (λ n. length (moved_by op n)) n ns, sum_by-cons moved_count n ns, moved_few op n, go ns)
+        omega (arith, sum_by-cons (λ n. length (moved_by op n)) n ns, sum_by-cons moved_count n ns, moved_length_at_most_count op n, go ns)
 
 module _ (plans : List Plan) (small : IsSmall plans) (x : OpId) (is : IsOp plans x) where
   abbrev no_plan : Plan
@@ -106,9 +106,9 @@ module _ (plans : List Plan) (small : IsSmall plans) (x : OpId) (is : IsOp plans
   pub slots_few : length (slots plans x) ≤ moved_limit
   unfolding slots
   slots_few =
-      omega (arith, ap (λ (ns : List Note). length (flat_map (moved_by x.op) ns)) (notes_there plans x is no_plan), sum_few x.op own.notes, get_or-le-sum_by (λ (p : Plan). sum_by moved_count p.notes) plans x.rank no_plan (rank_below plans x is), small.moves)
+      omega (arith, ap (λ (ns : List Note). length (flat_map (moved_by x.op) ns)) (notes_there plans x is no_plan), moved_lengths_at_most_sum x.op own.notes, get_or-le-sum_by (λ (p : Plan). sum_by moved_count p.notes) plans x.rank no_plan (rank_below plans x is), small.moves)
 
--- what is held once values are written: no more than before, and the values
+-- writing values adds at most their size to what is held
 pub stored_write : (ranks rank : ℕ) (ks : List ℕ) (vs : List Value) (s : Store) → rank < ranks → All IsLow ks → stored ranks (write rank ks vs s) ≤ stored ranks s + size_of vs
 unfolding write
 stored_write ranks rank [] vs s low all = omega arith
@@ -128,11 +128,11 @@ pub read_bound : (ranks rank : ℕ) (s : Store) (ks : List ℕ) → rank < ranks
 read_bound ranks rank s [] low all light = omega arith
 read_bound ranks rank s (k ∷ ks) low all light =
     let k_low : k ≤ slot_limit = all 0 k (omega arith) in
-    let most = stored_most ranks rank k s low (omega (arith, k_low)) in
+    let most = slot_length_at_most_stored ranks rank k s low (omega (arith, k_low)) in
     let rest = read_bound ranks rank s ks low (λ i d l. all (suc i) d (omega (arith, l))) light in
     omega (arith, most, rest, light, sum_by-cons (λ k. length (s rank k)) k ks)
 
--- what an operation reads of the slots of its rank is little
+-- an operation reads at most 2^48 contributions from the slots of its rank
 pub read_light : (plans : List Plan) → IsSmall plans → (x : OpId) → IsOp plans x → (ranks : ℕ) (s : Store) → ranks ≡ length plans → stored ranks s ≤ weight_limit → (ks : List ℕ) (vs : List Value) → ks ≡ slots plans x → vs ≡ map (s x.rank) ks → size_of vs ≤ 2 ^ 48
 read_light plans small x is ranks s same light ks vs e f =
     let low : All IsLow ks = subst (All IsLow) (sym e) (slots_low plans small x is) in
@@ -149,8 +149,8 @@ pub add_more : (rank : ℕ) (added : List Adding) (i : ℕ) (d : Adding) (s : St
 add_more rank added i d s l =
     ap (λ (items : List Adding). add_all rank items s) (take_more added i d l) ∙ add_last rank (take i added) (get_or added i d) s
 
-pub stored_more : (ranks rank : ℕ) (added : List Adding) (i : ℕ) (d : Adding) (s : Store) → rank < ranks → i < length added → (get_or added i d).to ≤ slot_limit → stored ranks (add_all rank (take (i + 1) added) s) ≡ stored ranks (add_all rank (take i added) s) + length (add_all rank (take i added) s rank (get_or added i d).from)
-stored_more ranks rank added i d s low l to_low =
+pub stored_after_next_adding : (ranks rank : ℕ) (added : List Adding) (i : ℕ) (d : Adding) (s : Store) → rank < ranks → i < length added → (get_or added i d).to ≤ slot_limit → stored ranks (add_all rank (take (i + 1) added) s) ≡ stored ranks (add_all rank (take i added) s) + length (add_all rank (take i added) s rank (get_or added i d).from)
+stored_after_next_adding ranks rank added i d s low l to_low =
     let a = get_or added i d in
     let t = add_all rank (take i added) s in
     let set = stored_set ranks rank a.to (merge (t rank a.to) (t rank a.from)) t low (omega (arith, to_low)) in
@@ -162,9 +162,9 @@ pub record NotesAdded (rank : ℕ) (added : List Adding) (others : ℕ) (first n
   pub stores : now ≡ add_all rank (take i added) first
   pub within : (n : ℕ) → n ≤ i → stored ranks (add_all rank (take n added) first) + others ≤ weight_limit
 
-pub none_added : (rank : ℕ) (added : List Adding) (others : ℕ) (first : Store) (ranks : ℕ) → stored ranks first + others ≤ weight_limit → NotesAdded rank added others first first ranks ranks 0
+pub notes_added_at_start : (rank : ℕ) (added : List Adding) (others : ℕ) (first : Store) (ranks : ℕ) → stored ranks first + others ≤ weight_limit → NotesAdded rank added others first first ranks ranks 0
 unfolding add_all
-none_added rank added others first ranks light = record {
+notes_added_at_start rank added others first ranks light = record {
   same = refl;
   stores = refl;
   within = λ n l. let e : 0 ≡ n = omega (arith, l) in subst (λ (k : ℕ). stored ranks (add_all rank (take k added) first) + others ≤ weight_limit) e light;
@@ -174,7 +174,7 @@ module _ (rank : ℕ) (added : List Adding) (others : ℕ) (first now : Store) (
   module _ (d : Adding) (inside : i < length added) (below : rank < ranks) (low : All AddsLow added) (size total : ℕ) (size_is : size ≡ length (now rank (get_or added i d).from)) (total_is : total ≡ stored ranks_now now + others + size) where
     next_total : stored ranks (add_all rank (take (i + 1) added) first) + others ≡ total
     next_total =
-        let more = stored_more ranks rank added i d first below inside (low i d inside).1 in
+        let more = stored_after_next_adding ranks rank added i d first below inside (low i d inside).1 in
         omega (arith, more, ap (stored ranks) so_far.stores, ap (λ (n : ℕ). stored n now) so_far.same, size_is, ap (λ (s : Store). length (s rank (get_or added i d).from)) so_far.stores, total_is)
 
     pub added_next : total ≤ weight_limit → (after : Store) (ranks_after : ℕ) → after ≡ set_slot rank (get_or added i d).to (merge (now rank (get_or added i d).to) (now rank (get_or added i d).from)) now → ranks_after ≡ ranks_now → NotesAdded rank added others first after ranks ranks_after (i + 1)

@@ -9,7 +9,7 @@ use Rattle.goal_blocks.specs.Values.{Value, Store}
 use Rattle.goal_blocks.specs.Channels.{HasNoWildcard, HasNoDoubleChannel}
 use Rattle.goal_blocks.specs.Certification.{IsSmall, HasEqualLengths}
 use Rattle.goal_blocks.specs.Faults.{IsLeast, rank_key, op_key, IsLarge, IsWildcard, AreDouble, IsUnpaired, HaveOtherLengths, HasFault, fault_place}
-use Rattle.goal_blocks.proofs.ForCallers.{none_holds, small_from, wildcard_from, double_from, lengths_from}
+use Rattle.goal_blocks.proofs.ForCallers.{holds_of_none_without_least, small_if_no_rank_large, no_wildcard_if_no_fault, no_double_channel_if_no_fault, equal_lengths_if_no_fault}
 use Rattle.goal_certify.specs.Stages.{HasNone, IsFirstOf, IsFree, IsStopped}
 
 module _ (plans : List Plan) where
@@ -139,24 +139,24 @@ module _ (plans : List Plan) where
 
   pub small_free : IsFree plans 0 1 → IsSmall plans
   small_free free =
-      small_from plans (none_holds 1 rank_key (λ n. refl) (IsLarge plans) (λ n l. free no_store no_wish (TooLarge n) (omega arith) (omega arith) l))
+      small_if_no_rank_large plans (holds_of_none_without_least 1 rank_key (λ n. refl) (IsLarge plans) (λ n l. free no_store no_wish (TooLarge n) (omega arith) (omega arith) l))
 
   pub wildcard_free : IsFree plans 1 2 → HasNoWildcard plans
   wildcard_free free =
-      wildcard_from plans (none_holds 2 op_key (λ x. refl) (IsWildcard plans) (λ x l. free no_store no_wish (Wildcard x) (omega arith) (omega arith) l))
+      no_wildcard_if_no_fault plans (holds_of_none_without_least 2 op_key (λ x. refl) (IsWildcard plans) (λ x l. free no_store no_wish (Wildcard x) (omega arith) (omega arith) l))
 
   pub double_free : IsFree plans 2 3 → HasNoDoubleChannel plans
   double_free free =
-      double_from plans (λ y x d. none_holds 2 op_key (λ x. refl) (λ x. (y : OpId) × AreDouble plans y x) (λ x l. least x l) x (y, d))
+      no_double_channel_if_no_fault plans (λ y x d. holds_of_none_without_least 2 op_key (λ x. refl) (λ x. (y : OpId) × AreDouble plans y x) (λ x l. least x l) x (y, d))
     where
       least : (x : OpId) → IsLeast op_key (λ x. (y : OpId) × AreDouble plans y x) x → ⊥
       least x l =
-          none_holds 2 op_key (λ y. refl) (λ y. AreDouble plans y x) (λ y f. free no_store no_wish (DoubleChannel y x) (omega arith) (omega arith) (l, f)) l.holds.0 l.holds.1
+          holds_of_none_without_least 2 op_key (λ y. refl) (λ y. AreDouble plans y x) (λ y f. free no_store no_wish (DoubleChannel y x) (omega arith) (omega arith) (l, f)) l.holds.0 l.holds.1
 
   pub lengths_free : IsFree plans 4 5 → HasEqualLengths plans
   lengths_free free =
-      lengths_from plans (λ m x d. none_holds 2 op_key (λ m. refl) (λ m. (x : OpId) × HaveOtherLengths plans m x) (λ m l. least m l) m (x, d))
+      equal_lengths_if_no_fault plans (λ m x d. holds_of_none_without_least 2 op_key (λ m. refl) (λ m. (x : OpId) × HaveOtherLengths plans m x) (λ m l. least m l) m (x, d))
     where
       least : (m : OpId) → IsLeast op_key (λ m. (x : OpId) × HaveOtherLengths plans m x) m → ⊥
       least m l =
-          none_holds 2 op_key (λ x. refl) (λ x. HaveOtherLengths plans m x) (λ x f. free no_store no_wish (Lengths m x) (omega arith) (omega arith) (l, f)) l.holds.0 l.holds.1
+          holds_of_none_without_least 2 op_key (λ x. refl) (λ x. HaveOtherLengths plans m x) (λ x f. free no_store no_wish (Lengths m x) (omega arith) (omega arith) (l, f)) l.holds.0 l.holds.1

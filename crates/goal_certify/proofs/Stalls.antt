@@ -30,19 +30,19 @@ module _ (plans : List Plan) where
   free_stalls none first wanted (Wrong rank slot) from under has = omega (arith, under)
   free_stalls none first wanted NoMemory from under has = omega (arith, under)
 
-  -- what stands earlier in the list of operations is before
+  -- an operation earlier in the list of operations comes before
   pub earlier_before : (i j : ℕ) (x y : OpId) → i < j → slice_get (operations plans) i ≡ Some x → slice_get (operations plans) j ≡ Some y → IsBefore x y
   earlier_before i j x y l e f =
       let before = operations_in_order plans i j x l (slice_get_within (operations plans) j y f) in
       subst (λ (z : OpId). IsBefore z y) (get_or_from_slice_get (operations plans) i x x e) (subst (λ (z : OpId). IsBefore (get_or (operations plans) i x) z) (get_or_from_slice_get (operations plans) j y x f) before)
 
   -- an operation with a lesser key stands earlier
-  not_both : (x y : OpId) → IsBefore x y → IsLess (op_key y) (op_key x) → ⊥
-  not_both x y (inl l) (inl m) = omega (arith, l, m)
-  not_both x y (inl l) (inr (e, m)) = omega (arith, l, e)
-  not_both x y (inr (e, l)) (inl m) = omega (arith, e, m)
-  not_both x y (inr (e, l)) (inr (f, inl m)) = omega (arith, l, m)
-  not_both x y (inr (e, l)) (inr (f, inr (g, none))) = none
+  before_excludes_lesser_key : (x y : OpId) → IsBefore x y → IsLess (op_key y) (op_key x) → ⊥
+  before_excludes_lesser_key x y (inl l) (inl m) = omega (arith, l, m)
+  before_excludes_lesser_key x y (inl l) (inr (e, m)) = omega (arith, l, e)
+  before_excludes_lesser_key x y (inr (e, l)) (inl m) = omega (arith, e, m)
+  before_excludes_lesser_key x y (inr (e, l)) (inr (f, inl m)) = omega (arith, l, m)
+  before_excludes_lesser_key x y (inr (e, l)) (inr (f, inr (g, none))) = none
 
   not_itself : (x y : OpId) → x ≡ y → IsLess (op_key y) (op_key x) → ⊥
   not_itself x y s (inl l) = omega (arith, l, ap (λ (z : OpId). z.rank) s)
@@ -89,7 +89,7 @@ module _ (plans : List Plan) where
             go (inl m) other = not_stalled y (below i y m e) is
             go (inr m) (inl s) =
                 not_itself x y (same_Some x y (sym at ∙ ap (slice_get (operations plans)) (sym s) ∙ e)) l
-            go (inr m) (inr d) = not_both x y (earlier_before k i x y (omega (arith, m, d)) at e) l
+            go (inr m) (inr d) = before_excludes_lesser_key x y (earlier_before k i x y (omega (arith, m, d)) at e) l
 
         least : IsLeast op_key (IsStalled plans) x
         least = record {

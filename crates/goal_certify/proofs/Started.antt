@@ -40,12 +40,12 @@ module _ (plans : List Plan) (first : Store) where
   start_store = refl
 
   -- nothing is under way
-  kept_nothing : (m : OpId) → parcel_under_way plans [] start m ≡ None
-  kept_nothing m = rw (happened_none Data m) refl
+  no_parcel_at_start : (m : OpId) → parcel_under_way plans [] start m ≡ None
+  no_parcel_at_start m = rw (happened_none Data m) refl
 
-  kept_none : (xs : List OpId) → map (parcel_under_way plans [] start) xs ≡ replicate (length xs) None
-  kept_none [] = refl
-  kept_none (x ∷ xs) = λ i. kept_nothing x i ∷ kept_none xs i
+  parcels_at_start_are_none : (xs : List OpId) → map (parcel_under_way plans [] start) xs ≡ replicate (length xs) None
+  parcels_at_start_are_none [] = refl
+  parcels_at_start_are_none (x ∷ xs) = λ i. no_parcel_at_start x i ∷ parcels_at_start_are_none xs i
 
   none_carried : (n : ℕ) → sum_by parcel_size (replicate n None) ≡ 0
   none_carried zero = refl
@@ -55,7 +55,7 @@ module _ (plans : List Plan) (first : Store) where
 
   start_carried : carried plans [] start ≡ 0
   start_carried =
-      carried_kept plans [] start ∙ ap (λ (ps : List (Option ParcelValues)). sum_by parcel_size ps) (kept_none (operations plans)) ∙ none_carried (length (operations plans))
+      carried_kept plans [] start ∙ ap (λ (ps : List (Option ParcelValues)). sum_by parcel_size ps) (parcels_at_start_are_none (operations plans)) ∙ none_carried (length (operations plans))
 
   start_weight : weight plans [] start ≡ stored (length plans) first
   start_weight =
@@ -66,7 +66,7 @@ module _ (plans : List Plan) (first : Store) where
   carrying_at_start s parcels is ranks none light = record {
     values_are = is ∙ sym start_store;
     ranks = ranks;
-    parcels_are = none ∙ sym (kept_none (operations plans));
+    parcels_are = none ∙ sym (parcels_at_start_are_none (operations plans));
     counted = sym start_carried;
     light = omega (arith, light, start_weight);
   }
@@ -75,10 +75,10 @@ module _ (plans : List Plan) (first : Store) where
   started_heavy wanted total is over =
       weight_first plans first wanted [] total tt tt (start_weight ∙ sym is, over)
 
--- a rank of which something is wanted is one of the ranks
-wanted_inside : (what : Collective) (ranks r k : ℕ) (v : Value) → wanted what ranks r k v ≡ false → r < ranks
+-- a value that differs from the wanted one is at one of the ranks
+unwanted_value_is_at_a_rank : (what : Collective) (ranks r k : ℕ) (v : Value) → wanted what ranks r k v ≡ false → r < ranks
 unfolding wanted
-wanted_inside what ranks r k v unwanted = go (nat_lt r ranks) refl unwanted
+unwanted_value_is_at_a_rank what ranks r k v unwanted = go (nat_lt r ranks) refl unwanted
   where
     go : (b : Bool) → nat_lt r ranks ≡ b → cond b (wanted_at what ranks r k v) true ≡ false → r < ranks
     go true e q = ltb-true r ranks e
@@ -109,19 +109,19 @@ module _ (plans : List Plan) (what : Collective) (width block : ℕ) (s : Kept) 
   wanted_at_end rank slot =
       ap (λ (n : ℕ). wanted_in what width block n rank slot (values s rank slot)) left.ranks ∙ ap (λ (v : Store). wish rank slot (v rank slot)) left.values_are
 
-  pub ended_right : ((rank slot : ℕ) → wanted_in what width block s.ranks rank slot (values s rank slot) ≡ true) → HasNone plans first wish 7 9
-  ended_right right =
+  pub no_value_fault_if_all_wanted : ((rank slot : ℕ) → wanted_in what width block s.ranks rank slot (values s rank slot) ≡ true) → HasNone plans first wish 7 9
+  no_value_fault_if_all_wanted right =
       values_none plans first wish w left.is_walk left.light (λ rank slot inside. sym (wanted_at_end rank slot) ∙ right rank slot)
 
-  pub ended_wrong : (rank slot : ℕ) → IsLeast slot_key (λ (a : SlotAt). wanted_in what width block s.ranks a.rank a.slot (values s a.rank a.slot) ≡ false) (record { rank = rank; slot = slot }) → IsFirstOf plans first wish 7 9 (Wrong rank slot)
-  ended_wrong rank slot least =
+  pub least_wrong_slot_is_first_fault : (rank slot : ℕ) → IsLeast slot_key (λ (a : SlotAt). wanted_in what width block s.ranks a.rank a.slot (values s a.rank a.slot) ≡ false) (record { rank = rank; slot = slot }) → IsFirstOf plans first wish 7 9 (Wrong rank slot)
+  least_wrong_slot_is_first_fault rank slot least =
       let unwanted = sym (wanted_at_end rank slot) ∙ least.holds in
-      wrong_first plans first wish w left.is_walk left.light rank slot (wanted_inside what (length plans) rank (exchange width block slot) _ unwanted) unwanted (λ other less inside. ⊎_elim (λ e. e) (λ e. absurd (least.none_less other less (wanted_at_end other.rank other.slot ∙ e))) (cases_Bool (wish other.rank other.slot (value plans no_send first w other.rank other.slot))))
+      wrong_first plans first wish w left.is_walk left.light rank slot (unwanted_value_is_at_a_rank what (length plans) rank (exchange width block slot) _ unwanted) unwanted (λ other less inside. ⊎_elim (λ e. e) (λ e. absurd (least.none_less other less (wanted_at_end other.rank other.slot ∙ e))) (cases_Bool (wish other.rank other.slot (value plans no_send first w other.rank other.slot))))
 
 -- what stopped the walk with its values is the first fault of the last two kinds, whatever is wanted
-pub stopped_over : (plans : List Plan) (first : Store) (h : List Act) (fault : CertFault) → IsInterleaving plans no_send h → TakesFirst plans h → IsOver (λ total. IsFirstTooHeavy plans first h total) fault → (fault ≡ NoMemory) ⊎ ((wanted : ℕ → ℕ → Value → Bool) → IsFirstOf plans first wanted 7 9 fault)
-stopped_over plans store h fault run takes (inl e) = inl e
-stopped_over plans store h fault run takes (inr over) =
+pub no_memory_or_first_fault_if_over : (plans : List Plan) (first : Store) (h : List Act) (fault : CertFault) → IsInterleaving plans no_send h → TakesFirst plans h → IsOver (λ total. IsFirstTooHeavy plans first h total) fault → (fault ≡ NoMemory) ⊎ ((wanted : ℕ → ℕ → Value → Bool) → IsFirstOf plans first wanted 7 9 fault)
+no_memory_or_first_fault_if_over plans store h fault run takes (inl e) = inl e
+no_memory_or_first_fault_if_over plans store h fault run takes (inr over) =
     inr (λ wanted. subst (λ (f : CertFault). IsFirstOf plans store wanted 7 9 f) (sym over.1) (weight_first plans store wanted h over.0 run takes over.2))
 
 -- before the first step nothing is under way

@@ -38,7 +38,7 @@ module _ (old new : WalkSoFar) (a : PlainAction) (after : new ≡ with_action ol
   cursors_after cursors cur =
       subst (λ (v : WalkSoFar). AreCursors v.plans v.history cursors) (sym after) (cursors_kept old.plans no_send (act_of a) old.history cursors cur)
 
--- with each step fewer are left
+-- with each step, fewer actions are left
 pub fewer_left : (old new : WalkSoFar) (r : Option PlainAction) → is_some r ≡ true → IfSome r (λ a. new ≡ with_action old a) → IsInterleaving new.plans no_send new.history → 3 * length (operations new.plans) - length new.history < 3 * length (operations old.plans) - length old.history
 fewer_left old new None t after each = absurd (cc)
 fewer_left old new (Some a) t after each =
@@ -47,7 +47,7 @@ fewer_left old new (Some a) t after each =
     let history = ap (λ (v : WalkSoFar). length v.history) after in
     omega (arith, most, plans, history)
 
--- and more has happened
+-- the history grows
 pub later_after : (old new : WalkSoFar) (r : Option PlainAction) (h : List Act) → is_some r ≡ true → IfSome r (λ a. new ≡ with_action old a) → IsLater h old.history → IsLater h new.history
 later_after old new None h t after later = absurd (cc)
 later_after old new (Some a) h t after later =
@@ -57,7 +57,7 @@ pub plans_after : (old new : WalkSoFar) (r : Option PlainAction) → is_some r �
 plans_after old new None t after = absurd (cc)
 plans_after old new (Some a) t after = ap (λ (v : WalkSoFar). v.plans) after
 
--- where nothing happens any more
+-- if no action is left, the walk is complete
 pub walk_at : (old new : WalkSoFar) (r : Option PlainAction) → is_some r ≡ false → IfNone r (IsWalk old.plans old.history) → IfNone r (new ≡ old) → IsWalk new.plans new.history
 walk_at old new (Some a) t walk same = absurd (cc)
 walk_at old new None t walk same = subst (λ (v : WalkSoFar). IsWalk v.plans v.history) (sym same) walk

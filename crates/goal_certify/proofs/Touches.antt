@@ -1,4 +1,4 @@
--- The list of touches has what the operations of a rank touch and write, and no more.
+-- The list of touches has exactly what the operations of a rank touch and write.
 use Rattle.std.proofs.Common.{⊎_elim, ℕ, zero, suc, ◌+◌, ◌-◌, ◌≡◌, ◌<◌, ◌≤◌, ◌==◌, Bool, true, false, List, [], ◌∷◌, ◌++◌, length, map, flat_map, All, Contains, Option, Some, None, slice_get, unwrap_or, if◌then◌else◌, refl, sym, ap, ◌∙◌, subst, arith, eq-eqb, append-nil, append_assoc}
 use Rattle.std.specs.Option.{option_map, option_and_then}
 use Rattle.std.proofs.lemmas.Bool.{eqb-true}
@@ -42,19 +42,19 @@ slots_more lo (suc n) =
     let one : suc n + 1 ≡ suc (n + 1) = omega arith in
     ap (slots_from lo) one ∙ ap (λ (ks : List ℕ). lo ∷ ks) (slots_more (lo + 1) n ∙ ap (λ (k : ℕ). slots_from (lo + 1) n ++ k ∷ []) e)
 
-slots_high : (lo n k : ℕ) → Contains (slots_from lo n) k → k < lo + n
+slots_from_below_end : (lo n k : ℕ) → Contains (slots_from lo n) k → k < lo + n
 unfolding slots_from
-slots_high lo zero k c = absurd (omega (arith, c.1))
-slots_high lo (suc n) k (zero, b, e) = let f : lo ≡ k = e in omega arith
-slots_high lo (suc n) k (suc i, b, e) =
-    let r : k < (lo + 1) + n = slots_high (lo + 1) n k (i, omega (arith, b), e) in omega arith
+slots_from_below_end lo zero k c = absurd (omega (arith, c.1))
+slots_from_below_end lo (suc n) k (zero, b, e) = let f : lo ≡ k = e in omega arith
+slots_from_below_end lo (suc n) k (suc i, b, e) =
+    let r : k < (lo + 1) + n = slots_from_below_end (lo + 1) n k (i, omega (arith, b), e) in omega arith
 
 same_number : (k : ℕ) → (k == k) ≡ true
 same_number k = eq-eqb k k refl
 
 -- a test of numbers that passes
-is_number : (k n : ℕ) → (k == n) ≡ true → k ≡ n
-is_number k n h = eqb-true k n h
+equal_if_number_test_true : (k n : ℕ) → (k == n) ≡ true → k ≡ n
+equal_if_number_test_true k n h = eqb-true k n h
 
 -- another touch of an operation that moves slots
 pub moved_none : (op : ℕ) (writes : Bool) (lo : ℕ) (ts : List Touch) → ts ≡ ts ++ moved op writes (slots_from lo (lo - lo))
@@ -127,15 +127,15 @@ module _ (plans : List Plan) (rank : ℕ) (p : Plan) (at : slice_get plans rank 
       ∙ ap (written_in (kind k) (flat_map (moved_by k) p.notes)) (adds_are k)
 
   -- a slot that a note moves is one that its operation moves
-  moves_there : (op lo hi s : ℕ) → Contains p.notes (Moves op lo hi) → Contains (slots_from lo (hi + 1 - lo)) s → Contains (flat_map (moved_by op) p.notes) s
-  moves_there op lo hi s cn cs =
+  slot_of_note_is_moved : (op lo hi s : ℕ) → Contains p.notes (Moves op lo hi) → Contains (slots_from lo (hi + 1 - lo)) s → Contains (flat_map (moved_by op) p.notes) s
+  slot_of_note_is_moved op lo hi s cn cs =
       flat_map_in (moved_by op) p.notes (Moves op lo hi) s cn (subst (λ (b : Bool). Contains (if b then slots_from lo (hi + 1 - lo) else []) s) (sym (same_number op)) cs)
 
   abbrev adding : ℕ → ℕ → Adding
   adding from to = record { from = from; to = to }
 
-  adds_there : (op from to : ℕ) → Contains p.notes (Adds op from to) → Contains (flat_map (added_by op) p.notes) (adding from to)
-  adds_there op from to cn =
+  adding_of_note_is_added : (op from to : ℕ) → Contains p.notes (Adds op from to) → Contains (flat_map (added_by op) p.notes) (adding from to)
+  adding_of_note_is_added op from to cn =
       flat_map_in (added_by op) p.notes (Adds op from to) (adding from to) cn (subst (λ (b : Bool). Contains (if b then adding from to ∷ [] else []) (adding from to)) (sym (same_number op)) (contains_first (adding from to) [] (adding from to) refl))
 
   -- what a touch is, by the kind of its operation
@@ -146,18 +146,18 @@ module _ (plans : List Plan) (rank : ℕ) (p : Plan) (at : slice_get plans rank 
   unfolding moved
   noted_touch (Moves op lo hi) (Some (Send bytes to tag)) t cn ct =
       let m = contains_source (λ (s : ℕ). record { op = op; slot = s; writes = false }) (slots_from lo (hi + 1 - lo)) t ct in
-      subst (λ (u : Touch). (op ≡ u.op) × Fits (Some (Send bytes to tag)) u) m.2 (refl, (moves_there op lo hi m.0 cn m.1, λ e. absurd (cc e)))
+      subst (λ (u : Touch). (op ≡ u.op) × Fits (Some (Send bytes to tag)) u) m.2 (refl, (slot_of_note_is_moved op lo hi m.0 cn m.1, λ e. absurd (cc e)))
   noted_touch (Moves op lo hi) (Some (Recv room from tag)) t cn ct =
       let m = contains_source (λ (s : ℕ). record { op = op; slot = s; writes = true }) (slots_from lo (hi + 1 - lo)) t ct in
-      subst (λ (u : Touch). (op ≡ u.op) × Fits (Some (Recv room from tag)) u) m.2 (refl, (moves_there op lo hi m.0 cn m.1, λ e. moves_there op lo hi m.0 cn m.1))
+      subst (λ (u : Touch). (op ≡ u.op) × Fits (Some (Recv room from tag)) u) m.2 (refl, (slot_of_note_is_moved op lo hi m.0 cn m.1, λ e. slot_of_note_is_moved op lo hi m.0 cn m.1))
   noted_touch (Moves op lo hi) (Some (Calc nanos)) t cn ct = absurd (omega (arith, ct.1))
   noted_touch (Moves op lo hi) None t cn ct = absurd (omega (arith, ct.1))
   noted_touch (Adds op from to) (Some (Calc nanos)) t cn (zero, b, e) =
       let a : Adding = record { from = from; to = to } in
-      subst (λ (u : Touch). (op ≡ u.op) × Fits (Some (Calc nanos)) u) e (refl, (flat_map_in (λ (a : Adding). a.from ∷ a.to ∷ []) (flat_map (added_by op) p.notes) a from (adds_there op from to cn) (contains_first from (to ∷ []) from refl), λ e. absurd (cc e)))
+      subst (λ (u : Touch). (op ≡ u.op) × Fits (Some (Calc nanos)) u) e (refl, (flat_map_in (λ (a : Adding). a.from ∷ a.to ∷ []) (flat_map (added_by op) p.notes) a from (adding_of_note_is_added op from to cn) (contains_first from (to ∷ []) from refl), λ e. absurd (cc e)))
   noted_touch (Adds op from to) (Some (Calc nanos)) t cn (suc zero, b, e) =
       let a : Adding = record { from = from; to = to } in
-      subst (λ (u : Touch). (op ≡ u.op) × Fits (Some (Calc nanos)) u) e (refl, (flat_map_in (λ (a : Adding). a.from ∷ a.to ∷ []) (flat_map (added_by op) p.notes) a to (adds_there op from to cn) (contains_more from (to ∷ []) to (contains_first to [] to refl)), λ e. contains_mapped (λ (a : Adding). a.to) (flat_map (added_by op) p.notes) a (adds_there op from to cn)))
+      subst (λ (u : Touch). (op ≡ u.op) × Fits (Some (Calc nanos)) u) e (refl, (flat_map_in (λ (a : Adding). a.from ∷ a.to ∷ []) (flat_map (added_by op) p.notes) a to (adding_of_note_is_added op from to cn) (contains_more from (to ∷ []) to (contains_first to [] to refl)), λ e. contains_mapped (λ (a : Adding). a.to) (flat_map (added_by op) p.notes) a (adding_of_note_is_added op from to cn)))
   noted_touch (Adds op from to) (Some (Calc nanos)) t cn (suc (suc k), b, e) = absurd (omega (arith, b))
   noted_touch (Adds op from to) (Some (Send bytes target tag)) t cn ct = absurd (omega (arith, ct.1))
   noted_touch (Adds op from to) (Some (Recv room source tag)) t cn ct = absurd (omega (arith, ct.1))
@@ -194,7 +194,7 @@ module _ (plans : List Plan) (rank : ℕ) (p : Plan) (at : slice_get plans rank 
           where
             test : (b : Bool) → (of == k) ≡ b → Contains (if b then slots_from lo (hi + 1 - lo) else []) s → Found w
             test true e cs =
-                there lo hi (subst (λ (j : ℕ). Contains p.notes (Moves j lo hi)) (is_number of k e) cn) cs
+                there lo hi (subst (λ (j : ℕ). Contains p.notes (Moves j lo hi)) (equal_if_number_test_true of k e) cn) cs
             test false e cs = absurd (omega (arith, cs.1))
         by_note (Adds of from to) cn cs = absurd (omega (arith, cs.1))
 
@@ -208,7 +208,7 @@ module _ (plans : List Plan) (rank : ℕ) (p : Plan) (at : slice_get plans rank 
         where
           test : (b : Bool) → (of == k) ≡ b → Contains (if b then adding from to ∷ [] else []) a → Contains p.notes (Adds k a.from a.to)
           test true e (zero, b, f) =
-              subst (λ (x : Adding). Contains p.notes (Adds k x.from x.to)) f (subst (λ (j : ℕ). Contains p.notes (Adds j from to)) (is_number of k e) cn)
+              subst (λ (x : Adding). Contains p.notes (Adds k x.from x.to)) f (subst (λ (j : ℕ). Contains p.notes (Adds j from to)) (equal_if_number_test_true of k e) cn)
           test true e (suc i, b, f) = absurd (omega (arith, b))
           test false e ca = absurd (omega (arith, ca.1))
 
@@ -266,12 +266,12 @@ module _ (plans : List Plan) (rank : ℕ) (p : Plan) (at : slice_get plans rank 
   unfolding moved
   touch_is_low (Moves op lo hi) (Some (Send bytes to tag)) t l c =
       let m = contains_source (λ (s : ℕ). record { op = op; slot = s; writes = false }) (slots_from lo (hi + 1 - lo)) t c in
-      let h : m.0 < lo + (hi + 1 - lo) = slots_high lo (hi + 1 - lo) m.0 m.1 in
+      let h : m.0 < lo + (hi + 1 - lo) = slots_from_below_end lo (hi + 1 - lo) m.0 m.1 in
       let f : m.0 ≡ t.slot = ap (λ (u : Touch). u.slot) m.2 in
       omega (arith, h, f, l.0, l.1)
   touch_is_low (Moves op lo hi) (Some (Recv room from tag)) t l c =
       let m = contains_source (λ (s : ℕ). record { op = op; slot = s; writes = true }) (slots_from lo (hi + 1 - lo)) t c in
-      let h : m.0 < lo + (hi + 1 - lo) = slots_high lo (hi + 1 - lo) m.0 m.1 in
+      let h : m.0 < lo + (hi + 1 - lo) = slots_from_below_end lo (hi + 1 - lo) m.0 m.1 in
       let f : m.0 ≡ t.slot = ap (λ (u : Touch). u.slot) m.2 in
       omega (arith, h, f, l.0, l.1)
   touch_is_low (Moves op lo hi) (Some (Calc nanos)) t l c = absurd (omega (arith, c.1))

@@ -118,8 +118,8 @@ no_turn_key words count k off =
       | inr past ↦ get_or_past (turns_of words count) k None (omega (arith, length_turns words count))
     ]
 
-pub place_there : (words : List ℕ) (count k p : ℕ) → key_at (turns_of words count) k ≡ Some p → (is_on words k ≡ true) × (p ≡ k)
-place_there words count k p e = go (is_on words k) refl
+pub key_at_place_is_on : (words : List ℕ) (count k p : ℕ) → key_at (turns_of words count) k ≡ Some p → (is_on words k ≡ true) × (p ≡ k)
+key_at_place_is_on words count k p e = go (is_on words k) refl
   where
     none_some : None ≡ Some p → ⊥
     none_some f = cc
@@ -216,10 +216,10 @@ pub no_bits : (n k : ℕ) → is_on (replicate n 0) k ≡ false
 unfolding is_on
 no_bits n k = ap (λ w. bit w k) (zero_at n (k / 64)) ∙ ap (λ b. eqb b 1) (bit_at-zero (k % 64))
 
--- the lowest bit of the first word that the heads tell of is the lowest of all
+-- the lowest bit of the first word marked in the heads is the lowest of all
 module _ (words heads : List ℕ) (count : ℕ) (was : AreTurns words heads count) where
-  pub none_at_all : ((a : ℕ) → get_or heads a 0 ≡ 0) → IsEmptyMap (turns_of words count)
-  none_at_all none k = no_turn_key words count k (go (is_on words k) refl)
+  pub empty_map_if_heads_zero : ((a : ℕ) → get_or heads a 0 ≡ 0) → IsEmptyMap (turns_of words count)
+  empty_map_if_heads_zero none k = no_turn_key words count k (go (is_on words k) refl)
     where
       go : (b : Bool) → is_on words k ≡ b → is_on words k ≡ false
       go false off = off
@@ -245,7 +245,7 @@ module _ (words heads : List ℕ) (count : ℕ) (was : AreTurns words heads coun
     is_least = record {
       has = turn_key words count place (was.low place place_on) place_on;
       least = λ other k e.
-          let o = place_there words count other k e in
+          let o = key_at_place_is_on words count other k e in
           elim (cases_lt k place) [
             | inl less ↦ absurd (none_before other (omega (arith, less, o.1)) o.0)
             | inr past ↦ le-ltb k place past

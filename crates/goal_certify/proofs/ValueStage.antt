@@ -10,7 +10,7 @@ use Rattle.goal_blocks.specs.Walk.{no_send, TakesFirst, IsWalk}
 use Rattle.goal_blocks.specs.Values.{Value, Store, value}
 use Rattle.goal_blocks.specs.Certification.{IsLight, HoldsWanted}
 use Rattle.goal_blocks.specs.Faults.{IsLeast, SlotAt, slot_key, IsWrong, IsFirstTooHeavy}
-use Rattle.goal_blocks.proofs.ForCallers.{IsTail, whole, newer, one_tail, complete_tail, one_walk, heavy_not}
+use Rattle.goal_blocks.proofs.ForCallers.{IsTail, whole, newer, one_is_tail_of_other, complete_tail, one_walk, heavy_not}
 use Rattle.goal_certify.specs.Stages.{HasNone, IsFirstOf}
 
 module _ (plans : List Plan) (first : Store) (wanted : ℕ → ℕ → Value → Bool) where
@@ -18,14 +18,14 @@ module _ (plans : List Plan) (first : Store) (wanted : ℕ → ℕ → Value →
   heavy_tail h w whole total heavy = heavy
   heavy_tail h (b ∷ w) (newer t) total heavy = inl (heavy_tail h w t total heavy)
 
-  -- too much is held at a moment of what the walk has taken so far
+  -- the walk so far has reached a point at which too much is held
   pub weight_first : (h : List Act) (total : ℕ) → IsInterleaving plans no_send h → TakesFirst plans h → IsFirstTooHeavy plans first h total → IsFirstOf plans first wanted 7 9 (Weight total)
   weight_first h total run takes heavy =
       record { has = in_walk; not_under = omega arith; under = omega arith; none_before = λ other from under has. omega (arith, from, under) }
     where
       in_walk : (w : List Act) → IsWalk plans w → IsFirstTooHeavy plans first w total
       in_walk w is =
-          ⊎_elim (λ t. heavy_tail h w t total heavy) (λ t. subst (λ (v : List Act). IsFirstTooHeavy plans first v total) (sym (complete_tail plans w h is.complete run t)) heavy) (one_tail plans h w run takes is.complete.each is.in_order)
+          ⊎_elim (λ t. heavy_tail h w t total heavy) (λ t. subst (λ (v : List Act). IsFirstTooHeavy plans first v total) (sym (complete_tail plans w h is.complete run t)) heavy) (one_is_tail_of_other plans h w run takes is.complete.each is.in_order)
 
   module _ (w : List Act) (is_walk : IsWalk plans w) (light : IsLight plans first w) where
     none_heavy : HasNone plans first wanted 7 8

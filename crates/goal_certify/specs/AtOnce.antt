@@ -18,7 +18,7 @@ use Rattle.goal_certify.specs.declared.at_once.AtOnceFault.{AtOnceFault}
 use Rattle.goal_certify.specs.declared.at_once.AtOnceFault.TheVariants.{Narrow, Segment, Stray}
 use Rattle.goal_certify.specs.Segments.{IsSegmentFault}
 
--- how many slots a collective names, from slot 0 on; a block of a segment has at least so many
+-- the number of slots that a collective names, from slot 0 on; a block has at least this width
 abbrev pub named : Collective → ℕ → ℕ
 named (Bcast root) ranks = 1
 named Barrier ranks = 1

@@ -13,7 +13,7 @@ use Rattle.goal_blocks.specs.Segments.{initial_in}
 use Rattle.goal_values.specs.Kept.{Kept, values}
 use Rattle.goal_certify.specs.Stages.{IsFirstOf}
 
--- these values are what the walk leaves, and never were too many contributions held
+-- the walk leaves these values, and too many contributions were never held
 pub record IsLeft (plans : List Plan) (first : Store) (s : Kept) : Type 0 where
   pub walk : List Act
   pub is_walk : IsWalk plans walk
@@ -24,6 +24,6 @@ pub record IsLeft (plans : List Plan) (first : Store) (s : Kept) : Type 0 where
 abbrev pub IsLeftIn : Collective → Segment → List Plan → Kept → Type 0
 IsLeftIn what segment plans s = IsLeft plans (initial_in what segment.width segment.block (length plans)) s
 
--- memory ran out, or this is the first moment at which too many are held, whatever is wanted at the end
+-- memory ran out, or this is the first point at which too many are held, whatever is wanted at the end
 abbrev pub IsTooMuchIn : Collective → Segment → List Plan → CertFault → Type 0
 IsTooMuchIn what segment plans fault = (fault ≡ NoMemory) ⊎ ((wanted : ℕ → ℕ → Value → Bool) → IsFirstOf plans (initial_in what segment.width segment.block (length plans)) wanted 7 9 fault)

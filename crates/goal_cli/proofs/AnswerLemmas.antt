@@ -4,7 +4,7 @@ use Rattle.std.proofs.Math.Seq.{take-length}
 use Rattle.std.specs.FinMap.{get, insert}
 use Rattle.goal_limits.specs.declared.limits.TheConstants.{MAX_INPUT}
 use Rattle.goal_base.specs.Device.{HostState, SinkState, Files, Later, KeepsFiles, KeepsReading, SameFiles, SameRest, ReadsAtMost, Holds, HoldsPart, Held, Grows, file_of, ReadFaulted, SameReadCounts, IsTooLong}
-use Rattle.goal_base.proofs.ForCallers.{kept_then}
+use Rattle.goal_base.proofs.ForCallers.{keeps_files_is_transitive}
 use Rattle.goal_graph.specs.Schedule.{Plan}
 use Rattle.sim_params.specs.Costs.{Numbers, CostModel, log_gops}
 use Rattle.sim_classes.specs.Machine.{MachineModel, costs_of}
@@ -34,13 +34,13 @@ use Rattle.goal_cli.specs.World.{Devices, devices}
 use Rattle.goal_input.proofs.ForCallers.{same_schedule}
 use Rattle.goal_cli.proofs.RefusalLemmas.{same_refusal, no_refusal, one_machine}
 
--- all of a line is a prefix of it
-pub all_is_part : (old new : SinkState) (bytes : List ℕ) → Grows old new bytes → GrowsByPart old new bytes
-all_is_part old new bytes all = (length bytes, rw (take-length bytes) all)
+-- a whole line is a prefix of itself
+pub whole_line_is_part : (old new : SinkState) (bytes : List ℕ) → Grows old new bytes → GrowsByPart old new bytes
+whole_line_is_part old new bytes all = (length bytes, rw (take-length bytes) all)
 
 -- a whole line was written
-pub says_whole : (old new : SinkState) (line : List ℕ) → Grows old new line → Says old new line
-says_whole old new line all = record { prefix = all_is_part old new line all; whole = λ _. all }
+pub whole_line_is_said : (old new : SinkState) (line : List ℕ) → Grows old new line → Says old new line
+whole_line_is_said old new line all = record { prefix = whole_line_is_part old new line all; whole = λ _. all }
 
 -- the same for an equal line
 pub says_equal_line : (old new : SinkState) (s t : Status) (line wanted : List ℕ) → line ≡ wanted
@@ -55,9 +55,9 @@ same_file host name input other a b = cc
 
 -- the bytes of the file of a name
 module _ (host : HostState) (P : List ℕ → Type 0) where
-  if_all : (o : Option (List ℕ)) → ((input : List ℕ) → P input) → IfNamed host o P
-  if_all None p = p []
-  if_all (Some name) p = λ tells input file. p input
+  if_named_from_all : (o : Option (List ℕ)) → ((input : List ℕ) → P input) → IfNamed host o P
+  if_named_from_all None p = p []
+  if_named_from_all (Some name) p = λ tells input file. p input
 
   module _ (Q : List ℕ → Type 0) (turn : (input : List ℕ) → P input → Q input) where
     pub for_turned : (o : Option (List ℕ)) → ForNamed host o P → ForNamed host o Q
@@ -75,8 +75,8 @@ module _ (host : HostState) (P : List ℕ → Type 0) where
 module _ (host : HostState) (c : Command) (P : Input → Type 0) where
   read_all : ((input : Input) → P input) → IfRead host c P
   read_all p =
-      if_all host (λ s. IfNamed host (machine_of c) (λ m. P (input_with s m))) (input_of c)
-      (λ s. if_all host (λ m. P (input_with s m)) (machine_of c) (λ m. p (input_with s m)))
+      if_named_from_all host (λ s. IfNamed host (machine_of c) (λ m. P (input_with s m))) (input_of c)
+      (λ s. if_named_from_all host (λ m. P (input_with s m)) (machine_of c) (λ m. p (input_with s m)))
 
   module _ (Q : Input → Type 0) (turn : (input : Input) → P input → Q input) where
     read_turned : ForRead host c P → ForRead host c Q
@@ -101,7 +101,7 @@ refused_of host c sched machine stop r is got refused =
     read_turned host c (IsGathered c sched machine) (λ (i : Input). IsRefused c i r)
     (λ input from. subst (λ (s : Stop). IsStop c input s) is (refused input from)) got
 
--- a file was read to its end, after another file of its host
+-- if `IsReadOut` holds from a later host with the same files, it holds from the earlier one
 pub read_out_from : (a b d : HostState) (o : Option (List ℕ)) → Later a b → KeepsFiles a b → IsReadOut b d o → IsReadOut a d o
 read_out_from a b d None later kept out = tt
 read_out_from a b d (Some name) later kept out = λ tells. by tells (out (later.tells ∙ tells))
@@ -115,18 +115,18 @@ read_out_from a b d (Some name) later kept out = λ tells. by tells (out (later.
     })
 
 -- what was read from a host whose files are those of another
-pub got_for : (a b : HostState) (text : List ℕ) (Q : List ℕ → Type 0) (o : Option (List ℕ)) → Later a b → KeepsFiles a b → AreBytesOfFile b o text → Q text
+pub for_named_from_file_bytes : (a b : HostState) (text : List ℕ) (Q : List ℕ → Type 0) (o : Option (List ℕ)) → Later a b → KeepsFiles a b → AreBytesOfFile b o text → Q text
     → ForNamed a o Q
-got_for a b text Q None later kept got q = subst Q got q
-got_for a b text Q (Some name) later kept got q =
+for_named_from_file_bytes a b text Q None later kept got q = subst Q got q
+for_named_from_file_bytes a b text Q (Some name) later kept got q =
     λ tells. (text, ap (λ (f : Files). get f name) (sym (kept.files.files tells)) ∙ got (later.tells ∙ tells), q)
 
 -- a schedule is refused, after the machine was read
-pub idle_refused : (a b d : HostState) (c : Command) (r : Refusal) (text : List ℕ) → Later a b → KeepsFiles a b → HasNoSchedule a b c (answer.Refused r)
+pub no_work_when_schedule_refused : (a b d : HostState) (c : Command) (r : Refusal) (text : List ℕ) → Later a b → KeepsFiles a b → HasNoSchedule a b c (answer.Refused r)
     → AreBytesOfFile b (machine_of c) text → length text ≤ MAX_INPUT → IsReadOut b d (machine_of c) → SameReadCounts b d → HasNoWork a d c (answer.Refused r)
-idle_refused a b d c r text later kept unmade got short out same = (
+no_work_when_schedule_refused a b d c r text later kept unmade got short out same = (
   for_turned a (λ s. (m : List ℕ) → length m ≤ MAX_INPUT → IsRefused c (input_with s m) r) (λ s. ForNamed a (machine_of c) (λ m. IsRefused c (input_with s m) r))
-      (λ s refused. got_for a b text (λ m. IsRefused c (input_with s m) r) (machine_of c) later kept got (refused text short)) (input_of c) unmade.0,
+      (λ s refused. for_named_from_file_bytes a b text (λ m. IsRefused c (input_with s m) r) (machine_of c) later kept got (refused text short)) (input_of c) unmade.0,
   record {
     read_count = same.read_count ∙ unmade.1.read_count;
     absent_count = same.absent_count ∙ unmade.1.absent_count;
@@ -134,21 +134,21 @@ idle_refused a b d c r text later kept unmade got short out same = (
   read_out_from a b d (machine_of c) later kept out,
 )
 
--- what is taken of an input, after which nothing else is read
-still_most : (a b d : HostState) (name : List ℕ) → Later a b → ReadsAtMost a b name (MAX_INPUT + 1) → SameRest b d
+-- how much of an input is read, if nothing else is read afterwards
+reads_at_most_then_same_rest : (a b d : HostState) (name : List ℕ) → Later a b → ReadsAtMost a b name (MAX_INPUT + 1) → SameRest b d
     → ReadsAtMost a d name (MAX_INPUT + 1)
-still_most a b d name later most kept = record {
+reads_at_most_then_same_rest a b d name later most kept = record {
   taken = most.taken;
   no_more = most.no_more;
   told = λ t. rw (kept.told (later.tells ∙ t)) (most.told t);
 }
 
-still_rest : (a b d : HostState) → Later a b → SameRest a b → SameRest b d → SameRest a d
-still_rest a b d later same kept = record { told = λ t. kept.told (later.tells ∙ t) ∙ same.told t }
+same_rest_transitive : (a b d : HostState) → Later a b → SameRest a b → SameRest b d → SameRest a d
+same_rest_transitive a b d later same kept = record { told = λ t. kept.told (later.tells ∙ t) ∙ same.told t }
 
-still_kept : (a b d : HostState) → Later a b → KeepsReading a b → KeepsReading b d → KeepsReading a d
-still_kept a b d later taken kept = record {
-  rest = still_rest a b d later taken.rest kept.rest;
+keeps_reading_transitive : (a b d : HostState) → Later a b → KeepsReading a b → KeepsReading b d → KeepsReading a d
+keeps_reading_transitive a b d later taken kept = record {
+  rest = same_rest_transitive a b d later taken.rest kept.rest;
   reading = kept.reading ∙ taken.reading;
   counts = record {
     read_count = kept.counts.read_count ∙ taken.counts.read_count;
@@ -156,45 +156,45 @@ still_kept a b d later taken kept = record {
   };
 }
 
-still_other : (a b d : HostState) (o : Option (List ℕ)) → Later a b → IsSomeAnd o (λ other. ReadsAtMost a b other (MAX_INPUT + 1)) → SameRest b d
+other_reads_at_most_then_same_rest : (a b d : HostState) (o : Option (List ℕ)) → Later a b → IsSomeAnd o (λ other. ReadsAtMost a b other (MAX_INPUT + 1)) → SameRest b d
     → IsSomeAnd o (λ other. ReadsAtMost a d other (MAX_INPUT + 1))
-still_other a b d None later most kept = most
-still_other a b d (Some name) later most kept = still_most a b d name later most kept
+other_reads_at_most_then_same_rest a b d None later most kept = most
+other_reads_at_most_then_same_rest a b d (Some name) later most kept = reads_at_most_then_same_rest a b d name later most kept
 
-pub taken_still : (o m : Option (List ℕ)) (a b d : HostState) → Later a b → IsTakenWithinLimitOf o m a b → KeepsReading b d → IsTakenWithinLimitOf o m a d
-taken_still None None a b d later taken kept = still_kept a b d later taken kept
-taken_still None (Some name) a b d later (inl same) kept = inl (still_rest a b d later same kept.rest)
-taken_still None (Some name) a b d later (inr most) kept = inr (still_most a b d name later most kept.rest)
-taken_still (Some name) m a b d later (inl same) kept = inl (still_rest a b d later same kept.rest)
-taken_still (Some name) m a b d later (inr (inl most)) kept = inr (inl (still_most a b d name later most kept.rest))
-taken_still (Some name) m a b d later (inr (inr most)) kept = inr (inr (still_other a b d m later most kept.rest))
+pub taken_within_limit_then_keeps_reading : (o m : Option (List ℕ)) (a b d : HostState) → Later a b → IsTakenWithinLimitOf o m a b → KeepsReading b d → IsTakenWithinLimitOf o m a d
+taken_within_limit_then_keeps_reading None None a b d later taken kept = keeps_reading_transitive a b d later taken kept
+taken_within_limit_then_keeps_reading None (Some name) a b d later (inl same) kept = inl (same_rest_transitive a b d later same kept.rest)
+taken_within_limit_then_keeps_reading None (Some name) a b d later (inr most) kept = inr (reads_at_most_then_same_rest a b d name later most kept.rest)
+taken_within_limit_then_keeps_reading (Some name) m a b d later (inl same) kept = inl (same_rest_transitive a b d later same kept.rest)
+taken_within_limit_then_keeps_reading (Some name) m a b d later (inr (inl most)) kept = inr (inl (reads_at_most_then_same_rest a b d name later most kept.rest))
+taken_within_limit_then_keeps_reading (Some name) m a b d later (inr (inr most)) kept = inr (inr (other_reads_at_most_then_same_rest a b d m later most kept.rest))
 
--- what is taken of an input, and then of a machine
-moved_most : (a b d : HostState) (name : List ℕ) → Later a b → KeepsFiles a b → ReadsAtMost b d name (MAX_INPUT + 1)
+-- how much is read of an input, and then of a machine
+reads_at_most_after_kept_files : (a b d : HostState) (name : List ℕ) → Later a b → KeepsFiles a b → ReadsAtMost b d name (MAX_INPUT + 1)
     → ReadsAtMost a d name (MAX_INPUT + 1)
-moved_most a b d name later kept most = record {
+reads_at_most_after_kept_files a b d name later kept most = record {
   taken = most.taken;
   no_more = most.no_more;
   told = λ t. ap (λ (f : Files). get f name) (sym (kept.files.files t)) ∙ most.told (later.tells ∙ t);
 }
 
-pub taken_both : (o m : Option (List ℕ)) (a b d : HostState) → Later a b → KeepsFiles a b → IsTakenWithinLimitFrom a b o → IsTakenWithinLimitFrom b d m
+pub taken_within_limit_of_both : (o m : Option (List ℕ)) (a b d : HostState) → Later a b → KeepsFiles a b → IsTakenWithinLimitFrom a b o → IsTakenWithinLimitFrom b d m
     → IsTakenWithinLimitOf o m a d
-taken_both None None a b d later kept p q = still_kept a b d later p q
-taken_both None (Some m) a b d later kept p (inl q) = inl (still_rest a b d later p.rest q)
-taken_both None (Some m) a b d later kept p (inr q) = inr (moved_most a b d m later kept q)
-taken_both (Some name) None a b d later kept (inl same) q = inl (still_rest a b d later same q.rest)
-taken_both (Some name) None a b d later kept (inr most) q = inr (inl (still_most a b d name later most q.rest))
-taken_both (Some name) (Some m) a b d later kept (inl same) (inl q) = inl (still_rest a b d later same q)
-taken_both (Some name) (Some m) a b d later kept (inr most) (inl q) = inr (inl (still_most a b d name later most q))
-taken_both (Some name) (Some m) a b d later kept p (inr q) = inr (inr (moved_most a b d m later kept q))
+taken_within_limit_of_both None None a b d later kept p q = keeps_reading_transitive a b d later p q
+taken_within_limit_of_both None (Some m) a b d later kept p (inl q) = inl (same_rest_transitive a b d later p.rest q)
+taken_within_limit_of_both None (Some m) a b d later kept p (inr q) = inr (reads_at_most_after_kept_files a b d m later kept q)
+taken_within_limit_of_both (Some name) None a b d later kept (inl same) q = inl (same_rest_transitive a b d later same q.rest)
+taken_within_limit_of_both (Some name) None a b d later kept (inr most) q = inr (inl (reads_at_most_then_same_rest a b d name later most q.rest))
+taken_within_limit_of_both (Some name) (Some m) a b d later kept (inl same) (inl q) = inl (same_rest_transitive a b d later same q)
+taken_within_limit_of_both (Some name) (Some m) a b d later kept (inr most) (inl q) = inr (inl (reads_at_most_then_same_rest a b d name later most q))
+taken_within_limit_of_both (Some name) (Some m) a b d later kept p (inr q) = inr (inr (reads_at_most_after_kept_files a b d m later kept q))
 
 -- where only the input was read
-pub taken_first : (o m : Option (List ℕ)) (a b : HostState) → IsTakenWithinLimitFrom a b o → IsTakenWithinLimitOf o m a b
-taken_first None None a b first = first
-taken_first None (Some m) a b first = inl first.rest
-taken_first (Some name) m a b (inl same) = inl same
-taken_first (Some name) m a b (inr most) = inr (inl most)
+pub taken_within_limit_of_input_alone : (o m : Option (List ℕ)) (a b : HostState) → IsTakenWithinLimitFrom a b o → IsTakenWithinLimitOf o m a b
+taken_within_limit_of_input_alone None None a b first = first
+taken_within_limit_of_input_alone None (Some m) a b first = inl first.rest
+taken_within_limit_of_input_alone (Some name) m a b (inl same) = inl same
+taken_within_limit_of_input_alone (Some name) m a b (inr most) = inr (inl most)
 
 -- what was written to a host whose files are those of another
 module _ (a b d : HostState) (kept : KeepsFiles a b) (later : Later a b) where
@@ -203,14 +203,14 @@ module _ (a b d : HostState) (kept : KeepsFiles a b) (later : Later a b) where
     told = λ t. held.told (later.tells ∙ t) ∙ ap (λ (f : Files). insert f name bytes) (kept.files.files t);
   }
 
-  same_from : SameFiles b d → SameFiles a d
-  same_from same = record {
+  same_files_from_earlier : SameFiles b d → SameFiles a d
+  same_files_from_earlier same = record {
     files = λ t. same.files (later.tells ∙ t) ∙ kept.files.files t;
     output = λ t. same.output (later.tells ∙ t) ∙ kept.files.output t;
   }
 
   holds_part_from : (name bytes : List ℕ) → HoldsPart b d name bytes → HoldsPart a d name bytes
-  holds_part_from name bytes (inl same) = inl (same_from same)
+  holds_part_from name bytes (inl same) = inl (same_files_from_earlier same)
   holds_part_from name bytes (inr part) = inr (part.0, part.1, holds_from name _ part.2)
 
 -- the same for an output, a part of it, the device to which the command does not write, and the counts
@@ -219,12 +219,12 @@ module _ (a b : HostState) (out : SinkState) (new : Devices) (kept : KeepsFiles 
   gets_from ToOut bytes got = got
   gets_from (ToFile name) bytes got = holds_from a b new.host kept later name bytes got
 
-  part_from : (t : Target) (bytes : List ℕ) → GetsPart (devices b out) new t bytes → GetsPart (devices a out) new t bytes
-  part_from ToOut bytes part = part
-  part_from (ToFile name) bytes part = holds_part_from a b new.host kept later name bytes part
+  gets_part_from_earlier : (t : Target) (bytes : List ℕ) → GetsPart (devices b out) new t bytes → GetsPart (devices a out) new t bytes
+  gets_part_from_earlier ToOut bytes part = part
+  gets_part_from_earlier (ToFile name) bytes part = holds_part_from a b new.host kept later name bytes part
 
   elsewhere_from : (t : Target) → Elsewhere (devices b out) new t → Elsewhere (devices a out) new t
-  elsewhere_from ToOut same = kept_then a b new.host later kept same
+  elsewhere_from ToOut same = keeps_files_is_transitive a b new.host later kept same
   elsewhere_from (ToFile name) same = same
 
   same_count_from : (t : Target) → WritesSame (devices b out) new t → WritesSame (devices a out) new t
@@ -235,8 +235,8 @@ module _ (a b : HostState) (out : SinkState) (new : Devices) (kept : KeepsFiles 
   rose_from ToOut rose = rose
   rose_from (ToFile name) rose = rw (later.stops, kept.write_count) at rose
 
-  reads_from : SameReadCounts a b → SameReadCounts b new.host → SameReadCounts a new.host
-  reads_from first then = record {
+  same_read_counts_from_earlier : SameReadCounts a b → SameReadCounts b new.host → SameReadCounts a new.host
+  same_read_counts_from_earlier first then = record {
     read_count = then.read_count ∙ first.read_count;
     absent_count = then.absent_count ∙ first.absent_count;
   }
@@ -251,7 +251,7 @@ module _ (a b : HostState) (out : SinkState) (new : Devices) (kept : KeepsFiles 
         read_turned a c (IsGathered c sched machine) (GetsOutput (devices a out) new e c)
         (λ input from. (output, is input from, gets_from (target_of c) output all)) got;
     ends = ends;
-    reads = reads_from counts reads;
+    reads = same_read_counts_from_earlier counts reads;
     writes = same_count_from (target_of c) same;
     elsewhere = elsewhere_from (target_of c) elsewhere;
   }
@@ -263,23 +263,23 @@ module _ (a b : HostState) (out : SinkState) (new : Devices) (kept : KeepsFiles 
   cut_off_from c sched machine output e got counts is part reads elsewhere = record {
     output =
         read_turned a c (IsGathered c sched machine) (GetsPartOfOutput (devices a out) new c)
-        (λ input from. (output, (e, is input from), part_from (target_of c) output part)) got;
-    reads = reads_from counts reads;
+        (λ input from. (output, (e, is input from), gets_part_from_earlier (target_of c) output part)) got;
+    reads = same_read_counts_from_earlier counts reads;
     elsewhere = elsewhere_from (target_of c) elsewhere;
   }
 
 module _ (old new : Devices) where
-  -- what was written whole was written as a prefix
-  whole_is_part : (t : Target) (bytes : List ℕ) → Gets old new t bytes → GetsPart old new t bytes
-  whole_is_part ToOut bytes got = all_is_part old.out new.out bytes got
-  whole_is_part (ToFile name) bytes got = inr (length bytes, omega arith, rw (take-length bytes) got)
+  -- bytes that were written whole are also written as a prefix
+  gets_is_gets_part : (t : Target) (bytes : List ℕ) → Gets old new t bytes → GetsPart old new t bytes
+  gets_is_gets_part ToOut bytes got = whole_line_is_part old.out new.out bytes got
+  gets_is_gets_part (ToFile name) bytes got = inr (length bytes, omega arith, rw (take-length bytes) got)
 
-  part_of : (e : Ending) (c : Command) (input : Input) → GetsOutput old new e c input → GetsPartOfOutput old new c input
-  part_of e c input got = (got.0, (e, got.1), whole_is_part (target_of c) got.0 got.2)
+  gets_output_is_gets_part : (e : Ending) (c : Command) (input : Input) → GetsOutput old new e c input → GetsPartOfOutput old new c input
+  gets_output_is_gets_part e c input got = (got.0, (e, got.1), gets_is_gets_part (target_of c) got.0 got.2)
 
   cut_off : (e : Ending) (c : Command) → IsWritten old new e c → IsCutOff old new c
   cut_off e c w = record {
-    output = read_turned old.host c (GetsOutput old new e c) (GetsPartOfOutput old new c) (part_of e c) w.output;
+    output = read_turned old.host c (GetsOutput old new e c) (GetsPartOfOutput old new c) (gets_output_is_gets_part e c) w.output;
     reads = w.reads;
     elsewhere = w.elsewhere;
   }
@@ -310,10 +310,10 @@ module _ (old new : Devices) where
   no_memory_part c (inl untouched) = inl untouched
   no_memory_part c (inr cut) = inr cut.output
 
-  pub part_or_none : (command : Option Command) (a : Answer) → IsCause old new command a
+  pub untouched_or_part_of_output : (command : Option Command) (a : Answer) → IsCause old new command a
       → IsUntouched old new ⊎ ForInput command old.host (GetsPartOfOutput old new)
-  part_or_none None a cause = inl (no_memory_causes_none a cause).1
-  part_or_none (Some c) a cause = no_memory_part c (no_memory_causes_of c a cause)
+  untouched_or_part_of_output None a cause = inl (no_memory_causes_none a cause).1
+  untouched_or_part_of_output (Some c) a cause = no_memory_part c (no_memory_causes_of c a cause)
 
   elsewhere_untouched : (t : Target) → IsUntouched old new → Elsewhere old new t
   elsewhere_untouched ToOut u = u.files
@@ -331,42 +331,42 @@ module _ (old new : Devices) where
 
   -- if the status is NoMemory, a part of an answer's line was written: of its own line, or of the line of the answer
   -- that it replaced
-  pub part_said : (command : Option Command) (err err' : SinkState) (a : Answer) (s : Status) → IsCause old new command a
+  pub part_of_line_at_no_memory : (command : Option Command) (err err' : SinkState) (a : Answer) (s : Status) → IsCause old new command a
       → IsAnswered err err' a s → s ≡ status.NoMemory
       → (b : Answer) × IsCause old new command b × GrowsByPart err err' (line_for b)
-  part_said command err err' a s cause (inr (e, part)) none = (a, cause, part.0)
-  part_said command err err' (answer.Written ending.Done) s cause (inl (e, told)) none = cc
-  part_said command err err' (answer.Written ending.Stuck) s cause (inl (e, told)) none = cc
-  part_said command err err' (answer.Written ending.NotCertified) s cause (inl (e, told)) none = cc
-  part_said command err err' answer.BadLine s cause (inl (e, told)) none = cc
-  part_said command err err' (answer.Refused r) s cause (inl (e, told)) none = cc
-  part_said command err err' answer.ReadFault s cause (inl (e, told)) none = cc
-  part_said command err err' answer.WriteFault s cause (inl (e, told)) none = cc
-  part_said command err err' answer.NoMemory s cause (inl (e, told)) none = (answer.NoMemory, cause, told.prefix)
+  part_of_line_at_no_memory command err err' a s cause (inr (e, part)) none = (a, cause, part.0)
+  part_of_line_at_no_memory command err err' (answer.Written ending.Done) s cause (inl (e, told)) none = cc
+  part_of_line_at_no_memory command err err' (answer.Written ending.Stuck) s cause (inl (e, told)) none = cc
+  part_of_line_at_no_memory command err err' (answer.Written ending.NotCertified) s cause (inl (e, told)) none = cc
+  part_of_line_at_no_memory command err err' answer.BadLine s cause (inl (e, told)) none = cc
+  part_of_line_at_no_memory command err err' (answer.Refused r) s cause (inl (e, told)) none = cc
+  part_of_line_at_no_memory command err err' answer.ReadFault s cause (inl (e, told)) none = cc
+  part_of_line_at_no_memory command err err' answer.WriteFault s cause (inl (e, told)) none = cc
+  part_of_line_at_no_memory command err err' answer.NoMemory s cause (inl (e, told)) none = (answer.NoMemory, cause, told.prefix)
 
   -- if the sink counted a fault, the status is that of an answer, and a part of its line was written
-  pub failed_said : (command : Option Command) (err err' : SinkState) (a : Answer) (s : Status) → IsCause old new command a
+  pub part_of_line_at_sink_fault : (command : Option Command) (err err' : SinkState) (a : Answer) (s : Status) → IsCause old new command a
       → IsAnswered err err' a s → err.count < err'.count
       → (b : Answer) × IsCause old new command b × (s ≡ status_of b) × GrowsByPart err err' (line_for b)
-  failed_said command err err' a s cause (inr (e, part)) risen = let same = part.1 in absurd (omega arith)
-  failed_said command err err' (answer.Written e) s cause (inl (is, told)) risen =
+  part_of_line_at_sink_fault command err err' a s cause (inr (e, part)) risen = let same = part.1 in absurd (omega arith)
+  part_of_line_at_sink_fault command err err' (answer.Written e) s cause (inl (is, told)) risen =
       let same = ap (λ (w : SinkState). w.count) told in absurd (omega arith)
-  failed_said command err err' answer.BadLine s cause (inl (is, told)) risen = (answer.BadLine, cause, is, told.prefix)
-  failed_said command err err' (answer.Refused r) s cause (inl (is, told)) risen = (answer.Refused r, cause, is, told.prefix)
-  failed_said command err err' answer.ReadFault s cause (inl (is, told)) risen = (answer.ReadFault, cause, is, told.prefix)
-  failed_said command err err' answer.WriteFault s cause (inl (is, told)) risen = (answer.WriteFault, cause, is, told.prefix)
-  failed_said command err err' answer.NoMemory s cause (inl (is, told)) risen = (answer.NoMemory, cause, is, told.prefix)
+  part_of_line_at_sink_fault command err err' answer.BadLine s cause (inl (is, told)) risen = (answer.BadLine, cause, is, told.prefix)
+  part_of_line_at_sink_fault command err err' (answer.Refused r) s cause (inl (is, told)) risen = (answer.Refused r, cause, is, told.prefix)
+  part_of_line_at_sink_fault command err err' answer.ReadFault s cause (inl (is, told)) risen = (answer.ReadFault, cause, is, told.prefix)
+  part_of_line_at_sink_fault command err err' answer.WriteFault s cause (inl (is, told)) risen = (answer.WriteFault, cause, is, told.prefix)
+  part_of_line_at_sink_fault command err err' answer.NoMemory s cause (inl (is, told)) risen = (answer.NoMemory, cause, is, told.prefix)
 
-  -- what was written to `err` belongs to an answer whose cause holds
-  pub answered_from : (command : Option Command) (err err' : SinkState) (a : Answer) (s : Status) → IsCause old new command a
+  -- the status and what `err` got are those of an answer whose cause holds
+  pub answer_of_status_has_cause : (command : Option Command) (err err' : SinkState) (a : Answer) (s : Status) → IsCause old new command a
       → IsAnsweredOrNoMemory err err' a s → (b : Answer) × IsCause old new command b × IsAnswered err err' b s
-  answered_from command err err' (answer.Refused r) s cause (inl told) = (answer.Refused r, cause, told)
-  answered_from command err err' (answer.Refused r) s cause (inr told) = (answer.NoMemory, no_memory_causes command (answer.Refused r) cause, told)
-  answered_from command err err' (answer.Written e) s cause told = (answer.Written e, cause, told)
-  answered_from command err err' answer.BadLine s cause told = (answer.BadLine, cause, told)
-  answered_from command err err' answer.ReadFault s cause told = (answer.ReadFault, cause, told)
-  answered_from command err err' answer.WriteFault s cause told = (answer.WriteFault, cause, told)
-  answered_from command err err' answer.NoMemory s cause told = (answer.NoMemory, cause, told)
+  answer_of_status_has_cause command err err' (answer.Refused r) s cause (inl told) = (answer.Refused r, cause, told)
+  answer_of_status_has_cause command err err' (answer.Refused r) s cause (inr told) = (answer.NoMemory, no_memory_causes command (answer.Refused r) cause, told)
+  answer_of_status_has_cause command err err' (answer.Written e) s cause told = (answer.Written e, cause, told)
+  answer_of_status_has_cause command err err' answer.BadLine s cause told = (answer.BadLine, cause, told)
+  answer_of_status_has_cause command err err' answer.ReadFault s cause told = (answer.ReadFault, cause, told)
+  answer_of_status_has_cause command err err' answer.WriteFault s cause told = (answer.WriteFault, cause, told)
+  answer_of_status_has_cause command err err' answer.NoMemory s cause told = (answer.NoMemory, cause, told)
 
   -- a command with an output, whole or in part, is not refused
   not_refused : (c : Command) (input : Input) (r : Refusal) → IsRefused c input r → GetsPartOfOutput old new c input → ⊥
@@ -374,38 +374,38 @@ module _ (old new : Devices) where
       let made = got.1.1 in
       no_refusal c input made.sched r made.has refused
 
-  held_reads : (name input : List ℕ) → old.host.tells ≡ true → file_of old.host name ≡ Some input → ReadsHeld old.host new.host → ReadFaulted old.host new.host name → ⊥
-  held_reads name input told file held (inl rose) = omega arith
-  held_reads name input told file held (inr absent) = let none = absent.1 told in cc
+  no_read_fault_when_reads_held : (name input : List ℕ) → old.host.tells ≡ true → file_of old.host name ≡ Some input → ReadsHeld old.host new.host → ReadFaulted old.host new.host name → ⊥
+  no_read_fault_when_reads_held name input told file held (inl rose) = omega arith
+  no_read_fault_when_reads_held name input told file held (inr absent) = let none = absent.1 told in cc
 
   -- a fault of reading, if both files exist
   file_faulted : (P : List ℕ → Type 0) (o : Option (List ℕ)) → IsSomeAnd o (ReadFaulted old.host new.host)
       → ((input : List ℕ) → (ReadsHeld old.host new.host → ⊥) → P input) → IfNamed old.host o P
   file_faulted P None faulted f = absurd faulted
-  file_faulted P (Some name) faulted f = λ tells input file. f input (λ held. held_reads name input tells file held faulted)
+  file_faulted P (Some name) faulted f = λ tells input file. f input (λ held. no_read_fault_when_reads_held name input tells file held faulted)
 
   read_faulted : (c : Command) (P : Input → Type 0) → ReadsFaulted old.host new.host c
       → ((input : Input) → (ReadsHeld old.host new.host → ⊥) → P input) → IfRead old.host c P
   read_faulted c P (inl faulted) f =
       file_faulted (λ s. IfNamed old.host (machine_of c) (λ m. P (input_with s m))) (input_of c) faulted
-      (λ s no. if_all old.host (λ m. P (input_with s m)) (machine_of c) (λ m. f (input_with s m) no))
+      (λ s no. if_named_from_all old.host (λ m. P (input_with s m)) (machine_of c) (λ m. f (input_with s m) no))
   read_faulted c P (inr faulted) f =
-      if_all old.host (λ s. IfNamed old.host (machine_of c) (λ m. P (input_with s m))) (input_of c)
+      if_named_from_all old.host (λ s. IfNamed old.host (machine_of c) (λ m. P (input_with s m))) (input_of c)
       (λ s. file_faulted (λ m. P (input_with s m)) (machine_of c) faulted (λ m no. f (input_with s m) no))
 
   -- the count of faults of reading held, for the file of a name
-  held_named : (o : Option (List ℕ)) → IsSomeAnd o (ReadFaulted old.host new.host) → IfSome o (λ name. ReadsHeld old.host new.host)
+  reads_held_for_faulted_name : (o : Option (List ℕ)) → IsSomeAnd o (ReadFaulted old.host new.host) → IfSome o (λ name. ReadsHeld old.host new.host)
       → ReadsHeld old.host new.host
-  held_named None faulted held = absurd faulted
-  held_named (Some name) faulted held = held
+  reads_held_for_faulted_name None faulted held = absurd faulted
+  reads_held_for_faulted_name (Some name) faulted held = held
 
-  held_input : (c : Command) → ReadsFaulted old.host new.host c → InputHeld old new c → ReadsHeld old.host new.host
-  held_input c (inl faulted) held = held_named (input_of c) faulted held.0
-  held_input c (inr faulted) held = held_named (machine_of c) faulted held.1
+  reads_held_for_faulted_input : (c : Command) → ReadsFaulted old.host new.host c → InputHeld old new c → ReadsHeld old.host new.host
+  reads_held_for_faulted_input c (inl faulted) held = reads_held_for_faulted_name (input_of c) faulted held.0
+  reads_held_for_faulted_input c (inr faulted) held = reads_held_for_faulted_name (machine_of c) faulted held.1
 
-  held_writes : (t : Target) → WritesHeld old new t → WritesRose old new t → ⊥
-  held_writes ToOut held rose = omega arith
-  held_writes (ToFile name) held rose = omega arith
+  writes_held_not_risen : (t : Target) → WritesHeld old new t → WritesRose old new t → ⊥
+  writes_held_not_risen ToOut held rose = omega arith
+  writes_held_not_risen (ToFile name) held rose = omega arith
 
   -- a refused input gets the line of its refusal
   abbrev RefusedAs : Command → SinkState → SinkState → Status → Input → Type 0
@@ -418,7 +418,7 @@ module _ (old new : Devices) where
       read_all old.host c (RefusedAs c err err' s) (λ input r refused held. inr e)
   refused_by c err err' (answer.Written ends) s cause (inl (e, told)) =
       read_for old.host c (GetsOutput old new ends c) (RefusedAs c err err' s)
-      (λ input got r refused held. absurd (not_refused c input r refused (part_of ends c input got)))
+      (λ input got r refused held. absurd (not_refused c input r refused (gets_output_is_gets_part ends c input got)))
       cause.output
   refused_by c err err' answer.BadLine s cause (inl (e, told)) = absurd cause
   refused_by c err err' (answer.Refused q) s cause (inl (e, told)) =
@@ -426,7 +426,7 @@ module _ (old new : Devices) where
       (λ input is r refused held. let same = same_refusal c input r q refused is in inl (e, rw same told))
       cause.0
   refused_by c err err' answer.ReadFault s cause (inl (e, told)) =
-      read_faulted c (RefusedAs c err err' s) cause.0 (λ input no r refused held. absurd (no (held_input c cause.0 held)))
+      read_faulted c (RefusedAs c err err' s) cause.0 (λ input no r refused held. absurd (no (reads_held_for_faulted_input c cause.0 held)))
   refused_by c err err' answer.WriteFault s cause (inl (e, told)) =
       read_for old.host c (GetsPartOfOutput old new c) (RefusedAs c err err' s)
       (λ input got r refused held. absurd (not_refused c input r refused got))
@@ -458,10 +458,10 @@ module _ (old new : Devices) where
       read_for old.host c (λ (i : Input). IsRefused c i q) (WrittenAs c s)
       (λ input is sched has reads writes. absurd (no_refusal c input sched q has is)) cause.0
   written_by c err err' answer.ReadFault s cause (inl (e, told)) =
-      read_faulted c (WrittenAs c s) cause.0 (λ input no sched has reads writes. absurd (no (held_input c cause.0 reads)))
+      read_faulted c (WrittenAs c s) cause.0 (λ input no sched has reads writes. absurd (no (reads_held_for_faulted_input c cause.0 reads)))
   written_by c err err' answer.WriteFault s cause (inl (e, told)) =
       read_all old.host c (WrittenAs c s)
-      (λ input sched has reads writes. absurd (held_writes (target_of c) writes cause.1))
+      (λ input sched has reads writes. absurd (writes_held_not_risen (target_of c) writes cause.1))
   written_by c err err' answer.NoMemory s cause (inl (e, told)) =
       read_all old.host c (WrittenAs c s) (λ input sched has reads writes. inr e)
 
@@ -565,37 +565,37 @@ module _ (old new : Devices) where
     sink : new.out.count ≡ old.out.count
     files : new.host.write_count ≡ old.host.write_count
 
-  same_counts : IsUntouched old new → SameWriteCounts
-  same_counts u = record { sink = ap (λ (s : SinkState). s.count) u.sink; files = u.files.write_count }
+  same_write_counts_when_untouched : IsUntouched old new → SameWriteCounts
+  same_write_counts_when_untouched u = record { sink = ap (λ (s : SinkState). s.count) u.sink; files = u.files.write_count }
 
-  written_counts : (t : Target) → WritesSame old new t → Elsewhere old new t → SameWriteCounts
-  written_counts ToOut same elsewhere = record { sink = same; files = elsewhere.write_count }
-  written_counts (ToFile name) same elsewhere = record { sink = ap (λ (s : SinkState). s.count) elsewhere; files = same.0 }
+  same_write_counts_when_written : (t : Target) → WritesSame old new t → Elsewhere old new t → SameWriteCounts
+  same_write_counts_when_written ToOut same elsewhere = record { sink = same; files = elsewhere.write_count }
+  same_write_counts_when_written (ToFile name) same elsewhere = record { sink = ap (λ (s : SinkState). s.count) elsewhere; files = same.0 }
 
   writes_kept_by : (c : Command) (a : Answer) → IsCauseOf old new c a
       → SameWriteCounts ⊎ (a ≡ answer.WriteFault) ⊎ (a ≡ answer.NoMemory)
-  writes_kept_by c (answer.Written e) cause = inl (written_counts (target_of c) cause.writes cause.elsewhere)
+  writes_kept_by c (answer.Written e) cause = inl (same_write_counts_when_written (target_of c) cause.writes cause.elsewhere)
   writes_kept_by c answer.BadLine cause = absurd cause
-  writes_kept_by c (answer.Refused r) cause = inl (same_counts cause.2)
-  writes_kept_by c answer.ReadFault cause = inl (same_counts cause.1)
+  writes_kept_by c (answer.Refused r) cause = inl (same_write_counts_when_untouched cause.2)
+  writes_kept_by c answer.ReadFault cause = inl (same_write_counts_when_untouched cause.1)
   writes_kept_by c answer.WriteFault cause = inr (inl refl)
   writes_kept_by c answer.NoMemory cause = inr (inr refl)
 
   writes_kept : (command : Option Command) (a : Answer) → IsCause old new command a
       → SameWriteCounts ⊎ (a ≡ answer.WriteFault) ⊎ (a ≡ answer.NoMemory)
-  writes_kept None a cause = inl (same_counts (no_memory_causes_none a cause).1)
+  writes_kept None a cause = inl (same_write_counts_when_untouched (no_memory_causes_none a cause).1)
   writes_kept (Some c) a cause = writes_kept_by c a cause
 
   -- the status of an answer is its own, or NoMemory
-  at_status : (err err' : SinkState) (a b : Answer) (s : Status) → IsAnswered err err' a s → (a ≡ b) ⊎ (a ≡ answer.NoMemory) → Answers s (status_of b)
-  at_status err err' a b s (inr (e, part)) is = inr e
-  at_status err err' a b s (inl (e, told)) (inl is) = inl (rw is at e)
-  at_status err err' a b s (inl (e, told)) (inr is) = inr (rw is at e)
+  status_of_answer_or_no_memory : (err err' : SinkState) (a b : Answer) (s : Status) → IsAnswered err err' a s → (a ≡ b) ⊎ (a ≡ answer.NoMemory) → Answers s (status_of b)
+  status_of_answer_or_no_memory err err' a b s (inr (e, part)) is = inr e
+  status_of_answer_or_no_memory err err' a b s (inl (e, told)) (inl is) = inl (rw is at e)
+  status_of_answer_or_no_memory err err' a b s (inl (e, told)) (inr is) = inr (rw is at e)
 
   unless_same_reads : (err err' : SinkState) (a : Answer) (s : Status) → IsAnswered err err' a s → (SameReadCounts old.host new.host → ⊥)
       → SameReadCounts old.host new.host ⊎ (a ≡ answer.ReadFault) ⊎ (a ≡ answer.NoMemory) → Answers s status.ReadFault
   unless_same_reads err err' a s told differs (inl same) = absurd (differs same)
-  unless_same_reads err err' a s told differs (inr is) = at_status err err' a answer.ReadFault s told is
+  unless_same_reads err err' a s told differs (inr is) = status_of_answer_or_no_memory err err' a answer.ReadFault s told is
 
   pub reads_risen : (command : Option Command) (err err' : SinkState) (a : Answer) (s : Status) → IsCause old new command a
       → IsAnswered err err' a s → old.host.read_count < new.host.read_count → Answers s status.ReadFault
@@ -610,7 +610,7 @@ module _ (old new : Devices) where
   unless_same_writes : (err err' : SinkState) (a : Answer) (s : Status) → IsAnswered err err' a s → (SameWriteCounts → ⊥)
       → SameWriteCounts ⊎ (a ≡ answer.WriteFault) ⊎ (a ≡ answer.NoMemory) → Answers s status.WriteFault
   unless_same_writes err err' a s told differs (inl same) = absurd (differs same)
-  unless_same_writes err err' a s told differs (inr is) = at_status err err' a answer.WriteFault s told is
+  unless_same_writes err err' a s told differs (inr is) = status_of_answer_or_no_memory err err' a answer.WriteFault s told is
 
   pub writes_risen : (command : Option Command) (err err' : SinkState) (a : Answer) (s : Status) → IsCause old new command a
       → IsAnswered err err' a s → old.out.count < new.out.count → Answers s status.WriteFault
@@ -629,9 +629,9 @@ module _ (old new : Devices) where
   no_file P (Some n) name is tells none got = let k = (got tells).1 in cc
 
   -- if the input was read, so was the rest
-  of_each : (P : List ℕ → Type 0) (o : Option (List ℕ)) → old.host.tells ≡ true → ForNamed old.host o P → (input : List ℕ) × P input
-  of_each P None tells got = ([], got)
-  of_each P (Some name) tells got = let k = got tells in (k.0, k.2)
+  for_named_has_input : (P : List ℕ → Type 0) (o : Option (List ℕ)) → old.host.tells ≡ true → ForNamed old.host o P → (input : List ℕ) × P input
+  for_named_has_input P None tells got = ([], got)
+  for_named_has_input P (Some name) tells got = let k = got tells in (k.0, k.2)
 
   -- one of the names of a command
   abbrev IsNameOf : Command → List ℕ → Type 0
@@ -642,53 +642,53 @@ module _ (old new : Devices) where
   no_files c P name (inl is) tells none got =
       no_file (λ s. ForNamed old.host (machine_of c) (λ m. P (input_with s m))) (input_of c) name is tells none got
   no_files c P name (inr is) tells none got =
-      let k = of_each (λ s. ForNamed old.host (machine_of c) (λ m. P (input_with s m))) (input_of c) tells got in
+      let k = for_named_has_input (λ s. ForNamed old.host (machine_of c) (λ m. P (input_with s m))) (input_of c) tells got in
       no_file (λ m. P (input_with k.0 m)) (machine_of c) name is tells none k.1
 
-  absent_by : (c : Command) (name : List ℕ) (a : Answer) → IsNameOf c name → IsCauseOf old new c a → old.host.tells ≡ true
+  absent_file_causes_read_fault : (c : Command) (name : List ℕ) (a : Answer) → IsNameOf c name → IsCauseOf old new c a → old.host.tells ≡ true
       → file_of old.host name ≡ None → (a ≡ answer.ReadFault) ⊎ (a ≡ answer.NoMemory)
-  absent_by c name (answer.Written e) is cause tells none = absurd (no_files c (GetsOutput old new e c) name is tells none cause.output)
-  absent_by c name answer.BadLine is cause tells none = absurd cause
-  absent_by c name (answer.Refused r) is cause tells none = absurd (no_files c (λ (i : Input). IsRefused c i r) name is tells none cause.0)
-  absent_by c name answer.ReadFault is cause tells none = inl refl
-  absent_by c name answer.WriteFault is cause tells none = absurd (no_files c (GetsPartOfOutput old new c) name is tells none cause.0.output)
-  absent_by c name answer.NoMemory is cause tells none = inr refl
+  absent_file_causes_read_fault c name (answer.Written e) is cause tells none = absurd (no_files c (GetsOutput old new e c) name is tells none cause.output)
+  absent_file_causes_read_fault c name answer.BadLine is cause tells none = absurd cause
+  absent_file_causes_read_fault c name (answer.Refused r) is cause tells none = absurd (no_files c (λ (i : Input). IsRefused c i r) name is tells none cause.0)
+  absent_file_causes_read_fault c name answer.ReadFault is cause tells none = inl refl
+  absent_file_causes_read_fault c name answer.WriteFault is cause tells none = absurd (no_files c (GetsPartOfOutput old new c) name is tells none cause.0.output)
+  absent_file_causes_read_fault c name answer.NoMemory is cause tells none = inr refl
 
-  absent_of : (c : Command) (o : Option (List ℕ)) (err err' : SinkState) (a : Answer) (s : Status)
+  absent_file_answers_read_fault : (c : Command) (o : Option (List ℕ)) (err err' : SinkState) (a : Answer) (s : Status)
       → ((name : List ℕ) → o ≡ Some name → IsNameOf c name) → IsCauseOf old new c a → IsAnswered err err' a s
       → IfSome o (λ name. old.host.tells ≡ true → file_of old.host name ≡ None → Answers s status.ReadFault)
-  absent_of c None err err' a s is cause told = tt
-  absent_of c (Some name) err err' a s is cause told =
-      λ tells none. at_status err err' a answer.ReadFault s told (absent_by c name a (is name refl) cause tells none)
+  absent_file_answers_read_fault c None err err' a s is cause told = tt
+  absent_file_answers_read_fault c (Some name) err err' a s is cause told =
+      λ tells none. status_of_answer_or_no_memory err err' a answer.ReadFault s told (absent_file_causes_read_fault c name a (is name refl) cause tells none)
 
   pub absent_named : (command : Option Command) (err err' : SinkState) (a : Answer) (s : Status) → IsCause old new command a
       → IsAnswered err err' a s
       → IfSome (input_in command) (λ name. old.host.tells ≡ true → file_of old.host name ≡ None → Answers s status.ReadFault)
   absent_named None err err' a s cause told = tt
-  absent_named (Some c) err err' a s cause told = absent_of c (input_of c) err err' a s (λ name is. inl is) cause told
+  absent_named (Some c) err err' a s cause told = absent_file_answers_read_fault c (input_of c) err err' a s (λ name is. inl is) cause told
 
   pub absent_machine : (command : Option Command) (err err' : SinkState) (a : Answer) (s : Status) → IsCause old new command a
       → IsAnswered err err' a s
       → IfSome (machine_in command) (λ name. old.host.tells ≡ true → file_of old.host name ≡ None → Answers s status.ReadFault)
   absent_machine None err err' a s cause told = tt
-  absent_machine (Some c) err err' a s cause told = absent_of c (machine_of c) err err' a s (λ name is. inr is) cause told
+  absent_machine (Some c) err err' a s cause told = absent_file_answers_read_fault c (machine_of c) err err' a s (λ name is. inr is) cause told
 
   -- the refusal that was written
-  pub told_refusal : (command : Option Command) (err err' : SinkState) (a : Answer) (s : Status) → IsCause old new command a
+  pub refused_status_has_refusal : (command : Option Command) (err err' : SinkState) (a : Answer) (s : Status) → IsCause old new command a
       → IsAnswered err err' a s → s ≡ status.Refused
       → (r : Refusal) × ForInput command old.host (λ c input. IsRefused c input r) × Says err err' (refused_line r)
-  told_refusal command err err' a s cause (inr (e, part)) is = cc
-  told_refusal command err err' (answer.Written ending.Done) s cause (inl (e, told)) is = cc
-  told_refusal command err err' (answer.Written ending.Stuck) s cause (inl (e, told)) is = cc
-  told_refusal command err err' (answer.Written ending.NotCertified) s cause (inl (e, told)) is = cc
-  told_refusal command err err' answer.BadLine s cause (inl (e, told)) is = cc
-  told_refusal None err err' (answer.Refused r) s cause (inl (e, told)) is = absurd cause
-  told_refusal (Some c) err err' (answer.Refused r) s cause (inl (e, told)) is = (r, cause.0, told)
-  told_refusal command err err' answer.ReadFault s cause (inl (e, told)) is = cc
-  told_refusal command err err' answer.WriteFault s cause (inl (e, told)) is = cc
-  told_refusal command err err' answer.NoMemory s cause (inl (e, told)) is = cc
+  refused_status_has_refusal command err err' a s cause (inr (e, part)) is = cc
+  refused_status_has_refusal command err err' (answer.Written ending.Done) s cause (inl (e, told)) is = cc
+  refused_status_has_refusal command err err' (answer.Written ending.Stuck) s cause (inl (e, told)) is = cc
+  refused_status_has_refusal command err err' (answer.Written ending.NotCertified) s cause (inl (e, told)) is = cc
+  refused_status_has_refusal command err err' answer.BadLine s cause (inl (e, told)) is = cc
+  refused_status_has_refusal None err err' (answer.Refused r) s cause (inl (e, told)) is = absurd cause
+  refused_status_has_refusal (Some c) err err' (answer.Refused r) s cause (inl (e, told)) is = (r, cause.0, told)
+  refused_status_has_refusal command err err' answer.ReadFault s cause (inl (e, told)) is = cc
+  refused_status_has_refusal command err err' answer.WriteFault s cause (inl (e, told)) is = cc
+  refused_status_has_refusal command err err' answer.NoMemory s cause (inl (e, told)) is = cc
 
-  -- by then a machine was read to its end
+  -- if the status is Refused, the machine was read to its end
   pub machine_read : (command : Option Command) (err err' : SinkState) (a : Answer) (s : Status) → IsCause old new command a
       → IsAnswered err err' a s → s ≡ status.Refused → IsReadOut old.host new.host (machine_in command)
   machine_read None err err' a s cause told is = tt
@@ -703,24 +703,24 @@ module _ (old new : Devices) where
   machine_read (Some c) err err' answer.NoMemory s cause (inl (e, told)) is = cc
 
   -- writing failed after a part of the output
-  pub cut_off_told : (command : Option Command) (err err' : SinkState) (a : Answer) (s : Status) → IsCause old new command a
+  pub write_fault_status_means_cut_off : (command : Option Command) (err err' : SinkState) (a : Answer) (s : Status) → IsCause old new command a
       → IsAnswered err err' a s → s ≡ status.WriteFault
       → IsSomeAnd command
       (λ c. WritesRose old new (target_of c) × ForRead old.host c (GetsPartOfOutput old new c))
-  cut_off_told command err err' a s cause (inr (e, part)) is = cc
-  cut_off_told command err err' (answer.Written ending.Done) s cause (inl (e, told)) is = cc
-  cut_off_told command err err' (answer.Written ending.Stuck) s cause (inl (e, told)) is = cc
-  cut_off_told command err err' (answer.Written ending.NotCertified) s cause (inl (e, told)) is = cc
-  cut_off_told command err err' answer.BadLine s cause (inl (e, told)) is = cc
-  cut_off_told command err err' (answer.Refused r) s cause (inl (e, told)) is = cc
-  cut_off_told command err err' answer.ReadFault s cause (inl (e, told)) is = cc
-  cut_off_told None err err' answer.WriteFault s cause (inl (e, told)) is = absurd cause
-  cut_off_told (Some c) err err' answer.WriteFault s cause (inl (e, told)) is = (cause.1, cause.0.output)
-  cut_off_told command err err' answer.NoMemory s cause (inl (e, told)) is = cc
+  write_fault_status_means_cut_off command err err' a s cause (inr (e, part)) is = cc
+  write_fault_status_means_cut_off command err err' (answer.Written ending.Done) s cause (inl (e, told)) is = cc
+  write_fault_status_means_cut_off command err err' (answer.Written ending.Stuck) s cause (inl (e, told)) is = cc
+  write_fault_status_means_cut_off command err err' (answer.Written ending.NotCertified) s cause (inl (e, told)) is = cc
+  write_fault_status_means_cut_off command err err' answer.BadLine s cause (inl (e, told)) is = cc
+  write_fault_status_means_cut_off command err err' (answer.Refused r) s cause (inl (e, told)) is = cc
+  write_fault_status_means_cut_off command err err' answer.ReadFault s cause (inl (e, told)) is = cc
+  write_fault_status_means_cut_off None err err' answer.WriteFault s cause (inl (e, told)) is = absurd cause
+  write_fault_status_means_cut_off (Some c) err err' answer.WriteFault s cause (inl (e, told)) is = (cause.1, cause.0.output)
+  write_fault_status_means_cut_off command err err' answer.NoMemory s cause (inl (e, told)) is = cc
 
   -- nothing was written
-  silent_at : (s t : Status) → s ≡ t → IsSilent s → IsSilent t
-  silent_at s t e silent = rw e at silent
+  silent_of_equal_status : (s t : Status) → s ≡ t → IsSilent s → IsSilent t
+  silent_of_equal_status s t e silent = rw e at silent
 
   untouched_none : (a : Answer) → IsCauseOfNone old new a → IsUntouched old new
   untouched_none a cause = (no_memory_causes_none a cause).1
@@ -744,34 +744,34 @@ module _ (old new : Devices) where
       → IsAnswered err err' a s → IsSilent s → IsUntouched old new
   untouched None err err' a s cause told silent = untouched_none a cause
   untouched (Some c) err err' a s cause (inr (e, part)) silent =
-      absurd (not_silent status.NoMemory (λ e. cc) (λ e. cc) (λ e. cc) (silent_at s status.NoMemory e silent))
-  untouched (Some c) err err' a s cause (inl (e, told)) silent = untouched_by c a cause (silent_at s (status_of a) e silent)
+      absurd (not_silent status.NoMemory (λ e. cc) (λ e. cc) (λ e. cc) (silent_of_equal_status s status.NoMemory e silent))
+  untouched (Some c) err err' a s cause (inl (e, told)) silent = untouched_by c a cause (silent_of_equal_status s (status_of a) e silent)
 
   -- the words are no command line
-  pub no_line : (command : Option Command) (err err' : SinkState) (a : Answer) (s : Status) → IsCause old new command a
+  pub bad_line_status_has_no_command : (command : Option Command) (err err' : SinkState) (a : Answer) (s : Status) → IsCause old new command a
       → IsAnswered err err' a s → s ≡ status.BadLine → command ≡ None
-  no_line command err err' a s cause (inr (e, part)) is = cc
-  no_line command err err' (answer.Written ending.Done) s cause (inl (e, told)) is = cc
-  no_line command err err' (answer.Written ending.Stuck) s cause (inl (e, told)) is = cc
-  no_line command err err' (answer.Written ending.NotCertified) s cause (inl (e, told)) is = cc
-  no_line None err err' answer.BadLine s cause (inl (e, told)) is = refl
-  no_line (Some c) err err' answer.BadLine s cause (inl (e, told)) is = absurd cause
-  no_line command err err' (answer.Refused r) s cause (inl (e, told)) is = cc
-  no_line command err err' answer.ReadFault s cause (inl (e, told)) is = cc
-  no_line command err err' answer.WriteFault s cause (inl (e, told)) is = cc
-  no_line command err err' answer.NoMemory s cause (inl (e, told)) is = cc
+  bad_line_status_has_no_command command err err' a s cause (inr (e, part)) is = cc
+  bad_line_status_has_no_command command err err' (answer.Written ending.Done) s cause (inl (e, told)) is = cc
+  bad_line_status_has_no_command command err err' (answer.Written ending.Stuck) s cause (inl (e, told)) is = cc
+  bad_line_status_has_no_command command err err' (answer.Written ending.NotCertified) s cause (inl (e, told)) is = cc
+  bad_line_status_has_no_command None err err' answer.BadLine s cause (inl (e, told)) is = refl
+  bad_line_status_has_no_command (Some c) err err' answer.BadLine s cause (inl (e, told)) is = absurd cause
+  bad_line_status_has_no_command command err err' (answer.Refused r) s cause (inl (e, told)) is = cc
+  bad_line_status_has_no_command command err err' answer.ReadFault s cause (inl (e, told)) is = cc
+  bad_line_status_has_no_command command err err' answer.WriteFault s cause (inl (e, told)) is = cc
+  bad_line_status_has_no_command command err err' answer.NoMemory s cause (inl (e, told)) is = cc
 
-  pub no_line_told : (err err' : SinkState) (a : Answer) (s : Status) → IsCauseOfNone old new a → IsAnswered err err' a s
+  pub no_command_answers_bad_line : (err err' : SinkState) (a : Answer) (s : Status) → IsCauseOfNone old new a → IsAnswered err err' a s
       → Answers s status.BadLine
-  no_line_told err err' a s cause (inr (e, part)) = inr e
-  no_line_told err err' answer.BadLine s cause (inl (e, told)) = inl e
-  no_line_told err err' answer.NoMemory s cause (inl (e, told)) = inr e
-  no_line_told err err' (answer.Written ending.Done) s cause (inl (e, told)) = absurd cause
-  no_line_told err err' (answer.Written ending.Stuck) s cause (inl (e, told)) = absurd cause
-  no_line_told err err' (answer.Written ending.NotCertified) s cause (inl (e, told)) = absurd cause
-  no_line_told err err' (answer.Refused r) s cause (inl (e, told)) = absurd cause
-  no_line_told err err' answer.ReadFault s cause (inl (e, told)) = absurd cause
-  no_line_told err err' answer.WriteFault s cause (inl (e, told)) = absurd cause
+  no_command_answers_bad_line err err' a s cause (inr (e, part)) = inr e
+  no_command_answers_bad_line err err' answer.BadLine s cause (inl (e, told)) = inl e
+  no_command_answers_bad_line err err' answer.NoMemory s cause (inl (e, told)) = inr e
+  no_command_answers_bad_line err err' (answer.Written ending.Done) s cause (inl (e, told)) = absurd cause
+  no_command_answers_bad_line err err' (answer.Written ending.Stuck) s cause (inl (e, told)) = absurd cause
+  no_command_answers_bad_line err err' (answer.Written ending.NotCertified) s cause (inl (e, told)) = absurd cause
+  no_command_answers_bad_line err err' (answer.Refused r) s cause (inl (e, told)) = absurd cause
+  no_command_answers_bad_line err err' answer.ReadFault s cause (inl (e, told)) = absurd cause
+  no_command_answers_bad_line err err' answer.WriteFault s cause (inl (e, told)) = absurd cause
 
   -- the input was not read
   pub read_fault : (command : Option Command) (err err' : SinkState) (a : Answer) (s : Status) → IsCause old new command a
@@ -833,23 +833,23 @@ module _ (old new : Devices) where
   not_certified command err err' answer.WriteFault s cause (inl (e, told)) is = cc
   not_certified command err err' answer.NoMemory s cause (inl (e, told)) is = cc
 
-  -- only a verdict ends so
-  ends_verdict : (v : View) → EndsAs v ending.NotCertified → IsVerdict v
-  ends_verdict (view.Run how) (true, is) = cc
-  ends_verdict (view.Run how) (false, is) = cc
-  ends_verdict view.Text is = cc
-  ends_verdict (view.File name) is = cc
-  ends_verdict (view.Verdict what) is = tt
+  -- only a verdict ends with NotCertified
+  not_certified_view_is_verdict : (v : View) → EndsAs v ending.NotCertified → IsVerdict v
+  not_certified_view_is_verdict (view.Run how) (true, is) = cc
+  not_certified_view_is_verdict (view.Run how) (false, is) = cc
+  not_certified_view_is_verdict view.Text is = cc
+  not_certified_view_is_verdict (view.File name) is = cc
+  not_certified_view_is_verdict (view.Verdict what) is = tt
 
-  only_written : (command : Option Command) → IsSomeAnd command (IsWritten old new ending.NotCertified) → IsSomeAnd command IsCertify
-  only_written None w = w
-  only_written (Some c) w = ends_verdict c.view w.ends
+  written_not_certified_is_certify : (command : Option Command) → IsSomeAnd command (IsWritten old new ending.NotCertified) → IsSomeAnd command IsCertify
+  written_not_certified_is_certify None w = w
+  written_not_certified_is_certify (Some c) w = not_certified_view_is_verdict c.view w.ends
 
   pub only_certify : (command : Option Command) (err err' : SinkState) (a : Answer) (s : Status) → IsCause old new command a
       → IsAnswered err err' a s → s ≡ status.NotCertified
       → IsSomeAnd command IsCertify
   only_certify command err err' a s cause told is =
-      only_written command (not_certified command err err' a s cause told is)
+      written_not_certified_is_certify command (not_certified command err err' a s cause told is)
 
 -- the line of a status was written
 pub line_said : (err err' : SinkState) (a : Answer) (s : Status) → IsAnswered err err' a s
@@ -865,24 +865,24 @@ line_said err err' answer.WriteFault s (inl (e, told)) = rw e told
 line_said err err' answer.NoMemory s (inl (e, told)) = rw e tt
 
 -- nothing was written to `err`
-pub nothing_at : (a : Answer) (s : Status) (err err' : SinkState) → IsAnswered err err' a s → (s ≡ status.Done) ⊎ (s ≡ status.Stuck) ⊎ (s ≡ status.NotCertified)
+pub nothing_said_when_output_written : (a : Answer) (s : Status) (err err' : SinkState) → IsAnswered err err' a s → (s ≡ status.Done) ⊎ (s ≡ status.Stuck) ⊎ (s ≡ status.NotCertified)
     → err' ≡ err
-nothing_at a s err err' (inr (e, part)) (inl is) = cc
-nothing_at a s err err' (inr (e, part)) (inr (inl is)) = cc
-nothing_at a s err err' (inr (e, part)) (inr (inr is)) = cc
-nothing_at (answer.Written e') s err err' (inl (e, told)) is = told
-nothing_at answer.BadLine s err err' (inl (e, told)) (inl is) = cc
-nothing_at answer.BadLine s err err' (inl (e, told)) (inr (inl is)) = cc
-nothing_at answer.BadLine s err err' (inl (e, told)) (inr (inr is)) = cc
-nothing_at (answer.Refused r) s err err' (inl (e, told)) (inl is) = cc
-nothing_at (answer.Refused r) s err err' (inl (e, told)) (inr (inl is)) = cc
-nothing_at (answer.Refused r) s err err' (inl (e, told)) (inr (inr is)) = cc
-nothing_at answer.ReadFault s err err' (inl (e, told)) (inl is) = cc
-nothing_at answer.ReadFault s err err' (inl (e, told)) (inr (inl is)) = cc
-nothing_at answer.ReadFault s err err' (inl (e, told)) (inr (inr is)) = cc
-nothing_at answer.WriteFault s err err' (inl (e, told)) (inl is) = cc
-nothing_at answer.WriteFault s err err' (inl (e, told)) (inr (inl is)) = cc
-nothing_at answer.WriteFault s err err' (inl (e, told)) (inr (inr is)) = cc
-nothing_at answer.NoMemory s err err' (inl (e, told)) (inl is) = cc
-nothing_at answer.NoMemory s err err' (inl (e, told)) (inr (inl is)) = cc
-nothing_at answer.NoMemory s err err' (inl (e, told)) (inr (inr is)) = cc
+nothing_said_when_output_written a s err err' (inr (e, part)) (inl is) = cc
+nothing_said_when_output_written a s err err' (inr (e, part)) (inr (inl is)) = cc
+nothing_said_when_output_written a s err err' (inr (e, part)) (inr (inr is)) = cc
+nothing_said_when_output_written (answer.Written e') s err err' (inl (e, told)) is = told
+nothing_said_when_output_written answer.BadLine s err err' (inl (e, told)) (inl is) = cc
+nothing_said_when_output_written answer.BadLine s err err' (inl (e, told)) (inr (inl is)) = cc
+nothing_said_when_output_written answer.BadLine s err err' (inl (e, told)) (inr (inr is)) = cc
+nothing_said_when_output_written (answer.Refused r) s err err' (inl (e, told)) (inl is) = cc
+nothing_said_when_output_written (answer.Refused r) s err err' (inl (e, told)) (inr (inl is)) = cc
+nothing_said_when_output_written (answer.Refused r) s err err' (inl (e, told)) (inr (inr is)) = cc
+nothing_said_when_output_written answer.ReadFault s err err' (inl (e, told)) (inl is) = cc
+nothing_said_when_output_written answer.ReadFault s err err' (inl (e, told)) (inr (inl is)) = cc
+nothing_said_when_output_written answer.ReadFault s err err' (inl (e, told)) (inr (inr is)) = cc
+nothing_said_when_output_written answer.WriteFault s err err' (inl (e, told)) (inl is) = cc
+nothing_said_when_output_written answer.WriteFault s err err' (inl (e, told)) (inr (inl is)) = cc
+nothing_said_when_output_written answer.WriteFault s err err' (inl (e, told)) (inr (inr is)) = cc
+nothing_said_when_output_written answer.NoMemory s err err' (inl (e, told)) (inl is) = cc
+nothing_said_when_output_written answer.NoMemory s err err' (inl (e, told)) (inr (inl is)) = cc
+nothing_said_when_output_written answer.NoMemory s err err' (inl (e, told)) (inr (inr is)) = cc

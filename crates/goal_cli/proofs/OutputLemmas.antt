@@ -12,7 +12,7 @@ use Rattle.goal_words.specs.declared.request.View.{View}
 use Rattle.goal_words.specs.declared.request.View.TheVariants as view
 use Rattle.goal_words.specs.declared.request.RunView.{RunView}
 use Rattle.goal_words.specs.Words.{Command, Sim, Nodes, Compile, Pricing, ByNumbers, ByMachine, Unpriced}
-use Rattle.goal_views.proofs.ForCallers.{one_shown}
+use Rattle.goal_views.proofs.ForCallers.{shown_run_is_unique}
 use Rattle.goal_cli.specs.Verdict.{faulty_text, IsVerdictOn}
 use Rattle.goal_input.specs.Input.{IsReadAs}
 use Rattle.goal_cli.specs.declared.answer.Ending.{Ending}
@@ -43,7 +43,7 @@ module _ (excludes : FaultExcludesCertified) (single : OneFirstFault) where
   one_run : (how : RunView) (costs : CostModel) (sched : List Plan) (one other : List ℕ) (e d : Ending) → IsRunShown how costs sched one e
       → IsRunShown how costs sched other d → (one ≡ other) × (e ≡ d)
   one_run how costs sched one other e d a b =
-      let same = one_shown how costs sched one other a.stuck b.stuck a.run b.run in
+      let same = shown_run_is_unique how costs sched one other a.stuck b.stuck a.run b.run in
       (same.0, a.ends ∙ ap ending_if same.1 ∙ sym b.ends)
 
   -- a view shows one text
@@ -72,18 +72,18 @@ pub compiled_again : (name out : List ℕ) (input : Input) (output : List ℕ) (
 compiled_again name out input output e sched read is =
     subst (λ (ps : List Plan). IsReadAs output ps) (same_schedule input.schedule is.sched sched is.has.from read) is.shown.0.again
 
--- on a machine whose classes are alike the output is that of `sim`
+-- on a machine whose classes have equal numbers, the output is that of `sim`
 module _ (whole : ReadIsWhole) (alike : AlikeIsLogGops) where
-  alike_costs : (text : List ℕ) (k m : MachineModel) (p : Numbers) → form.machine text ≡ Ok k → form.machine text ≡ Ok m
+  costs_of_text_with_equal_classes : (text : List ℕ) (k m : MachineModel) (p : Numbers) → form.machine text ≡ Ok k → form.machine text ≡ Ok m
       → ((class : ℕ) → class < length m.classes → numbers_of m class ≡ p) → costs_of k ≡ log_gops p
-  alike_costs text k m p a b same =
+  costs_of_text_with_equal_classes text k m p a b same =
       ap costs_of (one_machine text k m a b) ∙ alike m p (whole text m b) same
 
-  pub as_sim : (name text : List ℕ) (input : Input) (m : MachineModel) (p : Numbers) (output : List ℕ) (e : Ending)
+  pub nodes_output_is_sim_output : (name text : List ℕ) (input : Input) (m : MachineModel) (p : Numbers) (output : List ℕ) (e : Ending)
       → form.machine input.machine ≡ Ok m → ((class : ℕ) → class < length m.classes → numbers_of m class ≡ p)
       → IsOutput (Nodes name text) input output e → IsOutput (Sim name p) input output e
-  as_sim name text input m p output e said same a =
-      let costs = alike_costs input.machine a.has.costed.0 m p a.has.costed.1.said said same in
+  nodes_output_is_sim_output name text input m p output e said same a =
+      let costs = costs_of_text_with_equal_classes input.machine a.has.costed.0 m p a.has.costed.1.said said same in
       record {
         sched = a.sched;
         has = record {

@@ -27,25 +27,25 @@ rest_is_shorter all [] rest is some = absurd (some refl)
 rest_is_shorter all (x ∷ made) rest is some = rw is (omega (arith, length-append (x ∷ made) rest))
 
 -- a text, and then another
-pub grows_then : (a b c : SinkState) (xs ys : List ℕ) → Grows a b xs → b.tells ≡ a.tells → Grows b c ys → Grows a c (xs ++ ys)
-grows_then a b c xs ys first same more = record {
+pub grows_by_append : (a b c : SinkState) (xs ys : List ℕ) → Grows a b xs → b.tells ≡ a.tells → Grows b c ys → Grows a c (xs ++ ys)
+grows_by_append a b c xs ys first same more = record {
   told = λ t. more.told (same ∙ t) ∙ ap (λ (l : List ℕ). l ++ ys) (first.told t) ∙ append_assoc a.bytes xs ys;
 }
 
--- what was written is a prefix of the whole, with what follows
-pub part_of : (a b : SinkState) (xs ys : List ℕ) → Grows a b xs → GrowsByPart a b (xs ++ ys)
-part_of a b xs ys all = (length xs, subst (Grows a b) (sym (take-append_seam xs ys)) all)
+-- bytes that were written are a prefix of these bytes with others appended
+pub grows_by_part_of_append : (a b : SinkState) (xs ys : List ℕ) → Grows a b xs → GrowsByPart a b (xs ++ ys)
+grows_by_part_of_append a b xs ys all = (length xs, subst (Grows a b) (sym (take-append_seam xs ys)) all)
 
 -- a part of the first text is a part of both
-pub part_of_first : (a b : SinkState) (xs ys : List ℕ) → GrowsByPart a b xs → GrowsByPart a b (xs ++ ys)
-part_of_first a b xs ys part =
+pub part_of_first_is_part_of_append : (a b : SinkState) (xs ys : List ℕ) → GrowsByPart a b xs → GrowsByPart a b (xs ++ ys)
+part_of_first_is_part_of_append a b xs ys part =
     let n = part.0 in
     subst (GrowsByPart a b) (sym (append_assoc (take n xs) (drop n xs) ys) ∙ ap (λ (l : List ℕ). l ++ ys) (take-append-drop n xs))
-    (part_of a b (take n xs) (drop n xs ++ ys) part.1)
+    (grows_by_part_of_append a b (take n xs) (drop n xs ++ ys) part.1)
 
 -- a text, and then a part of another
 pub part_then : (a b c : SinkState) (xs ys : List ℕ) → Grows a b xs → b.tells ≡ a.tells → GrowsByPart b c ys → GrowsByPart a c (xs ++ ys)
 part_then a b c xs ys first same part =
     let n = part.0 in
     subst (GrowsByPart a c) (append_assoc xs (take n ys) (drop n ys) ∙ ap (λ (l : List ℕ). xs ++ l) (take-append-drop n ys))
-    (part_of a c (xs ++ take n ys) (drop n ys) (grows_then a b c xs (take n ys) first same part.1))
+    (grows_by_part_of_append a c (xs ++ take n ys) (drop n ys) (grows_by_append a b c xs (take n ys) first same part.1))

@@ -79,10 +79,10 @@ same_source (source.Made what ranks bytes) text again said sched other r s a b =
 same_source (source.Drawn rounds seed) text again said sched other r s a b = a ∙ sym b
 
 -- a source that has no schedule has no file
-no_file : (from : Source) (f : GenFault) → IsNotFrom from f → is_some (named_by from) ≡ true → ⊥
-no_file (source.File name) f a has = a
-no_file (source.Made what ranks bytes) f a has = cc
-no_file (source.Drawn rounds seed) f a has = a
+named_source_has_schedule : (from : Source) (f : GenFault) → IsNotFrom from f → is_some (named_by from) ≡ true → ⊥
+named_source_has_schedule (source.File name) f a has = a
+named_source_has_schedule (source.Made what ranks bytes) f a has = cc
+named_source_has_schedule (source.Drawn rounds seed) f a has = a
 
 no_source : (from : Source) (text : List ℕ) (sched : List Plan) (f : GenFault) → IsFrom from text sched → IsNotFrom from f → ⊥
 no_source (source.File name) text sched f a b = b
@@ -135,23 +135,23 @@ output_fits c input sched s a b =
     omega arith
 
 -- files that are not too long
-short_files : (c : Command) (input : Input) → IsTooLong c input → (HasInput c → length input.schedule ≤ MAX_INPUT)
+files_within_limit_not_too_long : (c : Command) (input : Input) → IsTooLong c input → (HasInput c → length input.schedule ≤ MAX_INPUT)
     → (HasMachine c → length input.machine ≤ MAX_INPUT) → ⊥
-short_files c input (inl long) first second = let h = first long.0 in let k = long.1 in omega arith
-short_files c input (inr long) first second = let h = second long.0 in let k = long.1 in omega arith
+files_within_limit_not_too_long c input (inl long) first second = let h = first long.0 in let k = long.1 in omega arith
+files_within_limit_not_too_long c input (inr long) first second = let h = second long.0 in let k = long.1 in omega arith
 
 -- an input that is refused for another reason is not too long
-not_long : (c : Command) (input : Input) (r : Refusal) → (r ≢ TooLong) → IsRefused c input r → IsTooLong c input → ⊥
-not_long c input TooLong other a long = other refl
-not_long c input (Text f) other a long = short_files c input long (λ _. a.2.short) (λ _. a.1)
-not_long c input (File f) other a long = short_files c input long (λ _. a.2.short) (λ _. a.1)
-not_long c input (Generator f) other a long = short_files c input long (λ has. absurd (no_file c.source f a.1 has)) (λ _. a.0)
-not_long c input (Machine f) other a long =
-    short_files c input long (λ has. (source_read c.source input.schedule a.1.sched a.1.from has).short) (λ _. a.1.short)
-not_long c input (MachineRanks p) other a long =
-    short_files c input long (λ has. (source_read c.source input.schedule a.1.sched a.1.from has).short) (λ _. a.1.short)
-not_long c input (Budget s) other a long =
-    short_files c input long (λ has. (source_read c.source input.schedule a.sched a.from has).short)
+refused_otherwise_not_too_long : (c : Command) (input : Input) (r : Refusal) → (r ≢ TooLong) → IsRefused c input r → IsTooLong c input → ⊥
+refused_otherwise_not_too_long c input TooLong other a long = other refl
+refused_otherwise_not_too_long c input (Text f) other a long = files_within_limit_not_too_long c input long (λ _. a.2.short) (λ _. a.1)
+refused_otherwise_not_too_long c input (File f) other a long = files_within_limit_not_too_long c input long (λ _. a.2.short) (λ _. a.1)
+refused_otherwise_not_too_long c input (Generator f) other a long = files_within_limit_not_too_long c input long (λ has. absurd (named_source_has_schedule c.source f a.1 has)) (λ _. a.0)
+refused_otherwise_not_too_long c input (Machine f) other a long =
+    files_within_limit_not_too_long c input long (λ has. (source_read c.source input.schedule a.1.sched a.1.from has).short) (λ _. a.1.short)
+refused_otherwise_not_too_long c input (MachineRanks p) other a long =
+    files_within_limit_not_too_long c input long (λ has. (source_read c.source input.schedule a.1.sched a.1.from has).short) (λ _. a.1.short)
+refused_otherwise_not_too_long c input (Budget s) other a long =
+    files_within_limit_not_too_long c input long (λ has. (source_read c.source input.schedule a.sched a.from has).short)
     (λ has. (costs_machine c.costs input.machine a.sched (Some a.costs) a.costed has).1.short)
 
 -- a reason that comes after the schedule
@@ -164,45 +164,45 @@ IsLater (Text f) = ⊥
 IsLater (File f) = ⊥
 IsLater (Generator f) = ⊥
 
-later_from : (c : Command) (input : Input) (r : Refusal) → IsLater r → IsRefused c input r → (sched : List Plan) × IsFrom c.source input.schedule sched
-later_from c input (Machine f) later a = (a.1.sched, a.1.from)
-later_from c input (MachineRanks p) later a = (a.1.sched, a.1.from)
-later_from c input (Budget s) later a = (a.sched, a.from)
-later_from c input TooLong later a = absurd later
-later_from c input (Text f) later a = absurd later
-later_from c input (File f) later a = absurd later
-later_from c input (Generator f) later a = absurd later
+later_refusal_has_schedule : (c : Command) (input : Input) (r : Refusal) → IsLater r → IsRefused c input r → (sched : List Plan) × IsFrom c.source input.schedule sched
+later_refusal_has_schedule c input (Machine f) later a = (a.1.sched, a.1.from)
+later_refusal_has_schedule c input (MachineRanks p) later a = (a.1.sched, a.1.from)
+later_refusal_has_schedule c input (Budget s) later a = (a.sched, a.from)
+later_refusal_has_schedule c input TooLong later a = absurd later
+later_refusal_has_schedule c input (Text f) later a = absurd later
+later_refusal_has_schedule c input (File f) later a = absurd later
+later_refusal_has_schedule c input (Generator f) later a = absurd later
 
-text_later : (c : Command) (input : Input) (f : TextFault) (r : Refusal) → IsLater r → IsRefused c input (Text f) → IsRefused c input r → ⊥
-text_later c input f r later a b =
-    let k = later_from c input r later b in
+text_fault_excludes_later_refusal : (c : Command) (input : Input) (f : TextFault) (r : Refusal) → IsLater r → IsRefused c input (Text f) → IsRefused c input r → ⊥
+text_fault_excludes_later_refusal c input f r later a b =
+    let k = later_refusal_has_schedule c input r later b in
     no_text_fault input.schedule k.0 f a.2 (source_read c.source input.schedule k.0 k.1 a.0)
 
-file_later : (c : Command) (input : Input) (f : FileFault) (r : Refusal) → IsLater r → IsRefused c input (File f) → IsRefused c input r → ⊥
-file_later c input f r later a b =
-    let k = later_from c input r later b in
+file_fault_excludes_later_refusal : (c : Command) (input : Input) (f : FileFault) (r : Refusal) → IsLater r → IsRefused c input (File f) → IsRefused c input r → ⊥
+file_fault_excludes_later_refusal c input f r later a b =
+    let k = later_refusal_has_schedule c input r later b in
     no_file_fault input.schedule k.0 f a.2 (source_read c.source input.schedule k.0 k.1 a.0)
 
-made_later : (c : Command) (input : Input) (f : GenFault) (r : Refusal) → IsLater r → IsRefused c input (Generator f) → IsRefused c input r → ⊥
-made_later c input f r later a b =
-    let k = later_from c input r later b in
+generator_fault_excludes_later_refusal : (c : Command) (input : Input) (f : GenFault) (r : Refusal) → IsLater r → IsRefused c input (Generator f) → IsRefused c input r → ⊥
+generator_fault_excludes_later_refusal c input f r later a b =
+    let k = later_refusal_has_schedule c input r later b in
     no_source c.source input.schedule k.0 f k.1 a.1
 
 -- a budget on a machine has one that fits
-other_ranks_read : (c : Command) (input : Input) (sched : List Plan) (m : MachineModel) (p : ℕ) → IsFrom c.source input.schedule sched
+fitting_machine_not_for_other_ranks : (c : Command) (input : Input) (sched : List Plan) (m : MachineModel) (p : ℕ) → IsFrom c.source input.schedule sched
     → IsMachineFor input.machine sched m → IsForOtherRanks c input p → ⊥
-other_ranks_read c input sched m p from a b =
+fitting_machine_not_for_other_ranks c input sched m p from a b =
     b.other (b.ranks_are ∙ ap (λ (k : MachineModel). length k.nodes) (one_machine input.machine _ _ b.said a.said) ∙ a.ranks ∙ ap length (one_schedule c.source input.schedule _ _ from b.from))
 
-machine_budget : (c : Command) (input : Input) (f : MachineFault) (s : ℕ) → IsRefused c input (Machine f) → IsOverBudget c input s → ⊥
-machine_budget c input f s a b =
+machine_fault_excludes_over_budget : (c : Command) (input : Input) (f : MachineFault) (s : ℕ) → IsRefused c input (Machine f) → IsOverBudget c input s → ⊥
+machine_fault_excludes_over_budget c input f s a b =
     let k = costs_machine c.costs input.machine b.sched (Some b.costs) b.costed a.0 in
     no_machine input.machine k.0 f k.1.said a.1.first
 
-ranks_budget : (c : Command) (input : Input) (p s : ℕ) → IsRefused c input (MachineRanks p) → IsOverBudget c input s → ⊥
-ranks_budget c input p s a b =
+other_ranks_exclude_over_budget : (c : Command) (input : Input) (p s : ℕ) → IsRefused c input (MachineRanks p) → IsOverBudget c input s → ⊥
+other_ranks_exclude_over_budget c input p s a b =
     let k = costs_machine c.costs input.machine b.sched (Some b.costs) b.costed a.0 in
-    other_ranks_read c input b.sched k.0 p b.from k.1 a.1
+    fitting_machine_not_for_other_ranks c input b.sched k.0 p b.from k.1 a.1
 
 same_fault : (c : Command) (input : Input) (f g : MachineFault) → IsMachineFault c input f → IsMachineFault c input g → f ≡ g
 same_fault c input f g a b = let e : ◌≡◌ {A = Result MachineModel MachineFault} (Err f) (Err g) = sym a.first ∙ b.first in cc
@@ -213,59 +213,59 @@ same_ranks c input p q a b =
 
 pub same_refusal : (c : Command) (input : Input) (r q : Refusal) → IsRefused c input r → IsRefused c input q → r ≡ q
 same_refusal c input TooLong TooLong a b = refl
-same_refusal c input TooLong (Text g) a b = absurd (not_long c input (Text g) (λ e. cc) b a)
-same_refusal c input TooLong (File g) a b = absurd (not_long c input (File g) (λ e. cc) b a)
-same_refusal c input TooLong (Machine g) a b = absurd (not_long c input (Machine g) (λ e. cc) b a)
-same_refusal c input TooLong (MachineRanks q) a b = absurd (not_long c input (MachineRanks q) (λ e. cc) b a)
-same_refusal c input TooLong (Generator g) a b = absurd (not_long c input (Generator g) (λ e. cc) b a)
-same_refusal c input TooLong (Budget t) a b = absurd (not_long c input (Budget t) (λ e. cc) b a)
-same_refusal c input (Text f) TooLong a b = absurd (not_long c input (Text f) (λ e. cc) a b)
+same_refusal c input TooLong (Text g) a b = absurd (refused_otherwise_not_too_long c input (Text g) (λ e. cc) b a)
+same_refusal c input TooLong (File g) a b = absurd (refused_otherwise_not_too_long c input (File g) (λ e. cc) b a)
+same_refusal c input TooLong (Machine g) a b = absurd (refused_otherwise_not_too_long c input (Machine g) (λ e. cc) b a)
+same_refusal c input TooLong (MachineRanks q) a b = absurd (refused_otherwise_not_too_long c input (MachineRanks q) (λ e. cc) b a)
+same_refusal c input TooLong (Generator g) a b = absurd (refused_otherwise_not_too_long c input (Generator g) (λ e. cc) b a)
+same_refusal c input TooLong (Budget t) a b = absurd (refused_otherwise_not_too_long c input (Budget t) (λ e. cc) b a)
+same_refusal c input (Text f) TooLong a b = absurd (refused_otherwise_not_too_long c input (Text f) (λ e. cc) a b)
 same_refusal c input (Text f) (Text g) a b = let same = same_text_fault input.schedule f g a.2 b.2 in cc
 same_refusal c input (Text f) (File g) a b = absurd (not_both input.schedule f g a.2 b.2)
-same_refusal c input (Text f) (Machine g) a b = absurd (text_later c input f (Machine g) tt a b)
-same_refusal c input (Text f) (MachineRanks q) a b = absurd (text_later c input f (MachineRanks q) tt a b)
-same_refusal c input (Text f) (Generator g) a b = absurd (no_file c.source g b.1 a.0)
-same_refusal c input (Text f) (Budget t) a b = absurd (text_later c input f (Budget t) tt a b)
-same_refusal c input (File f) TooLong a b = absurd (not_long c input (File f) (λ e. cc) a b)
+same_refusal c input (Text f) (Machine g) a b = absurd (text_fault_excludes_later_refusal c input f (Machine g) tt a b)
+same_refusal c input (Text f) (MachineRanks q) a b = absurd (text_fault_excludes_later_refusal c input f (MachineRanks q) tt a b)
+same_refusal c input (Text f) (Generator g) a b = absurd (named_source_has_schedule c.source g b.1 a.0)
+same_refusal c input (Text f) (Budget t) a b = absurd (text_fault_excludes_later_refusal c input f (Budget t) tt a b)
+same_refusal c input (File f) TooLong a b = absurd (refused_otherwise_not_too_long c input (File f) (λ e. cc) a b)
 same_refusal c input (File f) (Text g) a b = absurd (not_both input.schedule g f b.2 a.2)
 same_refusal c input (File f) (File g) a b = let same = same_file_fault input.schedule f g a.2 b.2 in cc
-same_refusal c input (File f) (Machine g) a b = absurd (file_later c input f (Machine g) tt a b)
-same_refusal c input (File f) (MachineRanks q) a b = absurd (file_later c input f (MachineRanks q) tt a b)
-same_refusal c input (File f) (Generator g) a b = absurd (no_file c.source g b.1 a.0)
-same_refusal c input (File f) (Budget t) a b = absurd (file_later c input f (Budget t) tt a b)
-same_refusal c input (Machine f) TooLong a b = absurd (not_long c input (Machine f) (λ e. cc) a b)
-same_refusal c input (Machine f) (Text g) a b = absurd (text_later c input g (Machine f) tt b a)
-same_refusal c input (Machine f) (File g) a b = absurd (file_later c input g (Machine f) tt b a)
+same_refusal c input (File f) (Machine g) a b = absurd (file_fault_excludes_later_refusal c input f (Machine g) tt a b)
+same_refusal c input (File f) (MachineRanks q) a b = absurd (file_fault_excludes_later_refusal c input f (MachineRanks q) tt a b)
+same_refusal c input (File f) (Generator g) a b = absurd (named_source_has_schedule c.source g b.1 a.0)
+same_refusal c input (File f) (Budget t) a b = absurd (file_fault_excludes_later_refusal c input f (Budget t) tt a b)
+same_refusal c input (Machine f) TooLong a b = absurd (refused_otherwise_not_too_long c input (Machine f) (λ e. cc) a b)
+same_refusal c input (Machine f) (Text g) a b = absurd (text_fault_excludes_later_refusal c input g (Machine f) tt b a)
+same_refusal c input (Machine f) (File g) a b = absurd (file_fault_excludes_later_refusal c input g (Machine f) tt b a)
 same_refusal c input (Machine f) (Machine g) a b = let same = same_fault c input f g a.1 b.1 in cc
 same_refusal c input (Machine f) (MachineRanks q) a b = absurd (no_machine input.machine _ f b.1.said a.1.first)
-same_refusal c input (Machine f) (Generator g) a b = absurd (made_later c input g (Machine f) tt b a)
-same_refusal c input (Machine f) (Budget t) a b = absurd (machine_budget c input f t a b)
-same_refusal c input (MachineRanks p) TooLong a b = absurd (not_long c input (MachineRanks p) (λ e. cc) a b)
-same_refusal c input (MachineRanks p) (Text g) a b = absurd (text_later c input g (MachineRanks p) tt b a)
-same_refusal c input (MachineRanks p) (File g) a b = absurd (file_later c input g (MachineRanks p) tt b a)
+same_refusal c input (Machine f) (Generator g) a b = absurd (generator_fault_excludes_later_refusal c input g (Machine f) tt b a)
+same_refusal c input (Machine f) (Budget t) a b = absurd (machine_fault_excludes_over_budget c input f t a b)
+same_refusal c input (MachineRanks p) TooLong a b = absurd (refused_otherwise_not_too_long c input (MachineRanks p) (λ e. cc) a b)
+same_refusal c input (MachineRanks p) (Text g) a b = absurd (text_fault_excludes_later_refusal c input g (MachineRanks p) tt b a)
+same_refusal c input (MachineRanks p) (File g) a b = absurd (file_fault_excludes_later_refusal c input g (MachineRanks p) tt b a)
 same_refusal c input (MachineRanks p) (Machine g) a b = absurd (no_machine input.machine _ g a.1.said b.1.first)
 same_refusal c input (MachineRanks p) (MachineRanks q) a b = let same = same_ranks c input p q a.1 b.1 in cc
-same_refusal c input (MachineRanks p) (Generator g) a b = absurd (made_later c input g (MachineRanks p) tt b a)
-same_refusal c input (MachineRanks p) (Budget t) a b = absurd (ranks_budget c input p t a b)
-same_refusal c input (Generator f) TooLong a b = absurd (not_long c input (Generator f) (λ e. cc) a b)
-same_refusal c input (Generator f) (Text g) a b = absurd (no_file c.source f a.1 b.0)
-same_refusal c input (Generator f) (File g) a b = absurd (no_file c.source f a.1 b.0)
-same_refusal c input (Generator f) (Machine g) a b = absurd (made_later c input f (Machine g) tt a b)
-same_refusal c input (Generator f) (MachineRanks q) a b = absurd (made_later c input f (MachineRanks q) tt a b)
+same_refusal c input (MachineRanks p) (Generator g) a b = absurd (generator_fault_excludes_later_refusal c input g (MachineRanks p) tt b a)
+same_refusal c input (MachineRanks p) (Budget t) a b = absurd (other_ranks_exclude_over_budget c input p t a b)
+same_refusal c input (Generator f) TooLong a b = absurd (refused_otherwise_not_too_long c input (Generator f) (λ e. cc) a b)
+same_refusal c input (Generator f) (Text g) a b = absurd (named_source_has_schedule c.source f a.1 b.0)
+same_refusal c input (Generator f) (File g) a b = absurd (named_source_has_schedule c.source f a.1 b.0)
+same_refusal c input (Generator f) (Machine g) a b = absurd (generator_fault_excludes_later_refusal c input f (Machine g) tt a b)
+same_refusal c input (Generator f) (MachineRanks q) a b = absurd (generator_fault_excludes_later_refusal c input f (MachineRanks q) tt a b)
 same_refusal c input (Generator f) (Generator g) a b = let same = one_reason c.source f g a.1 b.1 in cc
-same_refusal c input (Generator f) (Budget t) a b = absurd (made_later c input f (Budget t) tt a b)
-same_refusal c input (Budget s) TooLong a b = absurd (not_long c input (Budget s) (λ e. cc) a b)
-same_refusal c input (Budget s) (Text g) a b = absurd (text_later c input g (Budget s) tt b a)
-same_refusal c input (Budget s) (File g) a b = absurd (file_later c input g (Budget s) tt b a)
-same_refusal c input (Budget s) (Machine g) a b = absurd (machine_budget c input g s b a)
-same_refusal c input (Budget s) (MachineRanks q) a b = absurd (ranks_budget c input q s b a)
-same_refusal c input (Budget s) (Generator g) a b = absurd (made_later c input g (Budget s) tt b a)
+same_refusal c input (Generator f) (Budget t) a b = absurd (generator_fault_excludes_later_refusal c input f (Budget t) tt a b)
+same_refusal c input (Budget s) TooLong a b = absurd (refused_otherwise_not_too_long c input (Budget s) (λ e. cc) a b)
+same_refusal c input (Budget s) (Text g) a b = absurd (text_fault_excludes_later_refusal c input g (Budget s) tt b a)
+same_refusal c input (Budget s) (File g) a b = absurd (file_fault_excludes_later_refusal c input g (Budget s) tt b a)
+same_refusal c input (Budget s) (Machine g) a b = absurd (machine_fault_excludes_over_budget c input g s b a)
+same_refusal c input (Budget s) (MachineRanks q) a b = absurd (other_ranks_exclude_over_budget c input q s b a)
+same_refusal c input (Budget s) (Generator g) a b = absurd (generator_fault_excludes_later_refusal c input g (Budget s) tt b a)
 same_refusal c input (Budget s) (Budget t) a b = let same = same_budget c input s t a b in cc
 
 -- an input for which there is an output is not refused
 pub no_refusal : (c : Command) (input : Input) (sched : List Plan) (r : Refusal) → HasOutput c input sched → IsRefused c input r → ⊥
 no_refusal c input sched TooLong a b =
-    short_files c input b (λ has. (source_read c.source input.schedule sched a.from has).short)
+    files_within_limit_not_too_long c input b (λ has. (source_read c.source input.schedule sched a.from has).short)
     (λ has. (costs_machine c.costs input.machine sched a.costs a.costed has).1.short)
 no_refusal c input sched (Text f) a b = no_text_fault input.schedule sched f b.2 (source_read c.source input.schedule sched a.from b.0)
 no_refusal c input sched (File f) a b = no_file_fault input.schedule sched f b.2 (source_read c.source input.schedule sched a.from b.0)
@@ -275,5 +275,5 @@ no_refusal c input sched (Machine f) a b =
     no_machine input.machine k.0 f k.1.said b.1.first
 no_refusal c input sched (MachineRanks p) a b =
     let k = costs_machine c.costs input.machine sched a.costs a.costed b.0 in
-    other_ranks_read c input sched k.0 p a.from k.1 b.1
+    fitting_machine_not_for_other_ranks c input sched k.0 p a.from k.1 b.1
 no_refusal c input sched (Budget s) a b = output_fits c input sched s a b

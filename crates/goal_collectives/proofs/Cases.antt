@@ -6,7 +6,7 @@ use Rattle.goal_limits.specs.Limits.{rank_limit}
 use Rattle.goal_blocks.specs.Entries.{slot, sending, receiving, summing}
 use Rattle.goal_blocks.specs.Positions.{ahead, back, flipped, digits}
 use Rattle.goal_blocks.specs.Made.{bcast_in, bcast_count, bcast_send, before_send, allgather_in, alltoall_in, round_in, barrier_in, allreduce_in}
-use Rattle.goal_blocks.proofs.ForCallers.{digits_low, digits_few, digits_some}
+use Rattle.goal_blocks.proofs.ForCallers.{power_below_digits_at_most, digits_few, digits_some}
 
 -- the broadcast
 
@@ -47,7 +47,7 @@ pub record IsRound (ranks v j : ℕ) : Type 0 where
 
 pub round_below : (ranks v j : ℕ) → ranks ≤ rank_limit → v < ranks → j < digits (ranks - 1 - v) → IsRound ranks v j
 round_below ranks v j few inside lt =
-    let low = digits_low (ranks - 1 - v) j (omega arith) lt in
+    let low = power_below_digits_at_most (ranks - 1 - v) j (omega arith) lt in
     let digits_few = digits_few (ranks - 1 - v) 16 (omega arith) (omega arith) in
     record { few = omega arith; child = omega arith }
 
@@ -66,7 +66,7 @@ pub record IsOwnRound (v : ℕ) : Type 0 where
 pub own_round : (v : ℕ) → v < 65536 → 0 < v → IsOwnRound v
 own_round v few some =
     let digit = digits_some v (omega arith) some in
-    record { some = digit; few = digits_few v 16 (omega arith) few; parent = digits_low v (digits v - 1) (omega arith) (omega arith) }
+    record { some = digit; few = digits_few v 16 (omega arith) few; parent = power_below_digits_at_most v (digits v - 1) (omega arith) (omega arith) }
 
 -- the barrier and the allreduce
 
@@ -74,7 +74,7 @@ own_round v few some =
 pub round_of_third : (ranks i : ℕ) → ranks ≤ rank_limit → i < 3 * digits (ranks - 1) → (i / 3 < 16) × (2 ^ (i / 3) < ranks)
 round_of_third ranks i few lt =
     let digits_few = digits_few (ranks - 1) 16 (omega arith) (omega arith) in
-    let low = digits_low (ranks - 1) (i / 3) (omega arith) (omega arith) in
+    let low = power_below_digits_at_most (ranks - 1) (i / 3) (omega arith) (omega arith) in
     (omega arith, omega (arith, pow_pos (i / 3)))
 
 pub barrier_by_rounds : (ranks bytes r i : ℕ) → round_in bytes (ahead ranks r (2 ^ (i / 3))) (back ranks r (2 ^ (i / 3))) (i / 3) (i % 3) ≡ barrier_in ranks bytes r i

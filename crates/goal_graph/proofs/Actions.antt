@@ -31,8 +31,8 @@ same_op_swapped x y d =
 pub same_op_false : (x y : OpId) → same_op x y ≡ false → x ≡ y → ⊥
 same_op_false x y h e = both_ways _ h (same_op_from x y e)
 
-pub cases_op : (x y : OpId) → (x ≡ y) ⊎ (same_op x y ≡ false)
-cases_op x y =
+pub same_or_different_op : (x y : OpId) → (x ≡ y) ⊎ (same_op x y ≡ false)
+same_or_different_op x y =
     elim (cases_Bool (same_op x y)) [ inl h ↦ inl (same_op_true x y h) | inr h ↦ inr h ]
 
 abbrev class_at : ℕ → Class
@@ -102,19 +102,19 @@ pub happened_none : (c : Class) (x : OpId) → happened c x [] ≡ false
 unfolding happened
 happened_none c x = refl
 
--- it had not happened before, and is not the newest action
-pub happened_not : (c : Class) (x : OpId) (a : Act) (h : List Act) → happened c x h ≡ false → is_act c x a ≡ false → happened c x (a ∷ h) ≡ false
-happened_not c x a h p q =
+-- an action that had not happened and is not the newest has still not happened
+pub not_happened_after_other_action : (c : Class) (x : OpId) (a : Act) (h : List Act) → happened c x h ≡ false → is_act c x a ≡ false → happened c x (a ∷ h) ≡ false
+not_happened_after_other_action c x a h p q =
     false_from_ne_true _ (λ t. elim (happened_cases c x a h t) [ inl r ↦ both_ways _ p r | inr r ↦ both_ways _ q r ])
 
 -- what has not happened after a newer action has not happened before it
-pub happened_before : (c : Class) (x : OpId) (a : Act) (h : List Act) → happened c x (a ∷ h) ≡ false → happened c x h ≡ false
-happened_before c x a h p = false_from_ne_true _ (λ t. both_ways _ p (happened_stays c x a h t))
+pub not_happened_before_newest : (c : Class) (x : OpId) (a : Act) (h : List Act) → happened c x (a ∷ h) ≡ false → happened c x h ≡ false
+not_happened_before_newest c x a h p = false_from_ne_true _ (λ t. both_ways _ p (happened_stays c x a h t))
 
-pub is_act_not : (c : Class) (x : OpId) (a : Act) (h : List Act) → happened c x (a ∷ h) ≡ false → is_act c x a ≡ false
-is_act_not c x a h p = false_from_ne_true _ (λ t. both_ways _ p (happened_new c x a h t))
+pub newest_is_not_act : (c : Class) (x : OpId) (a : Act) (h : List Act) → happened c x (a ∷ h) ≡ false → is_act c x a ≡ false
+newest_is_not_act c x a h p = false_from_ne_true _ (λ t. both_ways _ p (happened_new c x a h t))
 
 -- other actions do not change whether it has happened
 pub happened_unless_newest : (c : Class) (x : OpId) (a : Act) (h : List Act) → is_act c x a ≡ false → happened c x (a ∷ h) ≡ happened c x h
 happened_unless_newest c x a h q =
-    elim (cases_Bool (happened c x h)) [ inl t ↦ happened_stays c x a h t ∙ sym t | inr f ↦ happened_not c x a h f q ∙ sym f ]
+    elim (cases_Bool (happened c x h)) [ inl t ↦ happened_stays c x a h t ∙ sym t | inr f ↦ not_happened_after_other_action c x a h f q ∙ sym f ]

@@ -16,7 +16,7 @@ use Rattle.goal_graph.specs.Allowed.{first_class, has_started, has_ended, is_met
 use Rattle.goal_graph.specs.Interleaving.{IsInterleaving, IsCompleteInterleaving}
 use Rattle.goal_graph.specs.Laws.{HaveMet, IsApart}
 use Rattle.goal_graph.proofs.Actions.{happened_none, happened_cases}
-use Rattle.goal_graph.proofs.Persist.{is_some_from, cases_some}
+use Rattle.goal_graph.proofs.Persist.{is_some_from, value_of_is_some}
 use Rattle.goal_graph.proofs.Rules.{fits_send, fits_receive, allowed_begin, allowed_post, allowed_arrive, allowed_data, allowed_serve}
 use Rattle.goal_graph.proofs.Ever.{newest_allowed}
 use Rattle.goal_graph.proofs.Partners.{partner_of_send, partner_of_receive, partners_mutual}
@@ -34,7 +34,7 @@ module _ (plans : List Plan) (apart : IsApart plans) where
   -- one of the two has the other as its partner
   met_gives_partner : (h : List Act) (m x : OpId) → HaveMet plans h m x → (partner (pairs plans h) m ≡ Some x) ⊎ (partner (pairs plans h) x ≡ Some m)
   met_gives_partner h m x met =
-      ⊎_elim (λ p. let with = cases_some (partner (pairs plans h) m) p in inl (with.1 ∙ ap (λ (y : OpId). Some y) (apart.one_receive m with.0 x (partner_of_send plans h m with.0 (fits_send plans x m met.fit) with.1).fit met.fit))) (λ p. let with = cases_some (partner (pairs plans h) x) p in inr (with.1 ∙ ap (λ (n : OpId). Some n) (apart.one_send x with.0 m (partner_of_receive plans h x with.0 (fits_receive plans x m met.fit) with.1).fit met.fit))) (never_both_wait plans h m x met)
+      ⊎_elim (λ p. let with = value_of_is_some (partner (pairs plans h) m) p in inl (with.1 ∙ ap (λ (y : OpId). Some y) (apart.one_receive m with.0 x (partner_of_send plans h m with.0 (fits_send plans x m met.fit) with.1).fit met.fit))) (λ p. let with = value_of_is_some (partner (pairs plans h) x) p in inr (with.1 ∙ ap (λ (n : OpId). Some n) (apart.one_send x with.0 m (partner_of_receive plans h x with.0 (fits_receive plans x m met.fit) with.1).fit met.fit))) (never_both_wait plans h m x met)
 
   -- operations that have met are paired
   pub met_partners : (eager : OpId → Bool) (h : List Act) (m x : OpId) → IsInterleaving plans eager h → HaveMet plans h m x → (partner (pairs plans h) m ≡ Some x) × (partner (pairs plans h) x ≡ Some m)
@@ -117,12 +117,12 @@ module _ (plans : List Plan) (apart : IsApart plans) where
         begun_send_arrived plans eager h done m arrive.0 (all Begin m arrive.1)
     reached_allowed w Data m all e =
         let data_now = allowed_data plans fewer w m e in
-        let with = cases_some (partner (pairs plans w) m) data_now.2 in
+        let with = value_of_is_some (partner (pairs plans w) m) data_now.2 in
         let met = reached_have_met w m with.0 all (partner_of_send plans w m with.0 data_now.0 with.1) in
         paired_send_ended plans eager h done m data_now.0 (is_some_from (partner (pairs plans h) m) with.0 (met_partners eager h m with.0 done.each met).0)
     reached_allowed w Serve x all e =
         let serve = allowed_serve plans fewer w x e in
-        let with = cases_some (partner (pairs plans w) x) (served_paired plans fewer w x serve.1) in
+        let with = value_of_is_some (partner (pairs plans w) x) (served_paired plans fewer w x serve.1) in
         let met = reached_have_met w with.0 x all (partner_of_receive plans w x with.0 serve.0 with.1) in
         paired_receive_served plans eager h done x serve.0 (is_some_from (partner (pairs plans h) x) with.0 (met_partners eager h with.0 x done.each met).1)
 

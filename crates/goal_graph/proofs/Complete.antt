@@ -14,7 +14,7 @@ use Rattle.goal_graph.specs.Allowed.{has_started, has_ended, is_met, is_ready, i
 use Rattle.goal_graph.specs.Interleaving.{IsInterleaving, IsCompleteInterleaving}
 use Rattle.goal_graph.specs.Laws.{IsCalc, IsWaitingSend, IsWaitingReceive, IsTaken}
 use Rattle.goal_graph.proofs.Actions.{act_of}
-use Rattle.goal_graph.proofs.Persist.{is_some_from, cases_some}
+use Rattle.goal_graph.proofs.Persist.{is_some_from, value_of_is_some}
 use Rattle.goal_graph.proofs.Rules.{fits_receive, fits_send}
 use Rattle.goal_graph.proofs.Ever.{arrived_begun}
 use Rattle.goal_graph.proofs.Partners.{partners_met, partner_of_send, partner_of_receive, partners_mutual}
@@ -72,18 +72,18 @@ module _ (plans : List Plan) (eager : OpId → Bool) where
 
     pub paired_receive_served : (x : OpId) → IsReceive plans x → is_paired (pairs plans h) x ≡ true → happened Serve x h ≡ true
     paired_receive_served x k p =
-        let with = cases_some (partner (pairs plans h) x) p in
+        let with = value_of_is_some (partner (pairs plans h) x) p in
         possible_has_happened Serve x (subst (λ (k : Option Kind). may plans eager h Serve x k ≡ true) (sym k.kind) (paired_message x with.0 k with.1))
 
     pub paired_send_ended : (m : OpId) → IsSend plans m → is_paired (pairs plans h) m ≡ true → has_ended plans eager m h ≡ true
     paired_send_ended m k p =
-        let with = cases_some (partner (pairs plans h) m) p in
+        let with = value_of_is_some (partner (pairs plans h) m) p in
         elim (cases_Bool (eager m)) [ inl t ↦ ended_eager plans eager h m k t ∙ arrived_begun plans eager h m done.each (partner_of_send plans h m with.0 k with.1).arrived | inr f ↦ ended_rendezvous plans eager h m k f ∙ paired_send_data m k f p ]
 
     -- every paired operation has ended
     pub paired_ended : (x : OpId) → is_paired (pairs plans h) x ≡ true → has_ended plans eager x h ≡ true
     paired_ended x p =
-        let with = cases_some (partner (pairs plans h) x) p in
+        let with = value_of_is_some (partner (pairs plans h) x) p in
         elim (partners_met plans h x with.0 with.1) [ inl met ↦ paired_send_ended x (fits_send plans with.0 x met.fit) p | inr met ↦ ended_receive plans eager h x (fits_receive plans x with.0 met.fit) ∙ paired_receive_served x (fits_receive plans x with.0 met.fit) p ]
 
     -- an operation that has not ended is not paired
@@ -108,7 +108,7 @@ module _ (plans : List Plan) (eager : OpId → Bool) where
     -- the partner of y is not x, if x is not paired
     paired_is_taken : (x y : OpId) → is_paired (pairs plans h) x ≡ false → is_paired (pairs plans h) y ≡ true → IsTaken plans h y x
     paired_is_taken x y free p =
-        let with = cases_some (partner (pairs plans h) y) p in
+        let with = value_of_is_some (partner (pairs plans h) y) p in
         let back = partners_mutual plans eager h y with.0 done.each with.1 in
         record {
           taker = with.0;

@@ -14,7 +14,7 @@ use Rattle.goal_graph.specs.Schedule.{Plan, op_at, kind_at, places_of_rank, plac
 use Rattle.goal_graph.specs.Action.{Act}
 use Rattle.goal_graph.specs.Allowed.{may, allowed}
 use Rattle.goal_graph.specs.Order.{IsBefore}
-use Rattle.goal_graph.proofs.Persist.{is_some_from, cases_some}
+use Rattle.goal_graph.proofs.Persist.{is_some_from, value_of_is_some}
 use Rattle.goal_graph.proofs.Lists.{contains_first, contains_more}
 use Rattle.goal_graph.proofs.Rules.{allowed_may}
 
@@ -146,7 +146,7 @@ listed_kind plans x c none =
 -- the operations are the places that have an operation
 pub listed_places : (plans : List Plan) (x : OpId) → Contains (operations plans) x ↔ (is_some (op_at plans x) ≡ true)
 listed_places plans x =
-    (λ c. let a = listed_op plans x c in is_some_from (op_at plans x) a.op a.is, λ e. let o = cases_some (op_at plans x) e in op_listed plans x (record { op = o.0; is = o.1 }))
+    (λ c. let a = listed_op plans x c in is_some_from (op_at plans x) a.op a.is, λ e. let o = value_of_is_some (op_at plans x) e in op_listed plans x (record { op = o.0; is = o.1 }))
 
 rank_in_order : (rank first : ℕ) (os : List Op) (rest : List OpId) → All (λ (y : OpId). rank < y.rank) rest → AllPairs IsBefore rest → AllPairs IsBefore (places_of_rank rank first os ++ rest)
 unfolding places_of_rank

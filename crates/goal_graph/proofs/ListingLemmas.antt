@@ -22,7 +22,7 @@ pub places_of_rank-more : (rank i : ℕ) (ops : List Op) → i < length ops → 
 unfolding places_of_rank
 places_of_rank-more rank i ops h = rw (drop-cons ops i no_op h, add-one) refl
 
--- what is listed together with what is left stays the same as another operation is listed
+-- listing another operation keeps the list of listed and remaining operations
 pub one_more_listed : (rank i : ℕ) (ops : List Op) (ids whole : List OpId) → i < length ops → ids ++ places_of_rank rank i (drop i ops) ≡ whole → (ids ++ record { rank = rank; op = i } ∷ []) ++ places_of_rank rank (i + 1) (drop (i + 1) ops) ≡ whole
 one_more_listed rank i ops ids whole h e =
     append_assoc ids (record { rank = rank; op = i } ∷ []) (places_of_rank rank (i + 1) (drop (i + 1) ops)) ∙ ap (λ (xs : List OpId). ids ++ xs) (sym (places_of_rank-more rank i ops h)) ∙ e

@@ -12,9 +12,9 @@ contains_first y xs x e = (0, omega arith, e)
 pub contains_more : {X : Type 0} (y : X) (xs : List X) (x : X) → Contains xs x → Contains (y ∷ xs) x
 contains_more y xs x (k, b, e) = (suc k, omega (arith, b), e)
 
-pub some_fails : {X : Type 0} (p : X → Bool) (xs : List X) → list_all p xs ≡ false → (x : X) × Contains xs x × (p x ≡ false)
-some_fails p [] e = absurd (both_ways true e refl)
-some_fails {X} p (x ∷ xs) e = go (some_fails p xs) (and_cases (p x) (list_all p xs) e)
+pub failing_item_of_list_all : {X : Type 0} (p : X → Bool) (xs : List X) → list_all p xs ≡ false → (x : X) × Contains xs x × (p x ≡ false)
+failing_item_of_list_all p [] e = absurd (both_ways true e refl)
+failing_item_of_list_all {X} p (x ∷ xs) e = go (failing_item_of_list_all p xs) (and_cases (p x) (list_all p xs) e)
   where
     go : (list_all p xs ≡ false → (y : X) × Contains xs y × (p y ≡ false)) → ((p x ≡ false) ⊎ (list_all p xs ≡ false)) → (y : X) × Contains (x ∷ xs) y × (p y ≡ false)
     go rest (inl f) = (x, contains_first x xs x refl, f)
@@ -44,10 +44,10 @@ find_agree {X} p q agree (y ∷ ys) =
     ap (λ (b : Bool). cond b (Some y) (find p ys)) (agree y) ∙ ap (λ (o : Option X). cond (q y) (Some y) o) (find_agree p q agree ys)
 
 -- what holds of each element holds of the one found
-pub find_all : {X : Type 0} (P : X → Type 0) (p : X → Bool) (xs : List X) (z : X) → All P xs → find p xs ≡ Some z → P z
-find_all P p [] z each e = absurd (none-some z e)
-find_all P p (y ∷ ys) z each e =
-    elim (cases_Bool (p y)) [ inl t ↦ subst P (same_Some y z (sym (cond-true (p y) (Some y) (find p ys) t) ∙ e)) (All-head P y ys each) | inr f ↦ find_all P p ys z (All-tail P y ys each) (sym (cond-false (p y) (Some y) (find p ys) f) ∙ e) ]
+pub found_item_has_property : {X : Type 0} (P : X → Type 0) (p : X → Bool) (xs : List X) (z : X) → All P xs → find p xs ≡ Some z → P z
+found_item_has_property P p [] z each e = absurd (none-some z e)
+found_item_has_property P p (y ∷ ys) z each e =
+    elim (cases_Bool (p y)) [ inl t ↦ subst P (same_Some y z (sym (cond-true (p y) (Some y) (find p ys) t) ∙ e)) (All-head P y ys each) | inr f ↦ found_item_has_property P p ys z (All-tail P y ys each) (sym (cond-false (p y) (Some y) (find p ys) f) ∙ e) ]
 
 -- lists of no item and of one
 pub all_of_empty : {X : Type 0} (P : X → Type 0) → All P []

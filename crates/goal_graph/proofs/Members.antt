@@ -11,7 +11,7 @@ use Rattle.goal_graph.specs.Action.{Act, happened}
 use Rattle.goal_graph.specs.Matching.{Pair, pair_of, partner, pairs}
 use Rattle.goal_graph.specs.Allowed.{is_met, is_ready}
 use Rattle.goal_graph.specs.Interleaving.{IsInterleaving}
-use Rattle.goal_graph.proofs.Lists.{contains_first, contains_more, some_fails}
+use Rattle.goal_graph.proofs.Lists.{contains_first, contains_more, failing_item_of_list_all}
 use Rattle.goal_graph.proofs.Actions.{act_of, is_act_true, is_act_from, happened_none, happened_cases, happened_stays, happened_new}
 use Rattle.goal_graph.proofs.Partners.{IsListed, partner_listed, pair_of_send_unique, pair_of_receive_unique}
 
@@ -27,7 +27,7 @@ member_happened c x (a ∷ h) (zero, b, e) =
 member_happened c x (a ∷ h) (suc k, b, e) =
     happened_stays c x a h (member_happened c x h (k, omega (arith, b), e))
 
--- what has happened after another action
+-- after another action, that action and all earlier ones have happened
 pub happened_one_more : (c : Class) (x : OpId) (a : Act) (h : List Act) → (happened c x (a ∷ h) ≡ true) ↔ ((happened c x h ≡ true) ⊎ (a ≡ act_of c x))
 happened_one_more c x a h =
     (λ e. ⊎_elim (λ was. inl was) (λ now. inr (is_act_true c x a now)) (happened_cases c x a h e), λ e. ⊎_elim (λ was. happened_stays c x a h was) (λ now. happened_new c x a h (is_act_from c x a (ap (λ (a : Act). a.class) now) (ap (λ (a : Act). a.op) now))) e)
@@ -57,7 +57,7 @@ module _ (plans : List Plan) (eager : OpId → Bool) where
   -- where an operation is not ready, one of its needs is not met
   pub unready_need : (h : List Act) (x : OpId) → is_ready plans eager h x ≡ false → (d : Need) × Contains (needs plans x) d × (is_met plans eager h d.when (needed x d) ≡ false)
   unfolding is_ready
-  unready_need h x r = some_fails (λ (d : Need). is_met plans eager h d.when (needed x d)) (needs plans x) r
+  unready_need h x r = failing_item_of_list_all (λ (d : Need). is_met plans eager h d.when (needed x d)) (needs plans x) r
 
   -- two pairs that share the send or the receive are the same
   pub pair_of_member_unique : (h : List Act) (p q : Pair) → IsInterleaving plans eager h → Contains (pairs plans h) p → Contains (pairs plans h) q → ((p.send ≡ q.send) ⊎ (p.recv ≡ q.recv)) → p ≡ q

@@ -11,7 +11,7 @@ use Rattle.goal_graph.specs.Limits.{AreCountsWithin}
 use Rattle.goal_graph.specs.Schedule.{Plan, deps_at, earlier_of, needs}
 use Rattle.goal_graph.proofs.Places.{lengths-le}
 
--- an operation has no more needs than there are dependencies of all
+-- an operation has at most `MAX_DEPS` needs
 pub few_needs : (plans : List Plan) (x : OpId) → AreCountsWithin plans → length (needs plans x) ≤ MAX_DEPS
 unfolding needs deps_at
 few_needs plans x counts = go (slice_get plans x.rank) refl

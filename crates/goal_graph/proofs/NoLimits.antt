@@ -64,14 +64,14 @@ module _ (ranks rank : ℕ) where
 pub count_within_limit : (limit found : ℕ) → found ≤ limit → count_over limit found ≡ None
 count_within_limit limit found le = ap (λ (b : Bool). cond b (Some (plan.Count found limit)) None) (le-ltb limit found le)
 
-some-eqb : (n : ℕ) → 0 < n → eqb n 0 ≡ false
-some-eqb n h = grind (arith, nat_tests)
+positive_is_not_eqb_zero : (n : ℕ) → 0 < n → eqb n 0 ≡ false
+positive_is_not_eqb_zero n h = grind (arith, nat_tests)
 
 count_fault_none : (ps : List Plan) → AreCountsWithin ps → count_fault ps ≡ None
 unfolding count_fault
 count_fault_none ps counts =
     rw (
-      some-eqb (length ps) counts.some_rank,
+      positive_is_not_eqb_zero (length ps) counts.some_rank,
       count_within_limit MAX_RANKS (length ps) counts.ranks,
       count_within_limit MAX_OPS (op_count ps) counts.ops,
       count_within_limit MAX_DEPS (dep_count ps) counts.deps,

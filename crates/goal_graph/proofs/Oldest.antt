@@ -13,11 +13,11 @@ op_of_cond : (b : Bool) (a : Act) → option_map (λ (a : Act). a.op) (cond b (S
 op_of_cond true a = refl
 op_of_cond false a = refl
 
-pub oldest_first : (test : Act → Bool) (h : List Act) → oldest test h ≡ option_map (λ (a : Act). a.op) (find test (reverse h))
+pub oldest_is_first_in_reverse : (test : Act → Bool) (h : List Act) → oldest test h ≡ option_map (λ (a : Act). a.op) (find test (reverse h))
 unfolding oldest
-oldest_first test [] = refl
-oldest_first test (a ∷ h) =
+oldest_is_first_in_reverse test [] = refl
+oldest_is_first_in_reverse test (a ∷ h) =
     let newest = sym (op_of_cond (test a) a) in
     let whole = ap (λ (l : List Act). option_map (λ (a : Act). a.op) (find test l)) (reverse-cons a h) in
     let parts = ap (option_map (λ (a : Act). a.op)) (find-append test (reverse h) (a ∷ [])) in
-    ap₂ option_or (oldest_first test h) newest ∙ sym (op_of_option_or (find test (reverse h)) (find test (a ∷ []))) ∙ sym parts ∙ sym whole
+    ap₂ option_or (oldest_is_first_in_reverse test h) newest ∙ sym (op_of_option_or (find test (reverse h)) (find test (a ∷ []))) ∙ sym parts ∙ sym whole

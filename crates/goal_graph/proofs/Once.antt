@@ -12,16 +12,16 @@ use Rattle.goal_graph.specs.Action.{Act, same_op, is_act, happened}
 use Rattle.goal_graph.specs.Allowed.{may, allowed}
 use Rattle.goal_graph.specs.Interleaving.{IsInterleaving}
 use Rattle.goal_graph.specs.Laws.{has_class, classes, is_left, left_of, left}
-use Rattle.goal_graph.proofs.Actions.{same_op_true, happened_newest, happened_before, is_act_not}
+use Rattle.goal_graph.proofs.Actions.{same_op_true, happened_newest, not_happened_before_newest, newest_is_not_act}
 use Rattle.goal_graph.proofs.Rules.{allowed_fresh, allowed_may}
 use Rattle.goal_graph.proofs.Ever.{newest_allowed}
 use Rattle.goal_graph.proofs.Exists.{allowed_listed}
 use Rattle.goal_graph.proofs.Sums.{sum_falls, count_passing, count_failing, count_falls, count_le}
 
-count_none : (c : Class) (x : OpId) (h : List Act) → happened c x h ≡ false → count_by (is_act c x) h ≡ 0
-count_none c x [] e = refl
-count_none c x (a ∷ h) e =
-    count_failing (is_act c x) a h (is_act_not c x a h e) ∙ count_none c x h (happened_before c x a h e)
+count_of_unhappened_is_zero : (c : Class) (x : OpId) (h : List Act) → happened c x h ≡ false → count_by (is_act c x) h ≡ 0
+count_of_unhappened_is_zero c x [] e = refl
+count_of_unhappened_is_zero c x (a ∷ h) e =
+    count_failing (is_act c x) a h (newest_is_not_act c x a h e) ∙ count_of_unhappened_is_zero c x h (not_happened_before_newest c x a h e)
 
 may_has_class : (plans : List Plan) (eager : OpId → Bool) (h : List Act) (c : Class) (x : OpId) (k : Option Kind) → may plans eager h c x k ≡ true → has_class k c ≡ true
 may_has_class plans eager h Begin x (Some (Calc nanos)) e = refl
@@ -49,7 +49,7 @@ module _ (plans : List Plan) where
   left_before_action : (a : Act) (h : List Act) (x : OpId) (c : Class) → is_left plans (a ∷ h) x c ≡ true → is_left plans h x c ≡ true
   left_before_action a h x c e =
       let parts = and_parts (has_class (kind_at plans x) c) (not (happened c x (a ∷ h))) e in
-      and_from _ _ parts.0 (not_from_false _ (happened_before c x a h (not-true _ parts.1)))
+      and_from _ _ parts.0 (not_from_false _ (not_happened_before_newest c x a h (not-true _ parts.1)))
 
   -- no count of what is left rises
   pub left_of_stays : (a : Act) (h : List Act) (x : OpId) → left_of plans (a ∷ h) x ≤ left_of plans h x
@@ -75,7 +75,7 @@ module _ (plans : List Plan) where
   module _ (eager : OpId → Bool) where
     happens_once_after_action : (a : Act) (h : List Act) (c : Class) (x : OpId) → ((is_act c x a ≡ true) ⊎ (is_act c x a ≡ false)) → (is_act c x a ≡ true → happened c x h ≡ false) → count_by (is_act c x) h ≤ 1 → count_by (is_act c x) (a ∷ h) ≤ 1
     happens_once_after_action a h c x (inl now) fresh before =
-        subst (λ (n : ℕ). n ≤ 1) (sym (count_passing (is_act c x) a h now)) (subst (λ (n : ℕ). 1 + n ≤ 1) (sym (count_none c x h (fresh now))) (omega arith))
+        subst (λ (n : ℕ). n ≤ 1) (sym (count_passing (is_act c x) a h now)) (subst (λ (n : ℕ). 1 + n ≤ 1) (sym (count_of_unhappened_is_zero c x h (fresh now))) (omega arith))
     happens_once_after_action a h c x (inr other) fresh before =
         subst (λ (n : ℕ). n ≤ 1) (sym (count_failing (is_act c x) a h other)) before
 

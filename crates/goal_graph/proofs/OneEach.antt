@@ -9,7 +9,7 @@ use Rattle.goal_graph.specs.Action.{Act, happened}
 use Rattle.goal_graph.specs.Matching.{partner, pairs}
 use Rattle.goal_graph.specs.Allowed.{allowed}
 use Rattle.goal_graph.specs.Interleaving.{IsInterleaving}
-use Rattle.goal_graph.proofs.Persist.{cases_some}
+use Rattle.goal_graph.proofs.Persist.{value_of_is_some}
 use Rattle.goal_graph.proofs.Rules.{not_send_receive, not_receive_calc, allowed_fresh, allowed_arrive, allowed_data, allowed_serve, allowed_post, allowed_begin}
 use Rattle.goal_graph.proofs.Ever.{arrived_begun}
 use Rattle.goal_graph.proofs.Partners.{partner_of_send, partner_of_receive}
@@ -33,7 +33,7 @@ module _ (plans : List Plan) (eager : OpId → Bool) where
   data_after_arrive : (h : List Act) (x : OpId) → allowed plans eager h Data x ≡ true → happened Arrive x h ≡ true
   data_after_arrive h x d =
       let may_data = allowed_data plans eager h x d in
-      let with = cases_some (partner (pairs plans h) x) may_data.2 in
+      let with = value_of_is_some (partner (pairs plans h) x) may_data.2 in
       (partner_of_send plans h x with.0 may_data.0 with.1).arrived
 
   begin_excludes_data : (h : List Act) (x : OpId) → IsInterleaving plans eager h → allowed plans eager h Begin x ≡ true → allowed plans eager h Data x ≡ true → ⊥
@@ -62,7 +62,7 @@ module _ (plans : List Plan) (eager : OpId → Bool) where
   post_excludes_serve : (h : List Act) (x : OpId) → allowed plans eager h Post x ≡ true → allowed plans eager h Serve x ≡ true → ⊥
   post_excludes_serve h x p s =
       let may_serve = allowed_serve plans eager h x s in
-      let with = cases_some (partner (pairs plans h) x) (served_paired plans eager h x may_serve.1) in
+      let with = value_of_is_some (partner (pairs plans h) x) (served_paired plans eager h x may_serve.1) in
       both_ways _ (allowed_fresh plans eager h Post x p) (partner_of_receive plans h x with.0 may_serve.0 with.1).posted
 
   pub one_allowed : (h : List Act) (c d : Class) (x : OpId) → IsInterleaving plans eager h → allowed plans eager h c x ≡ true → allowed plans eager h d x ≡ true → c ≡ d

@@ -89,25 +89,25 @@ module _ (plans : List Plan) where
       (place_injective a.class Arrive (eqb-true (place a.class) 0 inner.0), not-true (is_paired ps a.op) inner.1, outer.1)
 
   -- a posted receive that is open for m
-  open_receive : (ps : List Pair) (h : List Act) (m x : OpId) → IsFound (is_open_receive plans ps m) h x → (happened Post x h ≡ true) × (is_paired ps x ≡ false) × (fits plans x m ≡ true)
-  open_receive ps h m x f =
+  found_receive_is_open : (ps : List Pair) (h : List Act) (m x : OpId) → IsFound (is_open_receive plans ps m) h x → (happened Post x h ≡ true) × (is_paired ps x ≡ false) × (fits plans x m ≡ true)
+  found_receive_is_open ps h m x f =
       let p = open_receive_passes ps m f.act f.passes in
       subst (λ (y : OpId). (happened Post y h ≡ true) × (is_paired ps y ≡ false) × (fits plans y m ≡ true)) f.op (subst (λ (c : Class). happened c f.act.op h ≡ true) p.0 f.happened, p.1, p.2)
 
   -- an arrived send that is open for x
-  open_send : (ps : List Pair) (h : List Act) (x m : OpId) → IsFound (is_open_send plans ps x) h m → (happened Arrive m h ≡ true) × (is_paired ps m ≡ false) × (fits plans x m ≡ true)
-  open_send ps h x m f =
+  found_send_is_open : (ps : List Pair) (h : List Act) (x m : OpId) → IsFound (is_open_send plans ps x) h m → (happened Arrive m h ≡ true) × (is_paired ps m ≡ false) × (fits plans x m ≡ true)
+  found_send_is_open ps h x m f =
       let p = open_send_passes ps x f.act f.passes in
       subst (λ (y : OpId). (happened Arrive y h ≡ true) × (is_paired ps y ≡ false) × (fits plans x y ≡ true)) f.op (subst (λ (c : Class). happened c f.act.op h ≡ true) p.0 f.happened, p.1, p.2)
 
   -- the two operations of a new pair
-  pub new_pair_is : (a : Act) (h : List Act) (p : Pair) → new_pair plans (pairs plans h) h a.class a.op ≡ Some p → IsNew plans h a p
-  new_pair_is a h p e = go a.class refl e
+  pub new_pair_is_of_action : (a : Act) (h : List Act) (p : Pair) → new_pair plans (pairs plans h) h a.class a.op ≡ Some p → IsNew plans h a p
+  new_pair_is_of_action a h p e = go a.class refl e
     where
       go : (c : Class) → a.class ≡ c → new_pair plans (pairs plans h) h c a.op ≡ Some p → IsNew plans h a p
       go Arrive q e =
           let new = new_at_arrive (pairs plans h) h a.op p e in
-          let open_one = open_receive (pairs plans h) h a.op p.recv new.1 in
+          let open_one = found_receive_is_open (pairs plans h) h a.op p.recv new.1 in
           record {
             met = record {
               arrived = happened_new Arrive p.send a h (is_act_from Arrive p.send a q new.0);
@@ -118,7 +118,7 @@ module _ (plans : List Plan) where
           }
       go Post q e =
           let new = new_at_post (pairs plans h) h a.op p e in
-          let open_one = open_send (pairs plans h) h a.op p.send new.1 in
+          let open_one = found_send_is_open (pairs plans h) h a.op p.send new.1 in
           record {
             met = record {
               arrived = happened_stays Arrive p.send a h open_one.0;
@@ -186,14 +186,14 @@ module _ (plans : List Plan) where
     fit = e.fit;
   }
 
-  listed_none : (p : Pair) → IsListed p (pairs plans []) → ⊥
+  no_pair_without_actions : (p : Pair) → IsListed p (pairs plans []) → ⊥
   unfolding pairs
-  listed_none p l = l
+  no_pair_without_actions p l = l
 
   pub listed_met : (h : List Act) (p : Pair) → IsListed p (pairs plans h) → HaveMet plans h p.send p.recv
-  listed_met [] p l = absurd (listed_none p l)
+  listed_met [] p l = absurd (no_pair_without_actions p l)
   listed_met (a ∷ h) p l =
-      elim (listed_cases p a h l) [ inl was ↦ have_met_stays a h p.send p.recv (listed_met h p was) | inr new ↦ (new_pair_is plans a h p new).met ]
+      elim (listed_cases p a h l) [ inl was ↦ have_met_stays a h p.send p.recv (listed_met h p was) | inr new ↦ (new_pair_is_of_action plans a h p new).met ]
 
   -- of two partners one is a send that has arrived, the other a posted receive, and they fit
   pub partners_met : (h : List Act) (x y : OpId) → partner (pairs plans h) x ≡ Some y → HaveMet plans h x y ⊎ HaveMet plans h y x
@@ -218,13 +218,13 @@ module _ (plans : List Plan) where
   partner_is_send h x m r e = fits_send plans x m (partner_of_receive h x m r e).fit
 
   -- an action that makes no pair leaves the pairs unchanged
-  pub pairs_same : (a : Act) (h : List Act) → new_pair plans (pairs plans h) h a.class a.op ≡ None → pairs plans (a ∷ h) ≡ pairs plans h
+  pub pairs_unchanged_without_new_pair : (a : Act) (h : List Act) → new_pair plans (pairs plans h) h a.class a.op ≡ None → pairs plans (a ∷ h) ≡ pairs plans h
   unfolding pairs
-  pairs_same a h e = ap (λ (o : Option Pair). add_pair (pairs plans h) o) e
+  pairs_unchanged_without_new_pair a h e = ap (λ (o : Option Pair). add_pair (pairs plans h) o) e
 
   -- a new pair leaves the partners of all others unchanged
-  pub partner_other : (p : Pair) (a : Act) (h : List Act) (y : OpId) → new_pair plans (pairs plans h) h a.class a.op ≡ Some p → same_op p.send y ≡ false → same_op p.recv y ≡ false → partner (pairs plans (a ∷ h)) y ≡ partner (pairs plans h) y
-  partner_other p a h y e s r =
+  pub partner_of_others_unchanged : (p : Pair) (a : Act) (h : List Act) (y : OpId) → new_pair plans (pairs plans h) h a.class a.op ≡ Some p → same_op p.send y ≡ false → same_op p.recv y ≡ false → partner (pairs plans (a ∷ h)) y ≡ partner (pairs plans h) y
+  partner_of_others_unchanged p a h y e s r =
       ap (λ (ps : List Pair). partner ps y) (pairs_with_new p a h e) ∙ partner_outside_pair p (pairs plans h) y s r
 
   -- an operation that an action pairs is in its new pair
@@ -234,30 +234,30 @@ module _ (plans : List Plan) where
     where
       go : (o : Option Pair) → new_pair plans (pairs plans h) h a.class a.op ≡ o → (p : Pair) × (new_pair plans (pairs plans h) h a.class a.op ≡ Some p) × ((p.send ≡ x) ⊎ (p.recv ≡ x))
       go None e =
-          absurd (both_ways _ free (subst (λ (ps : List Pair). is_paired ps x ≡ true) (pairs_same a h e) now))
+          absurd (both_ways _ free (subst (λ (ps : List Pair). is_paired ps x ≡ true) (pairs_unchanged_without_new_pair a h e) now))
       go (Some p) e =
-          elim (cases_Bool (same_op p.send x)) [ inl s ↦ (p, e, inl (same_op_true p.send x s)) | inr s ↦ elim (cases_Bool (same_op p.recv x)) [ inl r ↦ (p, e, inr (same_op_true p.recv x r)) | inr r ↦ absurd (both_ways _ free (subst (λ (o : Option OpId). is_some o ≡ true) (partner_other p a h x e s r) now)) ] ]
+          elim (cases_Bool (same_op p.send x)) [ inl s ↦ (p, e, inl (same_op_true p.send x s)) | inr s ↦ elim (cases_Bool (same_op p.recv x)) [ inl r ↦ (p, e, inr (same_op_true p.recv x r)) | inr r ↦ absurd (both_ways _ free (subst (λ (o : Option OpId). is_some o ≡ true) (partner_of_others_unchanged p a h x e s r) now)) ] ]
 
   -- an operation in no pair of the list has no partner
-  unpaired_from : (ps : List Pair) (x : OpId) → ((y : OpId) → partner ps x ≡ Some y → ⊥) → partner ps x ≡ None
-  unpaired_from ps x never = go (partner ps x) refl
+  partner_is_none_if_no_partner : (ps : List Pair) (x : OpId) → ((y : OpId) → partner ps x ≡ Some y → ⊥) → partner ps x ≡ None
+  partner_is_none_if_no_partner ps x never = go (partner ps x) refl
     where
       go : (o : Option OpId) → partner ps x ≡ o → o ≡ None
       go None e = refl
       go (Some y) e = absurd (never y e)
 
   -- a send that has not arrived has no partner
-  pub not_arrived : (h : List Act) (m : OpId) → IsSend plans m → happened Arrive m h ≡ false → partner (pairs plans h) m ≡ None
-  not_arrived h m s e =
-      unpaired_from (pairs plans h) m (λ x p. both_ways _ e (partner_of_send h m x s p).arrived)
+  pub unarrived_send_has_no_partner : (h : List Act) (m : OpId) → IsSend plans m → happened Arrive m h ≡ false → partner (pairs plans h) m ≡ None
+  unarrived_send_has_no_partner h m s e =
+      partner_is_none_if_no_partner (pairs plans h) m (λ x p. both_ways _ e (partner_of_send h m x s p).arrived)
 
   -- a receive that is not posted has no partner
-  pub not_posted : (h : List Act) (x : OpId) → IsReceive plans x → happened Post x h ≡ false → partner (pairs plans h) x ≡ None
-  not_posted h x r e =
-      unpaired_from (pairs plans h) x (λ m p. both_ways _ e (partner_of_receive h x m r p).posted)
+  pub unposted_receive_has_no_partner : (h : List Act) (x : OpId) → IsReceive plans x → happened Post x h ≡ false → partner (pairs plans h) x ≡ None
+  unposted_receive_has_no_partner h x r e =
+      partner_is_none_if_no_partner (pairs plans h) x (λ m p. both_ways _ e (partner_of_receive h x m r p).posted)
 
-  not_paired : (ps : List Pair) (x : OpId) → is_paired ps x ≡ false → partner ps x ≡ None
-  not_paired ps x e = unpaired_from ps x (λ y p. both_ways _ e (is_some_from (partner ps x) y p))
+  unpaired_has_no_partner : (ps : List Pair) (x : OpId) → is_paired ps x ≡ false → partner ps x ≡ None
+  unpaired_has_no_partner ps x e = partner_is_none_if_no_partner ps x (λ y p. both_ways _ e (is_some_from (partner ps x) y p))
 
   -- a send and a receive that fit are different operations
   fit_differ : (x m : OpId) → fits plans x m ≡ true → same_op m x ≡ false
@@ -291,16 +291,16 @@ module _ (plans : List Plan) where
         go : ((a ≡ act_of Arrive p.send) × (is_paired (pairs plans h) p.recv ≡ false)) ⊎ ((a ≡ act_of Post p.recv) × (is_paired (pairs plans h) p.send ≡ false)) → (partner (pairs plans h) p.send ≡ None) × (partner (pairs plans h) p.recv ≡ None)
         go (inl (e, free)) =
             let fresh = allowed_fresh plans eager h Arrive p.send (subst (λ (b : Act). allowed plans eager h b.class b.op ≡ true) e i.1) in
-            (not_arrived h p.send (fits_send plans p.recv p.send fit) fresh, not_paired (pairs plans h) p.recv free)
+            (unarrived_send_has_no_partner h p.send (fits_send plans p.recv p.send fit) fresh, unpaired_has_no_partner (pairs plans h) p.recv free)
         go (inr (e, free)) =
             let fresh = allowed_fresh plans eager h Post p.recv (subst (λ (b : Act). allowed plans eager h b.class b.op ≡ true) e i.1) in
-            (not_paired (pairs plans h) p.send free, not_posted h p.recv (fits_receive plans p.recv p.send fit) fresh)
+            (unpaired_has_no_partner (pairs plans h) p.send free, unposted_receive_has_no_partner h p.recv (fits_receive plans p.recv p.send fit) fresh)
 
     -- the two of each pair are partners of each other
     pub listed_partners : (h : List Act) (p : Pair) → IsInterleaving plans eager h → IsListed p (pairs plans h) → (partner (pairs plans h) p.send ≡ Some p.recv) × (partner (pairs plans h) p.recv ≡ Some p.send)
-    listed_partners [] p i l = absurd (listed_none p l)
+    listed_partners [] p i l = absurd (no_pair_without_actions p l)
     listed_partners (a ∷ h) p i l =
-        ⊎_elim (λ was. let before = listed_partners h p i.0 was in (partner_stays plans a h p.send p.recv before.0, partner_stays plans a h p.recv p.send before.1)) (λ made. let new = new_pair_is plans a h p made in let free = new_unpaired a h p i new in subst (λ (ps : List Pair). (partner ps p.send ≡ Some p.recv) × (partner ps p.recv ≡ Some p.send)) (sym (pairs_with_new p a h made)) (partners_in_new_pair (pairs plans h) p free.0 free.1 (fit_differ p.recv p.send new.met.fit))) (listed_cases p a h l)
+        ⊎_elim (λ was. let before = listed_partners h p i.0 was in (partner_stays plans a h p.send p.recv before.0, partner_stays plans a h p.recv p.send before.1)) (λ made. let new = new_pair_is_of_action plans a h p made in let free = new_unpaired a h p i new in subst (λ (ps : List Pair). (partner ps p.send ≡ Some p.recv) × (partner ps p.recv ≡ Some p.send)) (sym (pairs_with_new p a h made)) (partners_in_new_pair (pairs plans h) p free.0 free.1 (fit_differ p.recv p.send new.met.fit))) (listed_cases p a h l)
 
     -- the partner of the partner of x is x
     pub partners_mutual : (h : List Act) (x y : OpId) → IsInterleaving plans eager h → partner (pairs plans h) x ≡ Some y → partner (pairs plans h) y ≡ Some x

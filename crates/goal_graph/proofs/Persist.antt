@@ -20,9 +20,9 @@ use Rattle.goal_graph.proofs.Actions.{happened_stays, happened_unless_newest}
 pub is_some_from : {A : Type 0} (o : Option A) (y : A) → o ≡ Some y → is_some o ≡ true
 is_some_from o y e = subst (λ o. is_some o ≡ true) (sym e) refl
 
-pub cases_some : {A : Type 0} (o : Option A) → is_some o ≡ true → (y : A) × (o ≡ Some y)
-cases_some None h = absurd (both_ways false refl h)
-cases_some (Some y) h = (y, refl)
+pub value_of_is_some : {A : Type 0} (o : Option A) → is_some o ≡ true → (y : A) × (o ≡ Some y)
+value_of_is_some None h = absurd (both_ways false refl h)
+value_of_is_some (Some y) h = (y, refl)
 
 pub partner_more : (p : Pair) (ps : List Pair) (x y : OpId) → partner ps x ≡ Some y → partner (p ∷ ps) x ≡ Some y
 unfolding partner
@@ -40,7 +40,7 @@ module _ (plans : List Plan) where
 
   pub paired_stays : (a : Act) (h : List Act) (x : OpId) → is_paired (pairs plans h) x ≡ true → is_paired (pairs plans (a ∷ h)) x ≡ true
   paired_stays a h x e =
-      let p = cases_some (partner (pairs plans h) x) e in
+      let p = value_of_is_some (partner (pairs plans h) x) e in
       is_some_from _ p.0 (partner_stays a h x p.0 p.1)
 
   pub started_stays : (a : Act) (h : List Act) (x : OpId) → has_started plans x h ≡ true → has_started plans x (a ∷ h) ≡ true

@@ -29,7 +29,7 @@ pub op_count-more : (plans : List Plan) (i : ℕ) (p : Plan) → i < length plan
 unfolding op_count
 op_count-more plans i p inside = sum_by_more (λ (q : Plan). length q.ops) plans i p inside
 
--- the operations so far, and those of the next rank, are at most all
+-- the operations of the first i + 1 ranks are at most all operations
 pub op_count-more_le : (plans : List Plan) (i : ℕ) (p : Plan) → i < length plans → op_count (take i plans) + length (get_or plans i p).ops ≤ op_count plans
 unfolding op_count
 op_count-more_le plans i p inside = sum_by_more_le (λ (q : Plan). length q.ops) plans i p inside
@@ -232,7 +232,7 @@ no_op = record { kind = Calc 0; cpu = 0; nic = 0 }
 pub IsOp-from_located : (plans : List Plan) (x : OpId) → IsLocated plans x → IsOp plans x
 IsOp-from_located plans x located = ap is_some (op_at-located plans x located no_plan no_op)
 
--- so does each number below the number of operations of its rank
+-- an operation exists if its rank exists and its number is below the size of that rank
 pub IsOp-below : (plans : List Plan) (x : OpId) → x.rank < length plans → x.op < length (get_or plans x.rank no_plan).ops → IsOp plans x
 IsOp-below plans x rank_in op_in =
     IsOp-from_located plans x (record { rank_in = rank_in; op_in = λ p. rw (get_or_default plans x.rank p no_plan rank_in) op_in })

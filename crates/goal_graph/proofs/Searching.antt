@@ -19,15 +19,15 @@ use Rattle.goal_graph.proofs.Ranges.{waiting_on-in_range, needs-in_range}
 use Rattle.std.proofs.Math.Bool.{or-false, or-true}
 
 -- places of a list before and after another item
-old_or_new : (xs : List ℕ) (x k : ℕ) → k < length (xs ++ x ∷ []) → (k < length xs) ⊎ (k ≡ length xs)
-old_or_new xs x k inside =
+place_is_old_or_last : (xs : List ℕ) (x k : ℕ) → k < length (xs ++ x ∷ []) → (k < length xs) ⊎ (k ≡ length xs)
+place_is_old_or_last xs x k inside =
     let size = length_push xs x in
     elim (cases_lt k (length xs)) [ inl old ↦ inl old | inr new ↦ inr (omega arith) ]
 
 module _ (plans : List Plan) (rank : ℕ) where
   -- each of the first `done` operations in the order has a depth
-  deep_among : (missing order : List ℕ) (done m : ℕ) (seen : List Need) → IsSearch plans rank missing order done seen → m ≤ length order → (op : ℕ) → is_among (take m order) op ≡ true → HasDepth plans (op_id rank op)
-  deep_among missing order done m seen s within op h =
+  listed_operation_has_depth : (missing order : List ℕ) (done m : ℕ) (seen : List Need) → IsSearch plans rank missing order done seen → m ≤ length order → (op : ℕ) → is_among (take m order) op ≡ true → HasDepth plans (op_id rank op)
+  listed_operation_has_depth missing order done m seen s within op h =
       let r = is_among-found (take m order) op h in
       let size = length-take-le m order within in
       let at : r.0 < m = omega (arith, r.1) in
@@ -35,26 +35,26 @@ module _ (plans : List Plan) (rank : ℕ) where
 
   -- what a newly listed operation needs: it is in range, was not listed, and has a depth
   push-in_rank : (order : List ℕ) (x n : ℕ) → x < n → ((k : ℕ) → k < length order → get_or order k 0 < n) → (k : ℕ) → k < length (order ++ x ∷ []) → get_or (order ++ x ∷ []) k 0 < n
-  push-in_rank order x n below old k inside = elim (old_or_new order x k inside) [
+  push-in_rank order x n below old k inside = elim (place_is_old_or_last order x k inside) [
     | inl before ↦ rw (get_or_append_left order (x ∷ []) 0 k before) (old k before)
     | inr here ↦ rw (get_or_push order x 0 k (sym here)) below
   ]
 
   push-once : (order : List ℕ) (x : ℕ) → is_among order x ≡ false → ((k : ℕ) → k < length order → is_among (take k order) (get_or order k 0) ≡ false) → (k : ℕ) → k < length (order ++ x ∷ []) → is_among (take k (order ++ x ∷ [])) (get_or (order ++ x ∷ []) k 0) ≡ false
-  push-once order x fresh old k inside = elim (old_or_new order x k inside) [
+  push-once order x fresh old k inside = elim (place_is_old_or_last order x k inside) [
     | inl before ↦ rw (get_or_append_left order (x ∷ []) 0 k before, take-append-le k order (x ∷ []) (omega arith)) (old k before)
     | inr here ↦ rw (get_or_push order x 0 k (sym here), take_at order (x ∷ []) k (sym here)) fresh
   ]
 
   push-deep : (order : List ℕ) (x : ℕ) → HasDepth plans (op_id rank x) → ((k : ℕ) → k < length order → HasDepth plans (op_id rank (get_or order k 0))) → (k : ℕ) → k < length (order ++ x ∷ []) → HasDepth plans (op_id rank (get_or (order ++ x ∷ []) k 0))
-  push-deep order x depth old k inside = elim (old_or_new order x k inside) [
+  push-deep order x depth old k inside = elim (place_is_old_or_last order x k inside) [
     | inl before ↦ rw (get_or_append_left order (x ∷ []) 0 k before) (old k before)
     | inr here ↦ rw (get_or_push order x 0 k (sym here)) depth
   ]
 
   module _ (missing order : List ℕ) (count : ℕ) (s : IsSearch plans rank missing order 0 []) (counts : count ≡ length (needs plans (op_id rank (length missing)))) where
     begin-counted : (op : ℕ) → op < length (missing ++ count ∷ []) → get_or (missing ++ count ∷ []) op 0 + count_of [] op ≡ unfinished [] (needs plans (op_id rank op))
-    begin-counted op inside = elim (old_or_new missing count op inside) [
+    begin-counted op inside = elim (place_is_old_or_last missing count op inside) [
       | inl before ↦ rw (get_or_append_left missing (count ∷ []) 0 op before) (s.counted op before)
       | inr here ↦ rw (get_or_push missing count 0 op (sym here), here) (omega (arith, counts, count_of-nil (length missing), unfinished-nil (needs plans (op_id rank (length missing)))))
     ]
@@ -66,7 +66,7 @@ module _ (plans : List Plan) (rank : ℕ) where
     pub IsSearch-waits : (count ≡ 0 → ⊥) → IsSearch plans rank (missing ++ count ∷ []) order 0 []
     IsSearch-waits some = record {
       counted = begin-counted;
-      listed = λ op inside. elim (old_or_new missing count op inside) [
+      listed = λ op inside. elim (place_is_old_or_last missing count op inside) [
         | inl before ↦ rw (get_or_append_left missing (count ∷ []) 0 op before) (s.listed op before)
         | inr here ↦ rw (get_or_push missing count 0 op (sym here), here, is_among-above order (length missing) s.in_rank, ne-eqb count 0 some) refl
       ];
@@ -87,7 +87,7 @@ module _ (plans : List Plan) (rank : ℕ) where
         HasDepth-from_needs plans rank [] (length missing) (λ k h. absurd (false≢true h)) (omega (arith, counts, none, unfinished-nil (needs plans (op_id rank (length missing))))) in
         record {
           counted = begin-counted;
-          listed = λ op inside. elim (old_or_new missing count op inside) [
+          listed = λ op inside. elim (place_is_old_or_last missing count op inside) [
             | inl before ↦ rw (get_or_append_left missing (count ∷ []) 0 op before, is_among-push order (length missing) op, s.listed op before, ne-eqb (length missing) op (λ e. omega arith)) (or-false _)
             | inr here ↦ rw (get_or_push missing count 0 op (sym here), here, is_among-push order (length missing) (length missing), none, eq-eqb (length missing) (length missing) refl) (or-true _)
           ];
@@ -162,7 +162,7 @@ module _ (plans : List Plan) (rank : ℕ) where
         let counted = step-counted w.op (omega (arith, in_rank)) in
         let this = rw (get_or-set_same missing w.op (get_or missing w.op 0 - 1) 0 in_rank) at counted in
         let rest : unfinished (take (done + 1) order) (needs plans (op_id rank w.op)) ≡ 0 = omega (arith, this, none, step-unfinished w.op, count_of-take-le waiting (j + 1) w.op) in
-        let depth = HasDepth-from_needs plans rank (take (done + 1) order) w.op (deep_among missing order done (done + 1) (take j waiting) s (omega (arith, next))) rest in
+        let depth = HasDepth-from_needs plans rank (take (done + 1) order) w.op (listed_operation_has_depth missing order done (done + 1) (take j waiting) s (omega (arith, next))) rest in
         record {
           counted = rw (take-append-le done order (w.op ∷ []) (omega (arith, next))) step-counted;
           listed = λ op within. elim (cases_eq op w.op) [
@@ -195,7 +195,7 @@ module _ (plans : List Plan) (rank : ℕ) where
     pub IsSearch-deep : (op : ℕ) → op < length missing → get_or missing op 0 ≡ 0 → HasDepth plans (op_id rank op)
     IsSearch-deep op inside none =
         let listed = rw none at (s.listed op inside) in
-        deep_among missing order done (length order) [] s (omega arith) op (rw (take_all (length order) order (omega arith)) listed)
+        listed_operation_has_depth missing order done (length order) [] s (omega arith) op (rw (take_all (length order) order (omega arith)) listed)
 
     pub IsSearch-stuck : ((op : ℕ) → list_all (λ (d : Need). ltb d.op (length missing)) (needs plans (op_id rank op)) ≡ true) → (op : ℕ) → op < length missing → 0 < get_or missing op 0 → HasDepth plans (op_id rank op) → ⊥
     IsSearch-stuck in_range op inside some depth =

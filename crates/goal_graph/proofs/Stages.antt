@@ -12,8 +12,8 @@ use Rattle.goal_graph.specs.Matching.{partner, is_paired, pairs}
 use Rattle.goal_graph.specs.Allowed.{first_class, last_class, has_started, has_ended, is_ready, is_served}
 use Rattle.goal_graph.specs.Interleaving.{IsInterleaving}
 use Rattle.goal_graph.specs.Laws.{IsCalc}
-use Rattle.goal_graph.proofs.Persist.{cases_some}
-use Rattle.goal_graph.proofs.Ever.{begun_ready, posted_ready, arrived_begun, data_send, data_paired, served_receive, served_message}
+use Rattle.goal_graph.proofs.Persist.{value_of_is_some}
+use Rattle.goal_graph.proofs.Ever.{begun_ready, posted_ready, arrived_begun, data_only_of_send, data_paired, served_receive, served_message}
 use Rattle.goal_graph.proofs.Partners.{partner_of_send, partner_of_receive}
 
 -- the kind of an operation
@@ -88,8 +88,8 @@ module _ (plans : List Plan) where
     -- a send that has transferred its data has arrived before, and has begun
     pub data_arrived : (h : List Act) (m : OpId) → IsInterleaving plans eager h → happened Data m h ≡ true → happened Arrive m h ≡ true
     data_arrived h m i e =
-        let with = cases_some (partner (pairs plans h) m) (data_paired plans eager h m i e) in
-        (partner_of_send plans h m with.0 (data_send plans eager h m i e) with.1).arrived
+        let with = value_of_is_some (partner (pairs plans h) m) (data_paired plans eager h m i e) in
+        (partner_of_send plans h m with.0 (data_only_of_send plans eager h m i e) with.1).arrived
 
     pub data_begun : (h : List Act) (m : OpId) → IsInterleaving plans eager h → happened Data m h ≡ true → happened Begin m h ≡ true
     data_begun h m i e = arrived_begun plans eager h m i (data_arrived h m i e)
@@ -108,7 +108,7 @@ module _ (plans : List Plan) where
 
     pub serve_posted : (h : List Act) (x : OpId) → IsInterleaving plans eager h → happened Serve x h ≡ true → happened Post x h ≡ true
     serve_posted h x i e =
-        let with = cases_some (partner (pairs plans h) x) (serve_paired h x i e) in
+        let with = value_of_is_some (partner (pairs plans h) x) (serve_paired h x i e) in
         (partner_of_receive plans h x with.0 (served_receive plans eager h x i e) with.1).posted
 
     -- what has ended has started

@@ -5,8 +5,8 @@ use Rattle.std.proofs.lemmas.Option.{same_Some, slice_get-get_or}
 use Rattle.goal_graph.specs.declared.action.OpId.{OpId}
 use Rattle.goal_graph.specs.Schedule.{Plan, operations}
 use Rattle.goal_graph.specs.Action.{same_op}
-use Rattle.goal_graph.proofs.Actions.{cases_op, same_op_from, same_op_true}
-use Rattle.goal_graph.proofs.Entries.{slice_get_mapped, other_place}
+use Rattle.goal_graph.proofs.Actions.{same_or_different_op, same_op_from, same_op_true}
+use Rattle.goal_graph.proofs.Entries.{slice_get_mapped, operations_at_two_places_differ}
 use Rattle.goal_graph.specs.Entries.{with_entry, IsEntryOf, put_entry}
 
 put_table : {E : Type 0} (xs : List OpId) (y : OpId) (e : E) (f : OpId → E) → put_entry xs y e (map f xs) ≡ map (with_entry y e f) xs
@@ -27,7 +27,7 @@ pub put_at : {E : Type 0} (xs : List OpId) (y : OpId) (e : E) (entries : List E)
 put_at [] y e entries slot x d at here = inr here
 put_at (z ∷ zs) y e [] slot x d at here = inr here
 put_at (z ∷ zs) y e (k ∷ ks) zero x d at here =
-    elim (cases_op z y) [ inl s ↦ inl (sym (same_Some z x at) ∙ s, sym (same_Some _ d here) ∙ cond-true _ _ _ (same_op_from z y s)) | inr o ↦ inr (ap Some (sym (cond-false _ _ _ o)) ∙ here) ]
+    elim (same_or_different_op z y) [ inl s ↦ inl (sym (same_Some z x at) ∙ s, sym (same_Some _ d here) ∙ cond-true _ _ _ (same_op_from z y s)) | inr o ↦ inr (ap Some (sym (cond-false _ _ _ o)) ∙ here) ]
 put_at (z ∷ zs) y e (k ∷ ks) (suc slot) x d at here = put_at zs y e ks slot x d at here
 
 -- if y is not an operation, nothing changes
@@ -49,7 +49,7 @@ put_at_single_place (x ∷ xs) (suc i) y e (d ∷ ds) at others =
 -- an operation has one index, and its entry is written there
 pub put_as_set : {E : Type 0} (plans : List Plan) (i : ℕ) (y : OpId) (e : E) (entries : List E) → slice_get (operations plans) i ≡ Some y → put_entry (operations plans) y e entries ≡ set entries i e
 put_as_set plans i y e entries at =
-    put_at_single_place (operations plans) i y e entries at (λ j x there differ. false_from_ne_true (same_op x y) (λ t. other_place plans j i x y there at differ (same_op_true x y t)))
+    put_at_single_place (operations plans) i y e entries at (λ j x there differ. false_from_ne_true (same_op x y) (λ t. operations_at_two_places_differ plans j i x y there at differ (same_op_true x y t)))
 
 -- an entry of the table of f
 pub entry_in_table : {E : Type 0} (plans : List Plan) (entries : List E) (x : OpId) (e : E) (f : OpId → E) → IsEntryOf plans entries x e → entries ≡ map f (operations plans) → e ≡ f x

@@ -15,16 +15,16 @@ unfolding written header
 begins_compiled plans = refl
 
 -- the file of a schedule means the schedule
-pub file_again : (plans : List Plan) → IsAccepted plans → length (file plans) ≤ MAX_INPUT → meaning (file plans) ≡ Ok plans
+pub file_reads_as_plans : (plans : List Plan) → IsAccepted plans → length (file plans) ≤ MAX_INPUT → meaning (file plans) ≡ Ok plans
     → IsReadAs (file plans) plans
-file_again plans accepted short means = record {
+file_reads_as_plans plans accepted short means = record {
   short = short;
   says = rw (begins_compiled plans) means;
   accepted = accepted;
 }
 
 -- so do bytes equal to that file
-pub bytes_again : (r : Result (Vec ℕ Global) NoMemory) (plans : List Plan) → IfOk r (λ bytes. bytes.items ≡ file plans)
+pub file_bytes_read_as_plans : (r : Result (Vec ℕ Global) NoMemory) (plans : List Plan) → IfOk r (λ bytes. bytes.items ≡ file plans)
     → IsReadAs (file plans) plans → IfOk r (λ bytes. IsReadAs bytes.items plans)
-bytes_again (Ok bytes) plans is again = rw is again
-bytes_again (Err e) plans is again = tt
+file_bytes_read_as_plans (Ok bytes) plans is again = rw is again
+file_bytes_read_as_plans (Err e) plans is again = tt

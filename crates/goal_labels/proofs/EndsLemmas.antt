@@ -14,7 +14,7 @@ last_four_is_rest xs far long =
     let count = length-drop far xs in
     ap (take 4) (take_rest xs far) ∙ take_all 4 (drop far xs) (omega (arith, count, long))
 
--- both ends are the same, and so is all between them
+-- lists that agree in their first 4 bytes and from `far` ≤ 4 on are equal
 whole_by_ends : (xs ys : List ℕ) (far : ℕ) → far ≤ 4 → take 4 xs ≡ take 4 ys → drop far xs ≡ drop far ys → xs ≡ ys
 whole_by_ends xs ys far few front back =
     sym (take-append-drop far xs)
@@ -22,7 +22,7 @@ whole_by_ends xs ys far few front back =
     ∙ ap (λ (l : List ℕ). take far ys ++ l) back
     ∙ take-append-drop far ys
 
--- if the last bytes are the same, the first decide
+-- if the last four bytes are equal, the first four decide equality
 pub first_four_decide_equality : (xs ys : List ℕ) (far : ℕ) → far + 4 ≡ length xs → far + 4 ≡ length ys → far ≤ 4 →
     bytes_eq (last_four xs far) (last_four ys far) ≡ true → bytes_eq (take 4 xs) (take 4 ys) ≡ bytes_eq xs ys
 first_four_decide_equality xs ys far one other few alike =

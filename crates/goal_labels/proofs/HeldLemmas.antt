@@ -9,7 +9,7 @@ use Rattle.std.proofs.Math.Seq.{drop-append_seam, take-length}
 use Rattle.goal_labels.specs.declared.label_map.LabelInfo.{LabelInfo}
 use Rattle.goal_labels.specs.declared.label_map.LabelEntry.{LabelEntry}
 use Rattle.goal_labels.specs.Entries.{Entries, is_at, label_of, entries_of, IsAt, IsHeld, AreHeld}
-use Rattle.goal_labels.proofs.PlaceLemmas.{slice_get-before, slice_get-last, slice_get-set, slice_get-apart}
+use Rattle.goal_labels.proofs.PlaceLemmas.{slice_get-before, slice_get-last, slice_get-set, slice_get_beside_set_place}
 
 pub entries_of-none : (bytes : List ℕ) → entries_of bytes [] ≡ []
 unfolding entries_of
@@ -30,12 +30,12 @@ pub entries_of-read : (read bytes : List ℕ) (seen es : List LabelEntry) → re
 entries_of-read read bytes seen es same_bytes same_entries = ap (λ (bs : List ℕ). entries_of bs seen) same_bytes ∙ ap (entries_of bytes) same_entries
 
 -- an entry, seen with its label
-pub entry-there : (bytes : List ℕ) (es : List LabelEntry) (i : ℕ) (e : LabelEntry) → slice_get es i ≡ Some e → slice_get (entries_of bytes es) i ≡ Some (label_of bytes e, e.info)
+pub entries_of_at_known_entry : (bytes : List ℕ) (es : List LabelEntry) (i : ℕ) (e : LabelEntry) → slice_get es i ≡ Some e → slice_get (entries_of bytes es) i ≡ Some (label_of bytes e, e.info)
 unfolding entries_of
-entry-there bytes es i e there = slice_get-map _ es i ∙ ap (option_map (λ (k : LabelEntry). (label_of bytes k, k.info))) there
+entries_of_at_known_entry bytes es i e there = slice_get-map _ es i ∙ ap (option_map (λ (k : LabelEntry). (label_of bytes k, k.info))) there
 
 pub IsAt-entry : (bytes : List ℕ) (es : List LabelEntry) (i : ℕ) (e : LabelEntry) → slice_get es i ≡ Some e → IsAt (entries_of bytes es) (label_of bytes e) i
-IsAt-entry bytes es i e there = (e.info, entry-there bytes es i e there)
+IsAt-entry bytes es i e there = (e.info, entries_of_at_known_entry bytes es i e there)
 
 -- an entry whose label was read
 pub read_label_has_entry : (bytes : List ℕ) (es : List LabelEntry) (i : ℕ) (label : List ℕ) (e : LabelEntry) → i < length es
@@ -43,19 +43,19 @@ pub read_label_has_entry : (bytes : List ℕ) (es : List LabelEntry) (i : ℕ) (
 read_label_has_entry bytes es i label e within same =
     subst (λ k. IsAt (entries_of bytes es) k i) (sym same) (IsAt-entry bytes es i _ (slice_get-get_or es i e within))
 
-pub entry-read : (bytes : List ℕ) (es : List LabelEntry) (i : ℕ) → slice_get (entries_of bytes es) i ≡ option_map (λ (e : LabelEntry). (label_of bytes e, e.info)) (slice_get es i)
+pub entries_of_at_place : (bytes : List ℕ) (es : List LabelEntry) (i : ℕ) → slice_get (entries_of bytes es) i ≡ option_map (λ (e : LabelEntry). (label_of bytes e, e.info)) (slice_get es i)
 unfolding entries_of
-entry-read bytes es i = slice_get-map _ es i
+entries_of_at_place bytes es i = slice_get-map _ es i
 
 -- an entry that was read, where its label's entry is
-pub entry-at : (bytes : List ℕ) (es : List LabelEntry) (label : List ℕ) (i : ℕ) (e : LabelEntry) → IsAt (entries_of bytes es) label i → e ≡ get_or es i e → slice_get es i ≡ Some e
-entry-at bytes es label i e at read =
+pub entry_read_where_label_is : (bytes : List ℕ) (es : List LabelEntry) (label : List ℕ) (i : ℕ) (e : LabelEntry) → IsAt (entries_of bytes es) label i → e ≡ get_or es i e → slice_get es i ≡ Some e
+entry_read_where_label_is bytes es label i e at read =
     slice_get_read es (length es) i e refl (omega (arith, slice_get_within (entries_of bytes es) i (label, at.0) at.1, length-entries_of bytes es)) read
 
-pub entry-same : (bytes : List ℕ) (es : List LabelEntry) (label : List ℕ) (i : ℕ) (e : LabelEntry) (info : LabelInfo) → slice_get es i ≡ Some e → slice_get (entries_of bytes es) i ≡ Some (label, info)
+pub label_and_info_of_known_entry : (bytes : List ℕ) (es : List LabelEntry) (label : List ℕ) (i : ℕ) (e : LabelEntry) (info : LabelInfo) → slice_get es i ≡ Some e → slice_get (entries_of bytes es) i ≡ Some (label, info)
     → (label_of bytes e ≡ label) × (e.info ≡ info)
-entry-same bytes es label i e info there at =
-    let one : Some (label_of bytes e, e.info) ≡ Some (label, info) = sym (entry-there bytes es i e there) ∙ at in
+label_and_info_of_known_entry bytes es label i e info there at =
+    let one : Some (label_of bytes e, e.info) ≡ Some (label, info) = sym (entries_of_at_known_entry bytes es i e there) ∙ at in
     (ap (λ (o : Option (List ℕ × LabelInfo)). elim o [ None ↦ label | Some k ↦ k.0 ]) one, ap (λ (o : Option (List ℕ × LabelInfo)). elim o [ None ↦ info | Some k ↦ k.1 ]) one)
 
 -- the length of a label
@@ -63,9 +63,9 @@ pub length-label_of : (bytes : List ℕ) (e : LabelEntry) → IsHeld bytes e →
 length-label_of bytes e held = length-take-le e.len (drop e.from bytes) (omega (arith, length-drop e.from bytes, held.within))
 
 -- a label that was read has 1 to 64 bytes
-pub read-length : (bytes : List ℕ) (es : List LabelEntry) (i : ℕ) (label : List ℕ) (e : LabelEntry) → AreHeld bytes es → i < length es
+pub read_label_has_1_to_64_bytes : (bytes : List ℕ) (es : List LabelEntry) (i : ℕ) (label : List ℕ) (e : LabelEntry) → AreHeld bytes es → i < length es
     → label ≡ label_of bytes (get_or es i e) → (0 < length label) × (length label ≤ 64)
-read-length bytes es i label e held within same =
+read_label_has_1_to_64_bytes bytes es i label e held within same =
     let read = held i (get_or es i e) (slice_get-get_or es i e within) in
     let count : length label ≡ (get_or es i e).len = ap length same ∙ length-label_of bytes (get_or es i e) read in
     (omega (arith, count, read.some), omega (arith, count, read.short))
@@ -73,15 +73,15 @@ read-length bytes es i label e held within same =
 -- the test of an entry
 pub is_at-entry : (bytes : List ℕ) (es : List LabelEntry) (label : List ℕ) (i : ℕ) (e : LabelEntry) → slice_get es i ≡ Some e → is_at (entries_of bytes es) label i ≡ bytes_eq (label_of bytes e) label
 unfolding is_at
-is_at-entry bytes es label i e there = ap (λ (o : Option (List ℕ × LabelInfo)). option_map_or (λ k. bytes_eq k.0 label) o false) (entry-there bytes es i e there)
+is_at-entry bytes es label i e there = ap (λ (o : Option (List ℕ × LabelInfo)). option_map_or (λ k. bytes_eq k.0 label) o false) (entries_of_at_known_entry bytes es i e there)
 
-pub is_at-past : (bytes : List ℕ) (es : List LabelEntry) (label : List ℕ) (i : ℕ) → slice_get es i ≡ None → is_at (entries_of bytes es) label i ≡ false
+pub is_at_false_past_end : (bytes : List ℕ) (es : List LabelEntry) (label : List ℕ) (i : ℕ) → slice_get es i ≡ None → is_at (entries_of bytes es) label i ≡ false
 unfolding is_at
-is_at-past bytes es label i past = ap (λ (o : Option (List ℕ × LabelInfo)). option_map_or (λ k. bytes_eq k.0 label) o false) (entry-read bytes es i ∙ ap (option_map _) past)
+is_at_false_past_end bytes es label i past = ap (λ (o : Option (List ℕ × LabelInfo)). option_map_or (λ k. bytes_eq k.0 label) o false) (entries_of_at_place bytes es i ∙ ap (option_map _) past)
 
 -- an entry of another length
-pub is_at-other : (bytes : List ℕ) (es : List LabelEntry) (label : List ℕ) (i : ℕ) (e : LabelEntry) → slice_get es i ≡ Some e → IsHeld bytes e → e.len ≢ length label → is_at (entries_of bytes es) label i ≡ false
-is_at-other bytes es label i e there held other = is_at-entry bytes es label i e there ∙ by (bytes_eq (label_of bytes e) label) refl
+pub is_at_false_for_other_length : (bytes : List ℕ) (es : List LabelEntry) (label : List ℕ) (i : ℕ) (e : LabelEntry) → slice_get es i ≡ Some e → IsHeld bytes e → e.len ≢ length label → is_at (entries_of bytes es) label i ≡ false
+is_at_false_for_other_length bytes es label i e there held other = is_at-entry bytes es label i e there ∙ by (bytes_eq (label_of bytes e) label) refl
   where
     by : (b : Bool) → bytes_eq (label_of bytes e) label ≡ b → b ≡ false
     by false told = refl
@@ -144,11 +144,11 @@ module _ (bytes : List ℕ) (es : List LabelEntry) (label : List ℕ) (i : ℕ) 
   changed = record { info = info; from = old.from; len = old.len }
 
   read_entry_is_at : slice_get es i ≡ Some old
-  read_entry_is_at = entry-at bytes es label i old at read
+  read_entry_is_at = entry_read_where_label_is bytes es label i old at read
 
   pub entries_of-set : entries_of bytes (slice_set es i changed) ≡ slice_set (entries_of bytes es) i (label, info)
   unfolding entries_of
-  entries_of-set = map-set _ es i changed ∙ ap (λ (k : List ℕ). slice_set (entries_of bytes es) i (k, info)) (entry-same bytes es label i old at.0 read_entry_is_at at.1).0
+  entries_of-set = map-set _ es i changed ∙ ap (λ (k : List ℕ). slice_set (entries_of bytes es) i (k, info)) (label_and_info_of_known_entry bytes es label i old at.0 read_entry_is_at at.1).0
 
   pub AreHeld-set : AreHeld bytes es → AreHeld bytes (slice_set es i changed)
   AreHeld-set held j k is = by (eqb_tells j i)
@@ -158,4 +158,4 @@ module _ (bytes : List ℕ) (es : List LabelEntry) (label : List ℕ) (i : ℕ) 
           let one : Some changed ≡ Some k = sym (slice_get-set es i changed (slice_get_within es i old read_entry_is_at)) ∙ ap (slice_get (slice_set es i changed)) (sym told.1) ∙ is in
           let was = held i old read_entry_is_at in
           subst (IsHeld bytes) (ap (λ (o : Option LabelEntry). elim o [ None ↦ changed | Some x ↦ x ]) one) (record { within = was.within; some = was.some; short = was.short })
-      by (inr told) = held j k (sym (slice_get-apart es i j changed told.1) ∙ is)
+      by (inr told) = held j k (sym (slice_get_beside_set_place es i j changed told.1) ∙ is)

@@ -13,16 +13,16 @@ use Rattle.goal_labels.specs.Entries.{Entries, entries_of, IsAt, IsAbsent, AreUn
 use Rattle.goal_labels.specs.Indexed.{IsMap}
 use Rattle.goal_labels.specs.Numbers.{number_of, AreFew}
 use Rattle.goal_labels.specs.Ordered.{AreBefore}
-use Rattle.goal_labels.proofs.PlaceLemmas.{slice_get-set, slice_get-apart}
+use Rattle.goal_labels.proofs.PlaceLemmas.{slice_get-set, slice_get_beside_set_place}
 use Rattle.goal_labels.proofs.EntryLemmas.{IsAt-within, IsAt-before, IsAt-left, IsAt-last, AreUnique-more}
 use Rattle.goal_labels.proofs.HeldLemmas.{AreHeld-none, entries_of-empty}
-use Rattle.goal_labels.proofs.OrderedLemmas.{IsAt-same, others_still_ascend, ascending_more}
+use Rattle.goal_labels.proofs.OrderedLemmas.{label_at_place_is_unique, others_still_ascend, ascending_more}
 
 -- a map without labels
 module _ (bytes : List ℕ) (es : List LabelEntry) (first ascending : ℕ) (numbers : LabelNumbers) (none : es ≡ []) (start : first ≡ 0) (end : ascending ≡ 0)
     (absent_has_no_number : (label : List ℕ) → number_of numbers label ≡ None) (few : AreFew numbers) where
-  no_entries : entries_of bytes es ≡ []
-  no_entries = entries_of-empty bytes es none
+  entries_of_empty_map : entries_of bytes es ≡ []
+  entries_of_empty_map = entries_of-empty bytes es none
 
   pub empty_map_keeps_invariant : AreHeld bytes es × IsMap (entries_of bytes es) first ascending numbers
   empty_map_keeps_invariant = (
@@ -32,11 +32,11 @@ module _ (bytes : List ℕ) (es : List LabelEntry) (first ascending : ℕ) (numb
       within = omega (arith, end);
       ascend = λ i j one other from less below a b. absurd (omega (arith, below, end));
       numbered_before = λ i label below at. absurd (omega (arith, below, start));
-      numbered_after = λ i label past at. absurd (omega (arith, IsAt-within (entries_of bytes es) label i at, ap length no_entries));
+      numbered_after = λ i label past at. absurd (omega (arith, IsAt-within (entries_of bytes es) label i at, ap length entries_of_empty_map));
       there = λ i label is. absurd (none-some i (sym (absent_has_no_number label) ∙ is));
       apart = λ i label is from. omega (arith, end);
       few = few;
-      unique = λ i j label a b. absurd (omega (arith, IsAt-within (entries_of bytes es) label i a, ap length no_entries));
+      unique = λ i j label a b. absurd (omega (arith, IsAt-within (entries_of bytes es) label i a, ap length entries_of_empty_map));
     },
   )
 
@@ -81,8 +81,8 @@ module _ (es : Entries) (label : List ℕ) (n : ℕ) (unique : AreUnique es) (at
   number_after_insert q b told = gives q ∙ ap (λ (c : Bool). if c then Some n else number_of numbers q) told
 
   -- it has this number, and each other label keeps its own
-  given-number : (i : ℕ) (q : List ℕ) → IsAt es q i → (i ≢ n → number_of numbers q ≡ Some i) → number_of new q ≡ Some i
-  given-number i q is had = by (bytes_eq label q) refl
+  numbered_after_insert : (i : ℕ) (q : List ℕ) → IsAt es q i → (i ≢ n → number_of numbers q ≡ Some i) → number_of new q ≡ Some i
+  numbered_after_insert i q is had = by (bytes_eq label q) refl
     where
       by : (b : Bool) → bytes_eq label q ≡ b → number_of new q ≡ Some i
       by true same =
@@ -90,7 +90,7 @@ module _ (es : Entries) (label : List ℕ) (n : ℕ) (unique : AreUnique es) (at
           number_after_insert q true same ∙ ap Some (unique n i q there is)
       by false other =
           number_after_insert q false other ∙ had (λ changed_entry.
-          let same : q ≡ label = IsAt-same es q label n (subst (IsAt es q) changed_entry is) at in
+          let same : q ≡ label = label_at_place_is_unique es q label n (subst (IsAt es q) changed_entry is) at in
           let told : bytes_eq label q ≡ true = ap (bytes_eq label) same ∙ nat_list_eq_equiv.refl label in
           absurd cc)
 
@@ -114,8 +114,8 @@ module _ (es : Entries) (first ascending : ℕ) (numbers : LabelNumbers) (map : 
     within = map.within;
     ascend = λ i j a b from less below p q. absurd (omega (arith, from, less, below));
     numbered_before = λ i q below is.
-        given-number es label first map.unique at numbers new gives i q is (λ other. map.numbered_before i q (omega (arith, other, below, one)) is);
-    numbered_after = λ i q past is. given-number es label first map.unique at numbers new gives i q is (λ other. map.numbered_after i q past is);
+        numbered_after_insert es label first map.unique at numbers new gives i q is (λ other. map.numbered_before i q (omega (arith, other, below, one)) is);
+    numbered_after = λ i q past is. numbered_after_insert es label first map.unique at numbers new gives i q is (λ other. map.numbered_after i q past is);
     there = λ i q is. number_after_insert-cases es label first map.unique at numbers new gives i q (λ k l. IsAt es l k) at (map.there i q) is;
     apart = λ i q is from. from;
     few = few;
@@ -155,8 +155,8 @@ module _ (es : Entries) (label : List ℕ) (info : LabelInfo) (first ascending :
     begins = map.begins;
     within = omega (arith, count, map.within);
     ascend = others_still_ascend es label info first ascending map.ascend map.within;
-    numbered_before = λ i q below is. given-number more label n unique changed_entry numbers new gives i q is (λ other. map.numbered_before i q below (earlier i q is other));
-    numbered_after = λ i q past is. given-number more label n unique changed_entry numbers new gives i q is (λ other. map.numbered_after i q past (earlier i q is other));
+    numbered_before = λ i q below is. numbered_after_insert more label n unique changed_entry numbers new gives i q is (λ other. map.numbered_before i q below (earlier i q is other));
+    numbered_after = λ i q past is. numbered_after_insert more label n unique changed_entry numbers new gives i q is (λ other. map.numbered_after i q past (earlier i q is other));
     there = λ i q is. number_after_insert-cases more label n unique changed_entry numbers new gives i q (λ k l. IsAt more l k) changed_entry (λ label_was_there. IsAt-left es (label, info) q i (map.there i q label_was_there)) is;
     apart = λ i q is from.
         number_after_insert-cases more label n unique changed_entry numbers new gives i q (λ k l. first ≤ k → ascending ≤ k) (λ past. omega (arith, last, map.within)) (map.apart i q) is from;
@@ -187,17 +187,17 @@ module _ (es : Entries) (i : ℕ) (label : List ℕ) (old info : LabelInfo) (at 
           let one : Some (label, info) ≡ Some (q, is.0) = sym changed_entry ∙ ap (slice_get now) (sym told.1) ∙ is.1 in
           let same : label ≡ q = ap (λ (o : Option (List ℕ × LabelInfo)). elim o [ None ↦ [] | Some e ↦ e.0 ]) one in
           (old, ap (slice_get es) told.1 ∙ at ∙ ap (λ k. Some (k, old)) same)
-      by (inr told) = (is.0, sym (slice_get-apart es i j (label, info) told.1) ∙ is.1)
+      by (inr told) = (is.0, sym (slice_get_beside_set_place es i j (label, info) told.1) ∙ is.1)
 
-  label_stays : (q : List ℕ) (j : ℕ) → IsAt es q j → IsAt now q j
-  label_stays q j is = by (eqb_tells j i)
+  label_stays_at_place : (q : List ℕ) (j : ℕ) → IsAt es q j → IsAt now q j
+  label_stays_at_place q j is = by (eqb_tells j i)
     where
       by : ((eqb j i ≡ true) × (j ≡ i)) ⊎ ((eqb j i ≡ false) × (j ≢ i)) → IsAt now q j
       by (inl told) =
           let one : Some (label, old) ≡ Some (q, is.0) = sym at ∙ ap (slice_get es) (sym told.1) ∙ is.1 in
           let same : label ≡ q = ap (λ (o : Option (List ℕ × LabelInfo)). elim o [ None ↦ [] | Some e ↦ e.0 ]) one in
           (info, ap (slice_get now) told.1 ∙ changed_entry ∙ ap (λ k. Some (k, info)) same)
-      by (inr told) = (is.0, slice_get-apart es i j (label, info) told.1 ∙ is.1)
+      by (inr told) = (is.0, slice_get_beside_set_place es i j (label, info) told.1 ∙ is.1)
 
   pub IsMap-set : (first ascending : ℕ) (numbers : LabelNumbers) → IsMap es first ascending numbers → IsMap now first ascending numbers
   IsMap-set first ascending numbers map = record {
@@ -206,7 +206,7 @@ module _ (es : Entries) (i : ℕ) (label : List ℕ) (old info : LabelInfo) (at 
     ascend = λ j k one other from less below a b. map.ascend j k one other from less below (label_was_there one j a) (label_was_there other k b);
     numbered_before = λ j q below is. map.numbered_before j q below (label_was_there q j is);
     numbered_after = λ j q past is. map.numbered_after j q past (label_was_there q j is);
-    there = λ j q is. label_stays q j (map.there j q is);
+    there = λ j q is. label_stays_at_place q j (map.there j q is);
     apart = map.apart;
     few = map.few;
     unique = λ j k q a b. map.unique j k q (label_was_there q j a) (label_was_there q k b);

@@ -30,11 +30,11 @@ ordered_number numbers one key label first second none o is =
 
 -- a label gets a number
 module _ (old new : LabelNumbers) (key label : List ℕ) (n : ℕ) (same : key ≡ label) where
-  -- by its hash
-  pub hash_given : new.ordered ≡ old.ordered → ((q : List ℕ) → hashed_at new q ≡ cond (bytes_eq key q) (Some n) (hashed_at old q))
+  -- the label gets its number in the hash table
+  pub number_after_hashed_insert : new.ordered ≡ old.ordered → ((q : List ℕ) → hashed_at new q ≡ cond (bytes_eq key q) (Some n) (hashed_at old q))
       → (q : List ℕ) → number_of new q ≡ (if bytes_eq label q then Some n else number_of old q)
   unfolding number_of
-  hash_given kept gives q =
+  number_after_hashed_insert kept gives q =
       ap (λ (h : Option ℕ). option_or h (ordered_at new q)) (gives q ∙ ap (λ (k : List ℕ). cond (bytes_eq k q) (Some n) (hashed_at old q)) same)
       ∙ ap (λ m. option_or (cond (bytes_eq label q) (Some n) (hashed_at old q)) (ordered_at (record { hashed = old.hashed; ordered = m }) q)) kept
       ∙ by (bytes_eq label q)
@@ -43,12 +43,12 @@ module _ (old new : LabelNumbers) (key label : List ℕ) (n : ℕ) (same : key �
       by true = refl
       by false = refl
 
-  -- in the ordered map
-  pub order_given : new.hashed ≡ old.hashed → number_of old label ≡ None
+  -- the label gets its number in the ordered map
+  pub number_after_ordered_insert : new.hashed ≡ old.hashed → number_of old label ≡ None
       → ((q : List ℕ) → ordered_at new q ≡ cond (is_at (slice_cmp nat_cmp key) q) (Some n) (ordered_at old q))
       → (q : List ℕ) → number_of new q ≡ (if bytes_eq label q then Some n else number_of old q)
   unfolding number_of
-  order_given kept absent gives q =
+  number_after_ordered_insert kept absent gives q =
       ap (option_or (hashed_at new q)) (gives q ∙ ap (λ (c : Bool). cond c (Some n) (ordered_at old q)) (is_eq-slice_cmp key q ∙ ap (λ (k : List ℕ). bytes_eq k q) same))
       ∙ ap (λ m. option_or (hashed_at (record { hashed = m; ordered = old.ordered }) q) (cond (bytes_eq label q) (Some n) (ordered_at old q))) kept
       ∙ by (bytes_eq label q) refl

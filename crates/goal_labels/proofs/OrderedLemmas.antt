@@ -33,15 +33,15 @@ label_cmp-total =
 pub label_cmp-trans : (x y z : List ℕ) → label_cmp x y ≡ Less → label_cmp y z ≡ Less → label_cmp x z ≡ Less
 label_cmp-trans x y z = label_cmp-total.trans x y z
 
-pub label_cmp-back : (x y : List ℕ) → label_cmp x y ≡ Greater → label_cmp y x ≡ Less
-label_cmp-back x y past = label_cmp-total.antisymm y x ∙ ap ordering_reverse past
+pub label_cmp_greater_is_less_swapped : (x y : List ℕ) → label_cmp x y ≡ Greater → label_cmp y x ≡ Less
+label_cmp_greater_is_less_swapped x y past = label_cmp-total.antisymm y x ∙ ap ordering_reverse past
 
 pub label_cmp-same : (x : List ℕ) → label_cmp x x ≡ Equal
 label_cmp-same x = tied_itself label_cmp-total x
 
 -- a label does not come before itself
-pub label_cmp-apart : (x y : List ℕ) → label_cmp x y ≡ Less → x ≡ y → ⊥
-label_cmp-apart x y before same =
+pub label_cmp_less_is_irreflexive : (x y : List ℕ) → label_cmp x y ≡ Less → x ≡ y → ⊥
+label_cmp_less_is_irreflexive x y before same =
     let one : Less ≡ Equal = sym before ∙ ap (λ (k : List ℕ). label_cmp k y) same ∙ label_cmp-same y in
     absurd (cc)
 
@@ -57,15 +57,15 @@ label_cmp-tied x y tied =
 
 -- a label after all from `first` on is none of them
 pub label_after_all_is_none_of_them : (es : Entries) (first : ℕ) (label : List ℕ) → AreBefore es first label → (i : ℕ) → first ≤ i → IsAt es label i → ⊥
-label_after_all_is_none_of_them es first label before i from at = label_cmp-apart label label (before i label from at) refl
+label_after_all_is_none_of_them es first label before i from at = label_cmp_less_is_irreflexive label label (before i label from at) refl
 
 -- a label after all labels is none of them
 pub label_after_all_is_absent : (es : Entries) (label : List ℕ) → AreBefore es 0 label → IsAbsent es label
 label_after_all_is_absent es label before i at = label_after_all_is_none_of_them es 0 label before i (omega arith) at
 
 -- an entry has one label
-pub IsAt-same : (es : Entries) (one other : List ℕ) (i : ℕ) → IsAt es one i → IsAt es other i → one ≡ other
-IsAt-same es one other i a b = ap (λ (o : Option (List ℕ × LabelInfo)). option_map_or (λ e. e.0) o []) (sym a.1 ∙ b.1)
+pub label_at_place_is_unique : (es : Entries) (one other : List ℕ) (i : ℕ) → IsAt es one i → IsAt es other i → one ≡ other
+label_at_place_is_unique es one other i a b = ap (λ (o : Option (List ℕ × LabelInfo)). option_map_or (λ e. e.0) o []) (sym a.1 ∙ b.1)
 
 -- a label after the last is after all from `first` on, if these ascend
 pub label_after_last_is_after_all : (es : Entries) (last label : List ℕ) (first n count : ℕ) → AreAscending es first count → count ≡ length es → length es ≡ n + 1
@@ -76,7 +76,7 @@ label_after_last_is_after_all es last label first n count ascending all many the
     by true p = label_cmp-trans one last label (ascending i n one last from (p.0 refl) (omega (arith, all, many)) at there) less
     by false p =
         let here : i ≡ n = omega (arith, many, IsAt-within es one i at, not_from_Decides false p refl) in
-        ap (λ (k : List ℕ). label_cmp k label) (IsAt-same es one last n (subst (IsAt es one) here at) there) ∙ less
+        ap (λ (k : List ℕ). label_cmp k label) (label_at_place_is_unique es one last n (subst (IsAt es one) here at) there) ∙ less
 
 -- among ascending labels, one that is less has the lesser number
 pub lesser_label_has_lesser_number : (es : Entries) (one other : List ℕ) (first i j count : ℕ) → AreAscending es first count → first ≤ j → i < count → IsAt es one i → IsAt es other j
@@ -87,10 +87,10 @@ lesser_label_has_lesser_number es one other first i j count ascending from withi
     by true p d q = p.0 refl
     by false p true q =
         let back = ascending j i other one from (q.0 refl) within b a in
-        absurd (label_cmp-apart one one (label_cmp-trans one other one less back) refl)
+        absurd (label_cmp_less_is_irreflexive one one (label_cmp-trans one other one less back) refl)
     by false p false q =
         let here : i ≡ j = omega (arith, not_from_Decides false p refl, not_from_Decides false q refl) in
-        absurd (label_cmp-apart one other less (IsAt-same es one other j (subst (IsAt es one) here a) b))
+        absurd (label_cmp_less_is_irreflexive one other less (label_at_place_is_unique es one other j (subst (IsAt es one) here a) b))
 
 -- a label is appended
 module _ (es : Entries) (label : List ℕ) (info : LabelInfo) (first count : ℕ) (ascending : AreAscending es first count) where
@@ -113,5 +113,5 @@ module _ (es : Entries) (label : List ℕ) (info : LabelInfo) (first count : ℕ
           ascending i j one other from less (omega (arith, all, within)) earlier (IsAt-before es _ other j within b)
       by false p =
           let last : j ≡ length es = omega (arith, all, below, not_from_Decides false p refl) in
-          ap (label_cmp one) (IsAt-same more other label (length es) (subst (IsAt more other) last b) (IsAt-last es label info))
+          ap (label_cmp one) (label_at_place_is_unique more other label (length es) (subst (IsAt more other) last b) (IsAt-last es label info))
           ∙ before i one from (IsAt-before es _ one i (omega (arith, less, last)) a)

@@ -17,7 +17,7 @@ or_of_true : (a b : Bool) → b ≡ true → (a || b) ≡ true
 or_of_true false b is = is
 or_of_true true b is = refl
 
--- another byte
+-- appending a byte that closes nothing adds no `*/`
 pub has_close-push : (inside : List ℕ) (c : ℕ) → has_close inside ≡ false → (ends_in_star inside && c == slash) ≡ false →
     has_close (inside ++ c ∷ []) ≡ false
 has_close-push [] c none apart = refl

@@ -23,21 +23,21 @@ mode_can_be_closed (BlockComment start false) place sound = (star ∷ slash ∷ 
 mode_can_be_closed (Failed at) place sound = absurd sound
 
 -- the same for the parts of the lexer
-goes_on_from : (mode : Mode) (place : ℕ) (ends : Bool) (text : List ℕ) →
+text_goes_on_by_parts : (mode : Mode) (place : ℕ) (ends : Bool) (text : List ℕ) →
     Stands (record { mode = mode; place = place; ends_run = ends }) text →
     (more : List ℕ) × ((lexed (text ++ more)).1 ≡ None)
-goes_on_from mode place false text stands =
+text_goes_on_by_parts mode place false text stands =
     let known = mode_can_be_closed mode (length text) stands.sound in (
       known.0,
       ap (λ (r : Scanned). fault_at_end r.0) (scanned-append text known.0)
           ∙ ap (λ (m : Mode). fault_at_end (scan m (length text) known.0).0) stands.open_there
           ∙ known.1,
     )
-goes_on_from mode place true text stands =
+text_goes_on_by_parts mode place true text stands =
     ([], ap (λ (t : List ℕ). fault_at_end (scanned t).0) (append-nil text) ∙ (no_fault_in_run (scanned text).0 stands.run_there).1)
 
 pub text_goes_on : (lexer : LexState) (text : List ℕ) → Stands lexer text → (more : List ℕ) × ((lexed (text ++ more)).1 ≡ None)
-text_goes_on lexer text stands = goes_on_from lexer.mode lexer.place lexer.ends_run text stands
+text_goes_on lexer text stands = text_goes_on_by_parts lexer.mode lexer.place lexer.ends_run text stands
 
 -- the tokens returned are the first of the continued text, for the parts of the lexer
 tokens_are_first_from : (mode : Mode) (place : ℕ) (ends : Bool) (text more : List ℕ) →

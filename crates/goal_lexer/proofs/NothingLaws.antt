@@ -7,8 +7,8 @@ use Rattle.goal_lexer.specs.Bytes.{is_blank, is_run_byte, slash, star}
 use Rattle.goal_lexer.specs.Scan.{form_with}
 use Rattle.goal_lexer.specs.Stands.{begins_run}
 use Rattle.goal_lexer.specs.Pieces.{blank, line_comment, block_comment, run, sign, Each, HasForm, has_close, sign_kind, NothingBegins}
-use Rattle.goal_lexer.proofs.ByteLaws.{run_no_blank, run_no_slash, run_no_sign, slash_no_blank, slash_no_sign}
-use Rattle.goal_lexer.proofs.FormLaws.{form_of, forms_with, first_form, has_form_form_of, form_of_has_form, first_in_run, form_of-none}
+use Rattle.goal_lexer.proofs.ByteLaws.{run_byte_is_no_blank, run_byte_is_no_slash, run_byte_is_no_sign, slash_is_no_blank, slash_is_no_sign}
+use Rattle.goal_lexer.proofs.FormLaws.{form_of, forms_with, first_form, form_of_bytes_with_form, form_of_has_form, first_in_run, form_of-none}
 use Rattle.goal_lexer.proofs.CommentLaws.{has_close-found}
 
 -- a run at the front begins with a run byte
@@ -21,23 +21,23 @@ run_in_front form bytes after c xs same has =
     ap is_run_byte head ∙ first.3
 
 -- a byte that begins nothing
-pub nothing_at : (c : ℕ) (xs : List ℕ) → is_run_byte c ≡ false → is_blank c ≡ false → (IsSome (sign_kind c) → ⊥) →
+pub nothing_begins_at_other_byte : (c : ℕ) (xs : List ℕ) → is_run_byte c ≡ false → is_blank c ≡ false → (IsSome (sign_kind c) → ⊥) →
     (c ≡ slash → ⊥) → NothingBegins (c ∷ xs)
-nothing_at c xs no_run no_blank no_sign no_slash (blank b) after same right =
+nothing_begins_at_other_byte c xs no_run no_blank no_sign no_slash (blank b) after same right =
     let head : c ≡ b = cc in false≢true (sym no_blank ∙ ap is_blank head ∙ right)
-nothing_at c xs no_run no_blank no_sign no_slash (line_comment inside) after same right =
+nothing_begins_at_other_byte c xs no_run no_blank no_sign no_slash (line_comment inside) after same right =
     let head : c ≡ slash = cc in no_slash head
-nothing_at c xs no_run no_blank no_sign no_slash (block_comment inside) after same right =
+nothing_begins_at_other_byte c xs no_run no_blank no_sign no_slash (block_comment inside) after same right =
     let head : c ≡ slash = cc in no_slash head
-nothing_at c xs no_run no_blank no_sign no_slash (run form bytes) after same right =
+nothing_begins_at_other_byte c xs no_run no_blank no_sign no_slash (run form bytes) after same right =
     false≢true (sym no_run ∙ run_in_front form bytes after c xs same right.0)
-nothing_at c xs no_run no_blank no_sign no_slash (sign b) after same right =
+nothing_begins_at_other_byte c xs no_run no_blank no_sign no_slash (sign b) after same right =
     let head : b ≡ c = cc in no_sign (subst (λ (d : ℕ). IsSome (sign_kind d)) head right)
 
 -- a `/` that begins no comment
 pub nothing_at_slash : (c : ℕ) (xs : List ℕ) → (c ≡ slash → ⊥) → (c ≡ star → ⊥) → NothingBegins (slash ∷ c ∷ xs)
 nothing_at_slash c xs no_slash no_star (blank b) after same right =
-    let head : b ≡ slash = cc in slash_no_blank b head right
+    let head : b ≡ slash = cc in slash_is_no_blank b head right
 nothing_at_slash c xs no_slash no_star (line_comment inside) after same right =
     let second : c ≡ slash = cc in no_slash second
 nothing_at_slash c xs no_slash no_star (block_comment inside) after same right =
@@ -45,20 +45,20 @@ nothing_at_slash c xs no_slash no_star (block_comment inside) after same right =
 nothing_at_slash c xs no_slash no_star (run form bytes) after same right =
     false≢true (run_in_front form bytes after slash (c ∷ xs) same right.0)
 nothing_at_slash c xs no_slash no_star (sign b) after same right =
-    let head : b ≡ slash = cc in slash_no_sign b head right
+    let head : b ≡ slash = cc in slash_is_no_sign b head right
 
 -- a `/` where the text ends
 pub nothing_at_last_slash : NothingBegins (slash ∷ [])
-nothing_at_last_slash (blank b) after same right = let head : b ≡ slash = cc in slash_no_blank b head right
+nothing_at_last_slash (blank b) after same right = let head : b ≡ slash = cc in slash_is_no_blank b head right
 nothing_at_last_slash (line_comment inside) after same right = cc
 nothing_at_last_slash (block_comment inside) after same right = cc
 nothing_at_last_slash (run form bytes) after same right =
     false≢true (run_in_front form bytes after slash [] same right.0)
-nothing_at_last_slash (sign b) after same right = let head : b ≡ slash = cc in slash_no_sign b head right
+nothing_at_last_slash (sign b) after same right = let head : b ≡ slash = cc in slash_is_no_sign b head right
 
 -- a comment that is never closed
 pub nothing_in_comment : (inside : List ℕ) → has_close inside ≡ false → NothingBegins (slash ∷ star ∷ inside)
-nothing_in_comment inside none (blank b) after same right = let head : b ≡ slash = cc in slash_no_blank b head right
+nothing_in_comment inside none (blank b) after same right = let head : b ≡ slash = cc in slash_is_no_blank b head right
 nothing_in_comment inside none (line_comment other) after same right =
     let second : star ≡ slash = cc in absurd (omega arith)
 nothing_in_comment inside none (block_comment other) after same right =
@@ -68,7 +68,7 @@ nothing_in_comment inside none (block_comment other) after same right =
     false≢true (sym none ∙ found)
 nothing_in_comment inside none (run form bytes) after same right =
     false≢true (run_in_front form bytes after slash (star ∷ inside) same right.0)
-nothing_in_comment inside none (sign b) after same right = let head : b ≡ slash = cc in slash_no_sign b head right
+nothing_in_comment inside none (sign b) after same right = let head : b ≡ slash = cc in slash_is_no_sign b head right
 
 -- a longest run takes all run bytes at the front
 longest_run_takes_front : (front bytes more after : List ℕ) → Each is_run_byte front → begins_run after ≡ false →
@@ -87,17 +87,17 @@ pub nothing_in_run : (c : ℕ) (cs more : List ℕ) → Each is_run_byte (c ∷ 
     ((tail : List ℕ) (form : Form) → form_of (c ∷ cs ++ tail) ≡ Some form → length (c ∷ cs ++ tail) ≤ 64 → ⊥) →
     NothingBegins (c ∷ cs ++ more)
 nothing_in_run c cs more each doomed (blank b) after same right =
-    let head : c ≡ b = cc in run_no_blank b (ap is_run_byte (sym head) ∙ each.0) right
+    let head : c ≡ b = cc in run_byte_is_no_blank b (ap is_run_byte (sym head) ∙ each.0) right
 nothing_in_run c cs more each doomed (line_comment inside) after same right =
-    let head : c ≡ slash = cc in run_no_slash c each.0 head
+    let head : c ≡ slash = cc in run_byte_is_no_slash c each.0 head
 nothing_in_run c cs more each doomed (block_comment inside) after same right =
-    let head : c ≡ slash = cc in run_no_slash c each.0 head
+    let head : c ≡ slash = cc in run_byte_is_no_slash c each.0 head
 nothing_in_run c cs more each doomed (run form bytes) after same right =
     let known = longest_run_takes_front (c ∷ cs) bytes more after each right.2 same in
-    doomed known.0 form (ap form_of (sym known.1) ∙ has_form_form_of form bytes right.0)
+    doomed known.0 form (ap form_of (sym known.1) ∙ form_of_bytes_with_form form bytes right.0)
     (subst (λ (t : List ℕ). length t ≤ 64) known.1 right.1)
 nothing_in_run c cs more each doomed (sign b) after same right =
-    let head : c ≡ b = cc in run_no_sign b (ap is_run_byte (sym head) ∙ each.0) right
+    let head : c ≡ b = cc in run_byte_is_no_sign b (ap is_run_byte (sym head) ∙ each.0) right
 
 -- the bytes of a run are run bytes
 each_run_more : (b : Bool) (c : ℕ) (cs : List ℕ) (form : Option Form) (last : Form) → is_run_byte c ≡ b →
@@ -106,16 +106,16 @@ each_run_more : (b : Bool) (c : ℕ) (cs : List ℕ) (form : Option Form) (last 
 each_run_more true c cs form last in_run more has = (in_run, more has)
 each_run_more false c cs form last in_run more has = cc
 
-each_run : (form : Option Form) (cs : List ℕ) (last : Form) → forms_with form cs ≡ Some last → Each is_run_byte cs
-each_run None cs last has = cc
-each_run (Some form) [] last has = tt
-each_run (Some form) (c ∷ cs) last has =
-    each_run_more (is_run_byte c) c cs (form_with form c) last refl (each_run (form_with form c) cs last) has
+formed_bytes_are_run_bytes : (form : Option Form) (cs : List ℕ) (last : Form) → forms_with form cs ≡ Some last → Each is_run_byte cs
+formed_bytes_are_run_bytes None cs last has = cc
+formed_bytes_are_run_bytes (Some form) [] last has = tt
+formed_bytes_are_run_bytes (Some form) (c ∷ cs) last has =
+    each_run_more (is_run_byte c) c cs (form_with form c) last refl (formed_bytes_are_run_bytes (form_with form c) cs last) has
 
-pub run_bytes : (bytes : List ℕ) (form : Form) → form_of bytes ≡ Some form → Each is_run_byte bytes
-run_bytes [] form has = tt
-run_bytes (c ∷ cs) form has =
-    (run_in_front form (c ∷ cs) [] c cs (sym (append-nil (c ∷ cs))) (form_of_has_form (c ∷ cs) form has), each_run (first_form c) cs form has)
+pub bytes_with_form_are_run_bytes : (bytes : List ℕ) (form : Form) → form_of bytes ≡ Some form → Each is_run_byte bytes
+bytes_with_form_are_run_bytes [] form has = tt
+bytes_with_form_are_run_bytes (c ∷ cs) form has =
+    (run_in_front form (c ∷ cs) [] c cs (sym (append-nil (c ∷ cs))) (form_of_has_form (c ∷ cs) form has), formed_bytes_are_run_bytes (first_form c) cs form has)
 
 pub Each-push : (test : ℕ → Bool) (cs : List ℕ) (c : ℕ) → Each test cs → test c ≡ true → Each test (cs ++ c ∷ [])
 Each-push test [] c each passes = (passes, tt)
@@ -126,7 +126,7 @@ pub nothing_without_form : (bytes : List ℕ) (c : ℕ) (xs : List ℕ) (form : 
     is_run_byte c ≡ true → form_of (bytes ++ c ∷ []) ≡ None → NothingBegins (bytes ++ c ∷ [] ++ xs)
 nothing_without_form [] c xs form has in_run none = cc
 nothing_without_form (b ∷ bs) c xs form has in_run none =
-    nothing_in_run b (bs ++ c ∷ []) xs (Each-push is_run_byte (b ∷ bs) c (run_bytes (b ∷ bs) form has) in_run)
+    nothing_in_run b (bs ++ c ∷ []) xs (Each-push is_run_byte (b ∷ bs) c (bytes_with_form_are_run_bytes (b ∷ bs) form has) in_run)
     (λ tail other is short. let no = form_of-none (b ∷ bs ++ c ∷ []) tail (λ empty. cc) none in cc)
 
 -- a run that is too long with this byte
@@ -134,5 +134,5 @@ pub nothing_too_long : (bytes : List ℕ) (c : ℕ) (xs : List ℕ) (form : Form
     is_run_byte c ≡ true → 64 < length (bytes ++ c ∷ []) → NothingBegins (bytes ++ c ∷ [] ++ xs)
 nothing_too_long [] c xs form has in_run long = cc
 nothing_too_long (b ∷ bs) c xs form has in_run long =
-    nothing_in_run b (bs ++ c ∷ []) xs (Each-push is_run_byte (b ∷ bs) c (run_bytes (b ∷ bs) form has) in_run)
+    nothing_in_run b (bs ++ c ∷ []) xs (Each-push is_run_byte (b ∷ bs) c (bytes_with_form_are_run_bytes (b ∷ bs) form has) in_run)
     (λ tail other is short. omega (arith, long, short, length-append (b ∷ bs ++ c ∷ []) tail))

@@ -6,10 +6,10 @@ use Rattle.goal_lexer.specs.Bytes.{is_run_byte, slash, star}
 use Rattle.goal_lexer.specs.Scan.{lexed}
 use Rattle.goal_lexer.specs.Stands.{begins_run}
 use Rattle.goal_lexer.specs.Pieces.{Piece, blank, line_comment, block_comment, run, sign, bytes_of, Each, HasForm, has_close, EndsLine, sign_kind, IsRight, spelled, AreRight, IsCutInto, tokens_of, NothingBegins, EndsWith}
-use Rattle.goal_lexer.proofs.ByteLaws.{run_no_blank, run_no_slash, run_no_sign, slash_no_blank, slash_no_sign, blank_no_sign}
-use Rattle.goal_lexer.proofs.FormLaws.{form_of, has_form_form_of, first_in_run}
+use Rattle.goal_lexer.proofs.ByteLaws.{run_byte_is_no_blank, run_byte_is_no_slash, run_byte_is_no_sign, slash_is_no_blank, slash_is_no_sign, blank_is_no_sign}
+use Rattle.goal_lexer.proofs.FormLaws.{form_of, form_of_bytes_with_form, first_in_run}
 use Rattle.goal_lexer.proofs.CommentLaws.{has_close-tail}
-use Rattle.goal_lexer.proofs.NothingLaws.{run_in_front, run_bytes}
+use Rattle.goal_lexer.proofs.NothingLaws.{run_in_front, bytes_with_form_are_run_bytes}
 use Rattle.goal_lexer.proofs.ReadingLaws.{in_line, reading_of}
 
 -- the first byte passes the test
@@ -31,13 +31,13 @@ longest_prefix_unique test (x ∷ xs) (y ∷ ys) a b each_x each_y stop_a stop_b
     let known = longest_prefix_unique test xs ys a b each_x.1 each_y.1 stop_a stop_b tails in
     (ap (λ (c : ℕ). c ∷ xs) head ∙ ap (λ (t : List ℕ). y ∷ t) known.0, known.1)
 
-run_stops : (after : List ℕ) → begins_run after ≡ false → starts is_run_byte after ≡ false
-run_stops [] apart = refl
-run_stops (c ∷ cs) apart = apart
+first_is_no_run_byte_where_no_run_begins : (after : List ℕ) → begins_run after ≡ false → starts is_run_byte after ≡ false
+first_is_no_run_byte_where_no_run_begins [] apart = refl
+first_is_no_run_byte_where_no_run_begins (c ∷ cs) apart = apart
 
-line_stops : (after : List ℕ) → EndsLine after → starts in_line after ≡ false
-line_stops [] ends = refl
-line_stops (c ∷ cs) ends = ap in_line ends
+first_is_not_in_line_where_line_ends : (after : List ℕ) → EndsLine after → starts in_line after ≡ false
+first_is_not_in_line_where_line_ends [] ends = refl
+first_is_not_in_line_where_line_ends (c ∷ cs) ends = ap in_line ends
 
 -- the first `*/` is unique
 first_close_unique : (xs ys a b : List ℕ) → has_close xs ≡ false → has_close ys ≡ false →
@@ -69,9 +69,9 @@ block_comment_unique xs ys a b none_x none_y same =
 run_unique : (f g : Form) (xs ys a b : List ℕ) → HasForm f xs → HasForm g ys → begins_run a ≡ false → begins_run b ≡ false →
     xs ++ a ≡ ys ++ b → (run f xs ≡ run g ys) × (a ≡ b)
 run_unique f g xs ys a b has_f has_g apart_a apart_b same =
-    let found_f = has_form_form_of f xs has_f in
-    let found_g = has_form_form_of g ys has_g in
-    let known = longest_prefix_unique is_run_byte xs ys a b (run_bytes xs f found_f) (run_bytes ys g found_g) (run_stops a apart_a) (run_stops b apart_b) same in
+    let found_f = form_of_bytes_with_form f xs has_f in
+    let found_g = form_of_bytes_with_form g ys has_g in
+    let known = longest_prefix_unique is_run_byte xs ys a b (bytes_with_form_are_run_bytes xs f found_f) (bytes_with_form_are_run_bytes ys g found_g) (first_is_no_run_byte_where_no_run_begins a apart_a) (first_is_no_run_byte_where_no_run_begins b apart_b) same in
     let forms : Some f ≡ Some g = sym found_f ∙ ap form_of known.0 ∙ found_g in
     let form : f ≡ g = cc in
     (ap (λ (h : Form). run h xs) form ∙ ap (λ (t : List ℕ). run g t) known.0, known.1)
@@ -80,27 +80,27 @@ run_unique f g xs ys a b has_f has_g apart_a apart_b same =
 first_piece_unique : (p q : Piece) (a b : List ℕ) → bytes_of p ++ a ≡ bytes_of q ++ b → IsRight p a → IsRight q b → (p ≡ q) × (a ≡ b)
 first_piece_unique (blank c) (blank d) a b same right_p right_q = let head : c ≡ d = cc in (ap (λ (e : ℕ). blank e) head, cc)
 first_piece_unique (blank c) (line_comment j) a b same right_p right_q =
-    let head : c ≡ slash = cc in absurd (slash_no_blank c head right_p)
+    let head : c ≡ slash = cc in absurd (slash_is_no_blank c head right_p)
 first_piece_unique (blank c) (block_comment j) a b same right_p right_q =
-    let head : c ≡ slash = cc in absurd (slash_no_blank c head right_p)
+    let head : c ≡ slash = cc in absurd (slash_is_no_blank c head right_p)
 first_piece_unique (blank c) (run g ys) a b same right_p right_q =
-    absurd (run_no_blank c (run_in_front g ys b c a same right_q.0) right_p)
+    absurd (run_byte_is_no_blank c (run_in_front g ys b c a same right_q.0) right_p)
 first_piece_unique (blank c) (sign d) a b same right_p right_q =
-    let head : d ≡ c = cc in absurd (blank_no_sign c right_p (subst (λ (e : ℕ). IsSome (sign_kind e)) head right_q))
+    let head : d ≡ c = cc in absurd (blank_is_no_sign c right_p (subst (λ (e : ℕ). IsSome (sign_kind e)) head right_q))
 first_piece_unique (line_comment i) (blank d) a b same right_p right_q =
-    let head : d ≡ slash = cc in absurd (slash_no_blank d head right_q)
+    let head : d ≡ slash = cc in absurd (slash_is_no_blank d head right_q)
 first_piece_unique (line_comment i) (line_comment j) a b same right_p right_q =
     let tails : i ++ a ≡ j ++ b = cc in
-    let known = longest_prefix_unique in_line i j a b right_p.0 right_q.0 (line_stops a right_p.1) (line_stops b right_q.1) tails in
+    let known = longest_prefix_unique in_line i j a b right_p.0 right_q.0 (first_is_not_in_line_where_line_ends a right_p.1) (first_is_not_in_line_where_line_ends b right_q.1) tails in
     (ap (λ (t : List ℕ). line_comment t) known.0, known.1)
 first_piece_unique (line_comment i) (block_comment j) a b same right_p right_q =
     let no : slash ≡ star = cc in absurd (omega arith)
 first_piece_unique (line_comment i) (run g ys) a b same right_p right_q =
-    absurd (run_no_slash slash (run_in_front g ys b slash (slash ∷ i ++ a) same right_q.0) refl)
+    absurd (run_byte_is_no_slash slash (run_in_front g ys b slash (slash ∷ i ++ a) same right_q.0) refl)
 first_piece_unique (line_comment i) (sign d) a b same right_p right_q =
-    let head : d ≡ slash = cc in absurd (slash_no_sign d head right_q)
+    let head : d ≡ slash = cc in absurd (slash_is_no_sign d head right_q)
 first_piece_unique (block_comment i) (blank d) a b same right_p right_q =
-    let head : d ≡ slash = cc in absurd (slash_no_blank d head right_q)
+    let head : d ≡ slash = cc in absurd (slash_is_no_blank d head right_q)
 first_piece_unique (block_comment i) (line_comment j) a b same right_p right_q =
     let no : star ≡ slash = cc in absurd (omega arith)
 first_piece_unique (block_comment i) (block_comment j) a b same right_p right_q =
@@ -108,30 +108,30 @@ first_piece_unique (block_comment i) (block_comment j) a b same right_p right_q 
     let known = block_comment_unique i j a b right_p right_q tails in
     (ap (λ (t : List ℕ). block_comment t) known.0, known.1)
 first_piece_unique (block_comment i) (run g ys) a b same right_p right_q =
-    absurd (run_no_slash slash (run_in_front g ys b slash (star ∷ i ++ star ∷ slash ∷ [] ++ a) same right_q.0) refl)
+    absurd (run_byte_is_no_slash slash (run_in_front g ys b slash (star ∷ i ++ star ∷ slash ∷ [] ++ a) same right_q.0) refl)
 first_piece_unique (block_comment i) (sign d) a b same right_p right_q =
-    let head : d ≡ slash = cc in absurd (slash_no_sign d head right_q)
+    let head : d ≡ slash = cc in absurd (slash_is_no_sign d head right_q)
 first_piece_unique (run f xs) (blank d) a b same right_p right_q =
-    absurd (run_no_blank d (run_in_front f xs a d b (sym same) right_p.0) right_q)
+    absurd (run_byte_is_no_blank d (run_in_front f xs a d b (sym same) right_p.0) right_q)
 first_piece_unique (run f xs) (line_comment j) a b same right_p right_q =
-    absurd (run_no_slash slash (run_in_front f xs a slash (slash ∷ j ++ b) (sym same) right_p.0) refl)
+    absurd (run_byte_is_no_slash slash (run_in_front f xs a slash (slash ∷ j ++ b) (sym same) right_p.0) refl)
 first_piece_unique (run f xs) (block_comment j) a b same right_p right_q =
-    absurd (run_no_slash slash (run_in_front f xs a slash (star ∷ j ++ star ∷ slash ∷ [] ++ b) (sym same) right_p.0) refl)
+    absurd (run_byte_is_no_slash slash (run_in_front f xs a slash (star ∷ j ++ star ∷ slash ∷ [] ++ b) (sym same) right_p.0) refl)
 first_piece_unique (run f xs) (run g ys) a b same right_p right_q =
     run_unique f g xs ys a b right_p.0 right_q.0 right_p.2 right_q.2 same
 first_piece_unique (run f xs) (sign d) a b same right_p right_q =
-    absurd (run_no_sign d (run_in_front f xs a d b (sym same) right_p.0) right_q)
+    absurd (run_byte_is_no_sign d (run_in_front f xs a d b (sym same) right_p.0) right_q)
 first_piece_unique (sign c) (blank d) a b same right_p right_q =
-    let head : c ≡ d = cc in absurd (blank_no_sign d right_q (subst (λ (e : ℕ). IsSome (sign_kind e)) head right_p))
+    let head : c ≡ d = cc in absurd (blank_is_no_sign d right_q (subst (λ (e : ℕ). IsSome (sign_kind e)) head right_p))
 first_piece_unique (sign c) (line_comment j) a b same right_p right_q =
-    let head : c ≡ slash = cc in absurd (slash_no_sign c head right_p)
+    let head : c ≡ slash = cc in absurd (slash_is_no_sign c head right_p)
 first_piece_unique (sign c) (block_comment j) a b same right_p right_q =
-    let head : c ≡ slash = cc in absurd (slash_no_sign c head right_p)
+    let head : c ≡ slash = cc in absurd (slash_is_no_sign c head right_p)
 first_piece_unique (sign c) (run g ys) a b same right_p right_q =
-    absurd (run_no_sign c (run_in_front g ys b c a same right_q.0) right_p)
+    absurd (run_byte_is_no_sign c (run_in_front g ys b c a same right_q.0) right_p)
 first_piece_unique (sign c) (sign d) a b same right_p right_q = let head : c ≡ d = cc in (ap (λ (e : ℕ). sign e) head, cc)
 
--- two cuts of a text, each up to where nothing begins
+-- two cuts of a text are equal if nothing begins after either
 cuts_equal : (ps qs : List Piece) (r s : List ℕ) → spelled ps ++ r ≡ spelled qs ++ s → AreRight ps r → AreRight qs s →
     NothingBegins r → NothingBegins s → (ps ≡ qs) × (r ≡ s)
 cuts_equal [] [] r s same right_p right_q nothing_r nothing_s = (refl, same)

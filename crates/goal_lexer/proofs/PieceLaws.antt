@@ -56,20 +56,20 @@ reading_with_piece piece start after tokens fault right reading =
     }
 
 -- the scan of a byte and more
-pub next_tokens : (mode : Mode) (place c : ℕ) (xs : List ℕ) (new : Mode) (tokens : List Token) → next mode place c ≡ (new, tokens) →
+pub tokens_to_end_from_byte_on : (mode : Mode) (place c : ℕ) (xs : List ℕ) (new : Mode) (tokens : List Token) → next mode place c ≡ (new, tokens) →
     tokens_to_end mode place (c ∷ xs) ≡ tokens ++ tokens_to_end new (place + 1) xs
 unfolding scan
-next_tokens mode place c xs new tokens made =
+tokens_to_end_from_byte_on mode place c xs new tokens made =
     let last : place + length (c ∷ xs) ≡ place + 1 + length xs = omega arith in
     let rest = scan new (place + 1) xs in
     ap (λ (p : ℕ). (ended p (scan mode place (c ∷ xs))).1) last
     ∙ ap (λ (r : Scanned). (ended (place + 1 + length xs) (after_tokens r.1 (scan r.0 (place + 1) xs))).1) made
     ∙ append_assoc tokens rest.1 (closing (place + 1 + length xs) rest.0)
 
-pub next_fault : (mode : Mode) (place c : ℕ) (xs : List ℕ) (new : Mode) (tokens : List Token) → next mode place c ≡ (new, tokens) →
+pub fault_of_rest_after_byte : (mode : Mode) (place c : ℕ) (xs : List ℕ) (new : Mode) (tokens : List Token) → next mode place c ≡ (new, tokens) →
     fault_of mode place (c ∷ xs) ≡ fault_of new (place + 1) xs
 unfolding scan
-next_fault mode place c xs new tokens made = ap (λ (r : Scanned). fault_at_end (scan r.0 (place + 1) xs).0) made
+fault_of_rest_after_byte mode place c xs new tokens made = ap (λ (r : Scanned). fault_at_end (scan r.0 (place + 1) xs).0) made
 
 -- what is open takes another byte
 pub open_takes_byte : (mode new : Mode) (start : ℕ) (bytes : List ℕ) (c : ℕ) (xs : List ℕ) →
@@ -80,8 +80,8 @@ open_takes_byte mode new start bytes c xs made read =
     (tokens_to_end new (start + length (bytes ++ c ∷ [])) xs) (tokens_to_end mode (start + length bytes) (c ∷ xs))
     (fault_of new (start + length (bytes ++ c ∷ [])) xs) (fault_of mode (start + length bytes) (c ∷ xs))
     (append_assoc bytes (c ∷ []) xs)
-    (ap (λ (p : ℕ). tokens_to_end new p xs) place ∙ sym (next_tokens mode (start + length bytes) c xs new [] made))
-    (ap (λ (p : ℕ). fault_of new p xs) place ∙ sym (next_fault mode (start + length bytes) c xs new [] made))
+    (ap (λ (p : ℕ). tokens_to_end new p xs) place ∙ sym (tokens_to_end_from_byte_on mode (start + length bytes) c xs new [] made))
+    (ap (λ (p : ℕ). fault_of new p xs) place ∙ sym (fault_of_rest_after_byte mode (start + length bytes) c xs new [] made))
     read
 
 -- what is open is a piece that ends with the byte
@@ -97,9 +97,9 @@ ends_with_byte mode start bytes c xs piece made spelling right between =
     (fault_of Between at xs) (fault_of mode (start + length bytes) (c ∷ xs))
     (ap (λ (t : List ℕ). t ++ xs) spelling ∙ append_assoc bytes (c ∷ []) xs)
     (ap (λ (p : ℕ). piece_tokens start piece ++ tokens_to_end Between p xs) place
-    ∙ sym (next_tokens mode (start + length bytes) c xs Between (piece_tokens start piece) made))
+    ∙ sym (tokens_to_end_from_byte_on mode (start + length bytes) c xs Between (piece_tokens start piece) made))
     (ap (λ (p : ℕ). fault_of Between p xs) place
-    ∙ sym (next_fault mode (start + length bytes) c xs Between (piece_tokens start piece) made))
+    ∙ sym (fault_of_rest_after_byte mode (start + length bytes) c xs Between (piece_tokens start piece) made))
     (reading_with_piece piece start xs (tokens_to_end Between at xs) (fault_of Between at xs) right (between at))
 
 -- what is open is a piece that ended before the rest

@@ -13,8 +13,8 @@ use Rattle.goal_lexer.specs.Pieces.{blank, line_comment, block_comment, run, sig
 use Rattle.goal_lexer.specs.Open.{ends_in_star}
 use Rattle.goal_lexer.proofs.FormLaws.{form_of, form_of-grown, form_of_has_form}
 use Rattle.goal_lexer.proofs.CommentLaws.{has_close-push, ends_in_star-push, bytes_before_star, has_close-front}
-use Rattle.goal_lexer.proofs.NothingLaws.{nothing_at, nothing_at_slash, nothing_at_last_slash, nothing_in_comment, nothing_without_form, nothing_too_long, Each-push}
-use Rattle.goal_lexer.proofs.PieceLaws.{Read, ReadOn, open_takes_byte, ends_with_byte, ends_before, reading_at_fault, text_ends_open, byte_opens, byte_is_piece, next_tokens, next_fault, tokens_past_run, fault_past_run}
+use Rattle.goal_lexer.proofs.NothingLaws.{nothing_begins_at_other_byte, nothing_at_slash, nothing_at_last_slash, nothing_in_comment, nothing_without_form, nothing_too_long, Each-push}
+use Rattle.goal_lexer.proofs.PieceLaws.{Read, ReadOn, open_takes_byte, ends_with_byte, ends_before, reading_at_fault, text_ends_open, byte_opens, byte_is_piece, tokens_to_end_from_byte_on, fault_of_rest_after_byte, tokens_past_run, fault_past_run}
 
 -- a byte of a line comment
 abbrev pub in_line : ℕ → Bool
@@ -74,7 +74,7 @@ module _ (xs : List ℕ) (going : Going xs) (start c : ℕ) where
       let no_kind : sign_kind c ≡ None = rw (no_open, no_close, no_colon) in
       byte_opens start c xs (Failed start) (rw (no_word, no_digit, no_blank, no_open, no_close, no_colon, no_slash))
       (reading_at_fault start (c ∷ []) xs (λ empty. cc)
-      (nothing_at c xs no_run no_blank (λ some. false≢true (subst (λ o. IsSome o) no_kind some)) (λ is. grind (arith, nat_tests))))
+      (nothing_begins_at_other_byte c xs no_run no_blank (λ some. false≢true (subst (λ o. IsSome o) no_kind some)) (λ is. grind (arith, nat_tests))))
 
   byte_slash : (s : Bool) → (c == slash) ≡ s → begins_word c ≡ false → is_digit c ≡ false → is_blank c ≡ false →
       (c == 123) ≡ false → (c == 125) ≡ false → (c == 58) ≡ false → ReadOn start (c ∷ xs)
@@ -122,8 +122,8 @@ module _ (xs : List ℕ) (going : Going xs) (start c : ℕ) where
       byte_opens start c xs (Run start (c ∷ []) Word) (rw is_s)
       (going.at_run start (c ∷ []) Word (rw is_s) (omega arith))
 
-at_byte : (xs : List ℕ) → Going xs → (c start : ℕ) → ReadOn start (c ∷ xs)
-at_byte xs going c start = byte_word xs going start c (begins_word c) refl
+reading_at_byte : (xs : List ℕ) → Going xs → (c start : ℕ) → ReadOn start (c ∷ xs)
+reading_at_byte xs going c start = byte_word xs going start c (begins_word c) refl
 
 -- some bytes follow
 bytes_not_empty : (bytes : List ℕ) (c : ℕ) (xs : List ℕ) → bytes ++ c ∷ [] ++ xs ≢ []
@@ -146,40 +146,40 @@ module _ (xs : List ℕ) (going : Going xs) (start : ℕ) (bytes : List ℕ) (fo
       (reading_at_fault start (bytes ++ c ∷ []) xs (bytes_not_empty bytes c xs)
       (nothing_too_long bytes c xs form has in_run long))
 
-  run_formed : (o : Option Form) → is_run_byte c ≡ true → form_with form c ≡ o → Read (Run start bytes form) start bytes (c ∷ xs)
-  run_formed (Some other) in_run grown = run_grown (nat_lt 64 (length (bytes ++ c ∷ []))) other in_run grown refl
-  run_formed None in_run grown =
+  reading_of_run_by_new_form : (o : Option Form) → is_run_byte c ≡ true → form_with form c ≡ o → Read (Run start bytes form) start bytes (c ∷ xs)
+  reading_of_run_by_new_form (Some other) in_run grown = run_grown (nat_lt 64 (length (bytes ++ c ∷ []))) other in_run grown refl
+  reading_of_run_by_new_form None in_run grown =
       open_takes_byte (Run start bytes form) (Failed start) start bytes c xs
       (rw (in_run, grown))
       (reading_at_fault start (bytes ++ c ∷ []) xs (bytes_not_empty bytes c xs)
       (nothing_without_form bytes c xs form has in_run (form_of-grown bytes c form has in_run ∙ grown)))
 
-  behind_run : (r : Bool) → is_run_byte c ≡ r → length bytes ≤ 64 → Read (Run start bytes form) start bytes (c ∷ xs)
-  behind_run true in_run short = run_formed (form_with form c) in_run refl
-  behind_run false apart short =
+  reading_of_run_at_next_byte : (r : Bool) → is_run_byte c ≡ r → length bytes ≤ 64 → Read (Run start bytes form) start bytes (c ∷ xs)
+  reading_of_run_at_next_byte true in_run short = reading_of_run_by_new_form (form_with form c) in_run refl
+  reading_of_run_at_next_byte false apart short =
       ends_before (Run start bytes form) start (c ∷ xs) (run form bytes)
       (tokens_past_run start bytes form (start + length bytes) c xs apart)
       (fault_past_run start bytes form (start + length bytes) c xs apart)
-      (form_of_has_form bytes form has, short, apart) (at_byte xs going c)
+      (form_of_has_form bytes form has, short, apart) (reading_at_byte xs going c)
 
 -- a byte after a `/`
 module _ (xs : List ℕ) (going : Going xs) (start c : ℕ) where
-  no_comment : (c == slash) ≡ false → (c == star) ≡ false → Read (Slash start) start (slash ∷ []) (c ∷ xs)
-  no_comment no_slash no_star =
+  reading_of_lone_slash : (c == slash) ≡ false → (c == star) ≡ false → Read (Slash start) start (slash ∷ []) (c ∷ xs)
+  reading_of_lone_slash no_slash no_star =
       open_takes_byte (Slash start) (Failed start) start (slash ∷ []) c xs (rw (no_slash, no_star))
       (reading_at_fault start (slash ∷ c ∷ []) xs (λ empty. cc)
       (nothing_at_slash c xs (λ is. grind (arith, nat_tests)) (λ is. grind (arith, nat_tests))))
 
-  behind_slash_star : (s : Bool) → (c == star) ≡ s → (c == slash) ≡ false → Read (Slash start) start (slash ∷ []) (c ∷ xs)
-  behind_slash_star false is_s no_slash = no_comment no_slash is_s
-  behind_slash_star true is_s no_slash =
+  reading_of_slash_by_star_test : (s : Bool) → (c == star) ≡ s → (c == slash) ≡ false → Read (Slash start) start (slash ∷ []) (c ∷ xs)
+  reading_of_slash_by_star_test false is_s no_slash = reading_of_lone_slash no_slash is_s
+  reading_of_slash_by_star_test true is_s no_slash =
       let same : c ≡ star = grind (arith, nat_tests) in
       open_takes_byte (Slash start) (BlockComment start false) start (slash ∷ []) c xs (rw (no_slash, is_s))
       (subst (λ (b : ℕ). Read (BlockComment start false) start (slash ∷ b ∷ []) xs) (sym same) (going.at_block start [] refl))
 
-  behind_slash : (s : Bool) → (c == slash) ≡ s → Read (Slash start) start (slash ∷ []) (c ∷ xs)
-  behind_slash false is_s = behind_slash_star (c == star) refl is_s
-  behind_slash true is_s =
+  reading_of_slash_at_next_byte : (s : Bool) → (c == slash) ≡ s → Read (Slash start) start (slash ∷ []) (c ∷ xs)
+  reading_of_slash_at_next_byte false is_s = reading_of_slash_by_star_test (c == star) refl is_s
+  reading_of_slash_at_next_byte true is_s =
       let same : c ≡ slash = grind (arith, nat_tests) in
       open_takes_byte (Slash start) (LineComment start) start (slash ∷ []) c xs (rw is_s)
       (subst (λ (b : ℕ). Read (LineComment start) start (slash ∷ b ∷ []) xs) (sym same) (going.at_line start [] tt))
@@ -191,9 +191,9 @@ module _ (xs : List ℕ) (going : Going xs) (start : ℕ) (inside : List ℕ) (e
   line_ends =
       let at = start + length (slash ∷ slash ∷ inside) in
       ends_before (LineComment start) start (line_feed ∷ xs) (line_comment inside)
-      (next_tokens (LineComment start) at line_feed xs Between [] refl ∙ sym (next_tokens Between at line_feed xs Between [] refl))
-      (next_fault (LineComment start) at line_feed xs Between [] refl ∙ sym (next_fault Between at line_feed xs Between [] refl))
-      (each, refl) (at_byte xs going line_feed)
+      (tokens_to_end_from_byte_on (LineComment start) at line_feed xs Between [] refl ∙ sym (tokens_to_end_from_byte_on Between at line_feed xs Between [] refl))
+      (fault_of_rest_after_byte (LineComment start) at line_feed xs Between [] refl ∙ sym (fault_of_rest_after_byte Between at line_feed xs Between [] refl))
+      (each, refl) (reading_at_byte xs going line_feed)
 
   in_line_comment : (c : ℕ) (s : Bool) → (c == line_feed) ≡ s → Read (LineComment start) start (slash ∷ slash ∷ inside) (c ∷ xs)
   in_line_comment c true is_s =
@@ -233,9 +233,9 @@ continues_by_any [] = continues_at_end
 continues_by_any (c ∷ xs) =
     let going = continues_by_any xs in
     record {
-      at_between = at_byte xs going c;
-      at_run = λ start bytes form has short. behind_run xs going start bytes form c has (is_run_byte c) refl short;
-      at_slash = λ start. behind_slash xs going start c (c == slash) refl;
+      at_between = reading_at_byte xs going c;
+      at_run = λ start bytes form has short. reading_of_run_at_next_byte xs going start bytes form c has (is_run_byte c) refl short;
+      at_slash = λ start. reading_of_slash_at_next_byte xs going start c (c == slash) refl;
       at_line = λ start inside each. in_line_comment xs going start inside each c (c == line_feed) refl;
       at_block = λ start inside none. in_block_comment xs going start inside none c (ends_in_star inside && c == slash) refl;
     }

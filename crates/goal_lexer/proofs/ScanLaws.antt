@@ -39,7 +39,7 @@ scan_after_no_token mode begun_here place xs ys quiet =
     scan-append mode place xs ys
     ∙ ap (λ (r : Scanned). after_tokens r.1 (scan r.0 (place + length xs) ys)) quiet
 
--- another byte
+-- after a prefix that ended no token, the scan takes the next byte
 pub scan_next_byte : (mode begun_here : Mode) (place : ℕ) (xs : List ℕ) (n : ℕ) → n < length xs →
     scan mode place (take n xs) ≡ (begun_here, []) →
     scan mode place (take (n + 1) xs) ≡ next begun_here (place + n) (get_or xs n 0)

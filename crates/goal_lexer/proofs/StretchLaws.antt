@@ -9,7 +9,7 @@ use Rattle.goal_lexer.specs.declared.mode.Mode.TheVariants.{Between, Run, LineCo
 use Rattle.goal_lexer.specs.Bytes.{is_blank, begins_word, is_digit, is_run_byte, star, line_feed}
 use Rattle.goal_lexer.specs.Scan.{Scanned, after_tokens, next, scan, form_with}
 use Rattle.goal_lexer.specs.Pieces.{Each}
-use Rattle.goal_lexer.proofs.ByteLaws.{digit_in_run}
+use Rattle.goal_lexer.proofs.ByteLaws.{digit_is_run_byte}
 
 -- what holds at each place of a prefix holds of its bytes
 pub Each-take : (test : ℕ → Bool) (n : ℕ) (xs : List ℕ) → ((k : ℕ) → k < n → test (get_or xs k 0) ≡ true) → n ≤ length xs →
@@ -48,8 +48,8 @@ differs_is_not b c is = by_test (c == b) is
     by_test true found = cc
     by_test false other = refl
 
-pub differs_by : (b c : ℕ) → (c == b) ≡ false → differs b c ≡ true
-differs_by b c is = ap (λ (t : Bool). if t then false else true) is
+pub differs_if_not_equal : (b c : ℕ) → (c == b) ≡ false → differs b c ≡ true
+differs_if_not_equal b c is = ap (λ (t : Bool). if t then false else true) is
 
 pub scan_in_line : (start place : ℕ) (xs : List ℕ) → Each (differs line_feed) xs →
     scan (LineComment start) place xs ≡ (LineComment start, [])
@@ -89,4 +89,4 @@ scan_word start place bytes xs each room = run_grows_by Word is_run_byte (λ c i
 pub scan_digits : (start place : ℕ) (bytes xs : List ℕ) → Each is_digit xs → (0 < length xs → length (bytes ++ xs) ≤ 64) →
     scan (Run start bytes Digits) place xs ≡ (Run start (bytes ++ xs) Digits, [])
 scan_digits start place bytes xs each room =
-    run_grows_by Digits is_digit (λ c is. (digit_in_run c is, rw is)) start place bytes xs each room
+    run_grows_by Digits is_digit (λ c is. (digit_is_run_byte c is, rw is)) start place bytes xs each room

@@ -15,9 +15,9 @@ use Rattle.goal_lexer.specs.State.{LexState}
 use Rattle.goal_lexer.specs.Stands.{Stands, handed}
 use Rattle.goal_lexer.specs.Pieces.{Piece, blank, line_comment, block_comment, run, sign, bytes_of, Each, HasForm, has_close, sign_kind, IsRight, spelled, AreRight, sign_tokens, piece_tokens, tokens_of}
 use Rattle.goal_lexer.specs.Open.{ends_in_star, IsOpen, IsTaken}
-use Rattle.goal_lexer.proofs.FormLaws.{has_form_form_of, first_in_run}
+use Rattle.goal_lexer.proofs.FormLaws.{form_of_bytes_with_form, first_in_run}
 use Rattle.goal_lexer.proofs.CommentLaws.{has_close-found, ends_in_star-push, bytes_before_star}
-use Rattle.goal_lexer.proofs.NothingLaws.{run_bytes}
+use Rattle.goal_lexer.proofs.NothingLaws.{bytes_with_form_are_run_bytes}
 use Rattle.goal_lexer.proofs.ReadingLaws.{in_line}
 use Rattle.goal_lexer.proofs.ScanLaws.{scan_after_no_token}
 use Rattle.goal_lexer.proofs.StandsLaws.{scan_past_run}
@@ -26,7 +26,7 @@ use Rattle.goal_lexer.proofs.TakenLaws.{spelled-push, tokens_of-push}
 
 -- the scan of a run, which stays open
 scan_run : (place : ℕ) (form : Form) (bytes : List ℕ) → HasForm form bytes → length bytes ≤ 64 → scan Between place bytes ≡ (Run place bytes form, [])
-scan_run place form bytes has short = scan_of_run place bytes form (run_bytes bytes form (has_form_form_of form bytes has)) has short
+scan_run place form bytes has short = scan_of_run place bytes form (bytes_with_form_are_run_bytes bytes form (form_of_bytes_with_form form bytes has)) has short
 
 -- the scan inside a line comment
 in_line_next : (start place c : ℕ) → in_line c ≡ true → next (LineComment start) place c ≡ (LineComment start, [])
@@ -129,9 +129,9 @@ scan_piece (run form bytes) place (d ∷ ds) right settled =
 scan_piece (sign c) place rest right settled = scan_byte Between Between place c (sign_tokens (sign_kind c) place) rest (next_sign place c right)
 
 -- no pieces have no bytes
-both_are_empty : (xs ys : List ℕ) → xs ++ ys ≡ [] → (xs ≡ []) × (ys ≡ [])
-both_are_empty [] ys none = (refl, none)
-both_are_empty (x ∷ xs) ys none = cc
+empty_append_has_empty_parts : (xs ys : List ℕ) → xs ++ ys ≡ [] → (xs ≡ []) × (ys ≡ [])
+empty_append_has_empty_parts [] ys none = (refl, none)
+empty_append_has_empty_parts (x ∷ xs) ys none = cc
 
 -- pieces and what follows them
 scan_pieces : (ps : List Piece) (place : ℕ) (rest : List ℕ) → AreRight ps rest → (rest ≡ [] → (more : List ℕ) → AreRight ps more) →
@@ -143,7 +143,7 @@ scan_pieces (p ∷ ps) place rest right settled =
     let same : after + length (spelled ps) ≡ place + length (bytes_of p ++ spelled ps) = omega (arith, length-append (bytes_of p) (spelled ps)) in
     let settled_first : spelled ps ++ rest ≡ [] → (more : List ℕ) → IsRight p more =
     λ none more.
-    let parts = both_are_empty (spelled ps) rest none in
+    let parts = empty_append_has_empty_parts (spelled ps) rest none in
     subst (λ (t : List ℕ). IsRight p (t ++ more)) parts.0 (settled parts.1 more).0 in
     ap (scan Between place) (append_assoc (bytes_of p) (spelled ps) rest)
     ∙ scan_piece p place (spelled ps ++ rest) right.0 settled_first
@@ -197,9 +197,9 @@ AreRight-pop (q ∷ qs) p rest right =
     ((subst (IsRight q) same right.0, others.0), others.1)
 
 -- for the parts of the lexer
-quiet_from : (mode : Mode) (place : ℕ) (text : List ℕ) → (taken : IsTaken (record { mode = mode; place = place; ends_run = false }) text) →
+scanned_of_taken_without_run : (mode : Mode) (place : ℕ) (text : List ℕ) → (taken : IsTaken (record { mode = mode; place = place; ends_run = false }) text) →
     scanned text ≡ (mode, tokens_of 0 taken.pieces)
-quiet_from mode place text taken =
+scanned_of_taken_without_run mode place text taken =
     let ps = taken.pieces in
     let bytes = taken.bytes in
     let cut = taken.cut [] (λ is. cc) in
@@ -210,10 +210,10 @@ quiet_from mode place text taken =
     taken.opened
 
 -- the same where a run was returned: it was open at the end
-run_from : (mode : Mode) (place : ℕ) (text : List ℕ) → (taken : IsTaken (record { mode = mode; place = place; ends_run = true }) text) →
+scanned_of_taken_with_run : (mode : Mode) (place : ℕ) (text : List ℕ) → (taken : IsTaken (record { mode = mode; place = place; ends_run = true }) text) →
     (start : ℕ) × (kept : List ℕ) × (form : Form) × (tokens : List Token) × (scanned text ≡ (Run start kept form, tokens))
     × (tokens ++ run_token start kept form (length text) ∷ [] ≡ tokens_of 0 taken.pieces)
-run_from mode place text taken =
+scanned_of_taken_with_run mode place text taken =
     let out = taken.run_out refl in
     let ps = out.0.0 in
     let form = out.0.1 in
@@ -255,12 +255,12 @@ taken_stands_by_parts : (mode : Mode) (place : ℕ) (ends : Bool) (text : List �
 taken_stands_by_parts mode place false text taken =
     record {
       place = taken.place;
-      open_there = ap (λ (r : Scanned). r.0) (quiet_from mode place text taken);
+      open_there = ap (λ (r : Scanned). r.0) (scanned_of_taken_without_run mode place text taken);
       run_there = tt;
       sound = open_is_sound mode (length (spelled taken.pieces)) taken.bytes taken.opened;
     }
 taken_stands_by_parts mode place true text taken =
-    let found = run_from mode place text taken in
+    let found = scanned_of_taken_with_run mode place text taken in
     let between = nothing_open_is_between mode (length (spelled taken.pieces)) taken.bytes taken.opened (taken.run_out refl).1 in
     record {
       place = taken.place;
@@ -272,12 +272,12 @@ taken_stands_by_parts mode place true text taken =
 pub taken_stands : (lexer : LexState) (text : List ℕ) → IsTaken lexer text → Stands lexer text
 taken_stands lexer text taken = taken_stands_by_parts lexer.mode lexer.place lexer.ends_run text taken
 
-handed_from : (mode : Mode) (place : ℕ) (ends : Bool) (text : List ℕ) → (taken : IsTaken (record { mode = mode; place = place; ends_run = ends }) text) →
+handed_are_tokens_by_parts : (mode : Mode) (place : ℕ) (ends : Bool) (text : List ℕ) → (taken : IsTaken (record { mode = mode; place = place; ends_run = ends }) text) →
     handed (record { mode = mode; place = place; ends_run = ends }) text ≡ tokens_of 0 taken.pieces
-handed_from mode place false text taken = ap (λ (r : Scanned). r.1) (quiet_from mode place text taken)
-handed_from mode place true text taken =
-    let found = run_from mode place text taken in
+handed_are_tokens_by_parts mode place false text taken = ap (λ (r : Scanned). r.1) (scanned_of_taken_without_run mode place text taken)
+handed_are_tokens_by_parts mode place true text taken =
+    let found = scanned_of_taken_with_run mode place text taken in
     ap (λ (r : Scanned). (ended (length text) r).1) found.4 ∙ found.5
 
 pub handed_are_tokens : (lexer : LexState) (text : List ℕ) (taken : IsTaken lexer text) → handed lexer text ≡ tokens_of 0 taken.pieces
-handed_are_tokens lexer text taken = handed_from lexer.mode lexer.place lexer.ends_run text taken
+handed_are_tokens lexer text taken = handed_are_tokens_by_parts lexer.mode lexer.place lexer.ends_run text taken

@@ -18,7 +18,7 @@ use Rattle.goal_lexer.specs.State.{LexState}
 use Rattle.goal_lexer.specs.Stands.{Stands, begins_run}
 use Rattle.goal_lexer.specs.Pieces.{Piece, blank, line_comment, block_comment, run, sign, bytes_of, HasForm, has_close, EndsLine, sign_kind, IsRight, spelled, AreRight, sign_tokens, piece_tokens, tokens_of}
 use Rattle.goal_lexer.specs.Open.{ends_in_star, IsOpen, IsTaken}
-use Rattle.goal_lexer.proofs.FormLaws.{form_of-grown, has_form_form_of, form_of_has_form}
+use Rattle.goal_lexer.proofs.FormLaws.{form_of-grown, form_of_bytes_with_form, form_of_has_form}
 use Rattle.goal_lexer.proofs.CommentLaws.{has_close-push, ends_in_star-push, bytes_before_star, has_close-front}
 use Rattle.goal_lexer.proofs.NothingLaws.{Each-push}
 use Rattle.goal_lexer.proofs.ReadingLaws.{in_line}
@@ -102,18 +102,18 @@ ready_with_piece follows ps p text tokens whole right one tokens_are =
     }
 
 -- what is open after a byte that makes no fault
-abbrev Went : List ℕ → List Token → ℕ → Scanned → Type 0
-Went text tokens c made = IsSound made.0 → Cut any_bytes made.0 (text ++ c ∷ []) (tokens ++ made.1)
+abbrev IsCutAfterByte : List ℕ → List Token → ℕ → Scanned → Type 0
+IsCutAfterByte text tokens c made = IsSound made.0 → Cut any_bytes made.0 (text ++ c ∷ []) (tokens ++ made.1)
 
-fault_went : (text : List ℕ) (tokens : List Token) (c at : ℕ) → Went text tokens c (Failed at, [])
-fault_went text tokens c at = λ sound. absurd sound
+cut_after_fault_byte : (text : List ℕ) (tokens : List Token) (c at : ℕ) → IsCutAfterByte text tokens c (Failed at, [])
+cut_after_fault_byte text tokens c at = λ sound. absurd sound
 
-went_by : (text : List ℕ) (tokens : List Token) (c : ℕ) (made new : Scanned) → made ≡ new → Went text tokens c new → Went text tokens c made
-went_by text tokens c made new same went = subst (Went text tokens c) (sym same) went
+cut_after_byte_by_equal_scan : (text : List ℕ) (tokens : List Token) (c : ℕ) (made new : Scanned) → made ≡ new → IsCutAfterByte text tokens c new → IsCutAfterByte text tokens c made
+cut_after_byte_by_equal_scan text tokens c made new same went = subst (IsCutAfterByte text tokens c) (sym same) went
 
 -- a byte where nothing is open
 module _ (follows : List ℕ → Type 0) (text : List ℕ) (tokens : List Token) (c : ℕ) (ready : Ready follows text tokens) (fits : (more : List ℕ) → follows (c ∷ more)) where
-  byte_opens : (new : Mode) → IsOpen new (length text) (c ∷ []) → Went text tokens c (new, [])
+  byte_opens : (new : Mode) → IsOpen new (length text) (c ∷ []) → IsCutAfterByte text tokens c (new, [])
   byte_opens new opened = λ sound.
       record {
         pieces = ready.pieces;
@@ -124,7 +124,7 @@ module _ (follows : List ℕ → Type 0) (text : List ℕ) (tokens : List Token)
         tokens_are = append-nil tokens ∙ ready.tokens_are;
       }
 
-  byte_is_piece : (p : Piece) → bytes_of p ≡ c ∷ [] → ((more : List ℕ) → IsRight p more) → Went text tokens c (Between, piece_tokens (length text) p)
+  byte_is_piece : (p : Piece) → bytes_of p ≡ c ∷ [] → ((more : List ℕ) → IsRight p more) → IsCutAfterByte text tokens c (Between, piece_tokens (length text) p)
   byte_is_piece p spelling right = λ sound.
       let ps = ready.pieces in
       let place : length (spelled ps) ≡ length text = ap length (sym ready.whole) in
@@ -135,64 +135,64 @@ module _ (follows : List ℕ → Type 0) (text : List ℕ) (tokens : List Token)
       (λ more any. subst (λ (t : List ℕ). AreRight ps (t ++ more)) (sym spelling) (ready.right (c ∷ more) (fits more)))
       (λ more any. right more) ready.tokens_are))
 
-  byte_is_sign : (kind : TokenKind) → sign_kind c ≡ Some kind → Went text tokens c (sign_scanned kind (length text))
+  byte_is_sign : (kind : TokenKind) → sign_kind c ≡ Some kind → IsCutAfterByte text tokens c (sign_scanned kind (length text))
   byte_is_sign kind is =
-      subst (λ (o : Option TokenKind). Went text tokens c (Between, sign_tokens o (length text))) is
+      subst (λ (o : Option TokenKind). IsCutAfterByte text tokens c (Between, sign_tokens o (length text))) is
       (byte_is_piece (sign c) refl (λ more. subst (λ (o : Option TokenKind). IsSome o) (sym is) refl))
 
-  begun_by : (new : Scanned) → begun (length text) c ≡ new → Went text tokens c new → Went text tokens c (begun (length text) c)
-  begun_by new same went = went_by text tokens c (begun (length text) c) new same went
+  begun_by : (new : Scanned) → begun (length text) c ≡ new → IsCutAfterByte text tokens c new → IsCutAfterByte text tokens c (begun (length text) c)
+  begun_by new same went = cut_after_byte_by_equal_scan text tokens c (begun (length text) c) new same went
 
   byte_slash : (s : Bool) → (c == slash) ≡ s → begins_word c ≡ false → is_digit c ≡ false → is_blank c ≡ false →
-      (c == 123) ≡ false → (c == 125) ≡ false → (c == 58) ≡ false → Went text tokens c (begun (length text) c)
+      (c == 123) ≡ false → (c == 125) ≡ false → (c == 58) ≡ false → IsCutAfterByte text tokens c (begun (length text) c)
   byte_slash false is_s no_word no_digit no_blank no_open no_close no_colon =
-      begun_by (Failed (length text), []) (rw (no_word, no_digit, no_blank, no_open, no_close, no_colon, is_s)) (fault_went text tokens c (length text))
+      begun_by (Failed (length text), []) (rw (no_word, no_digit, no_blank, no_open, no_close, no_colon, is_s)) (cut_after_fault_byte text tokens c (length text))
   byte_slash true is_s no_word no_digit no_blank no_open no_close no_colon =
       let same : c ≡ slash = grind (arith, nat_tests) in
       begun_by (Slash (length text), []) (rw (no_word, no_digit, no_blank, no_open, no_close, no_colon, is_s))
       (byte_opens (Slash (length text)) (refl, ap (λ (b : ℕ). b ∷ []) same))
 
   byte_colon : (s : Bool) → (c == 58) ≡ s → begins_word c ≡ false → is_digit c ≡ false → is_blank c ≡ false →
-      (c == 123) ≡ false → (c == 125) ≡ false → Went text tokens c (begun (length text) c)
+      (c == 123) ≡ false → (c == 125) ≡ false → IsCutAfterByte text tokens c (begun (length text) c)
   byte_colon false is_s no_word no_digit no_blank no_open no_close = byte_slash (c == slash) refl no_word no_digit no_blank no_open no_close is_s
   byte_colon true is_s no_word no_digit no_blank no_open no_close =
       begun_by (sign_scanned Colon (length text)) (rw (no_word, no_digit, no_blank, no_open, no_close, is_s)) (byte_is_sign Colon (rw (no_open, no_close, is_s)))
 
   byte_close : (s : Bool) → (c == 125) ≡ s → begins_word c ≡ false → is_digit c ≡ false → is_blank c ≡ false →
-      (c == 123) ≡ false → Went text tokens c (begun (length text) c)
+      (c == 123) ≡ false → IsCutAfterByte text tokens c (begun (length text) c)
   byte_close false is_s no_word no_digit no_blank no_open = byte_colon (c == 58) refl no_word no_digit no_blank no_open is_s
   byte_close true is_s no_word no_digit no_blank no_open =
       begun_by (sign_scanned Close (length text)) (rw (no_word, no_digit, no_blank, no_open, is_s)) (byte_is_sign Close (rw (no_open, is_s)))
 
   byte_open : (s : Bool) → (c == 123) ≡ s → begins_word c ≡ false → is_digit c ≡ false → is_blank c ≡ false →
-      Went text tokens c (begun (length text) c)
+      IsCutAfterByte text tokens c (begun (length text) c)
   byte_open false is_s no_word no_digit no_blank = byte_close (c == 125) refl no_word no_digit no_blank is_s
   byte_open true is_s no_word no_digit no_blank =
       begun_by (sign_scanned Open (length text)) (rw (no_word, no_digit, no_blank, is_s)) (byte_is_sign Open (rw is_s))
 
-  byte_blank : (s : Bool) → is_blank c ≡ s → begins_word c ≡ false → is_digit c ≡ false → Went text tokens c (begun (length text) c)
+  byte_blank : (s : Bool) → is_blank c ≡ s → begins_word c ≡ false → is_digit c ≡ false → IsCutAfterByte text tokens c (begun (length text) c)
   byte_blank false is_s no_word no_digit = byte_open (c == 123) refl no_word no_digit is_s
   byte_blank true is_s no_word no_digit =
       begun_by (Between, []) (rw (no_word, no_digit, is_s)) (byte_is_piece (blank c) refl (λ more. is_s))
 
-  byte_digit : (s : Bool) → is_digit c ≡ s → begins_word c ≡ false → Went text tokens c (begun (length text) c)
+  byte_digit : (s : Bool) → is_digit c ≡ s → begins_word c ≡ false → IsCutAfterByte text tokens c (begun (length text) c)
   byte_digit false is_s no_word = byte_blank (is_blank c) refl no_word is_s
   byte_digit true is_s no_word =
       begun_by (Run (length text) (c ∷ []) Digits, []) (rw (no_word, is_s))
       (byte_opens (Run (length text) (c ∷ []) Digits) (refl, refl, (is_s, tt), omega arith))
 
-  byte_word : (s : Bool) → begins_word c ≡ s → Went text tokens c (begun (length text) c)
+  byte_word : (s : Bool) → begins_word c ≡ s → IsCutAfterByte text tokens c (begun (length text) c)
   byte_word false is_s = byte_digit (is_digit c) refl is_s
   byte_word true is_s =
       begun_by (Run (length text) (c ∷ []) Word, []) (rw is_s)
       (byte_opens (Run (length text) (c ∷ []) Word) (refl, refl, (is_s, tt), omega arith))
 
-  at_byte : Went text tokens c (begun (length text) c)
-  at_byte = byte_word (begins_word c) refl
+  cut_after_begun_byte : IsCutAfterByte text tokens c (begun (length text) c)
+  cut_after_begun_byte = byte_word (begins_word c) refl
 
 -- a byte where something is open
 module _ (mode : Mode) (text : List ℕ) (tokens : List Token) (c : ℕ) (cut : Cut any_bytes mode text tokens) where
-  open_takes_byte : (new : Mode) → IsOpen new (length (spelled cut.pieces)) (cut.bytes ++ c ∷ []) → Went text tokens c (new, [])
+  open_takes_byte : (new : Mode) → IsOpen new (length (spelled cut.pieces)) (cut.bytes ++ c ∷ []) → IsCutAfterByte text tokens c (new, [])
   open_takes_byte new opened = λ sound.
       record {
         pieces = cut.pieces;
@@ -204,7 +204,7 @@ module _ (mode : Mode) (text : List ℕ) (tokens : List Token) (c : ℕ) (cut : 
       }
 
   ends_with_byte : (p : Piece) → bytes_of p ≡ cut.bytes ++ c ∷ [] → ((more : List ℕ) → IsRight p more) → (ts : List Token) →
-      piece_tokens (length (spelled cut.pieces)) p ≡ ts → Went text tokens c (Between, ts)
+      piece_tokens (length (spelled cut.pieces)) p ≡ ts → IsCutAfterByte text tokens c (Between, ts)
   ends_with_byte p spelling right ts made = λ sound.
       subst (λ (more : List Token). Cut any_bytes Between (text ++ c ∷ []) (tokens ++ more)) made
       (cut_of_ready any_bytes (text ++ c ∷ []) (tokens ++ piece_tokens (length (spelled cut.pieces)) p)
@@ -229,18 +229,18 @@ continues_no_run more = begins_run more ≡ false
 
 -- a byte after a run
 module _ (start : ℕ) (kept : List ℕ) (form : Form) (text : List ℕ) (tokens : List Token) (c : ℕ) (cut : Cut any_bytes (Run start kept form) text tokens) where
-  run_formed : (o : Option Form) → form_with form c ≡ o → is_run_byte c ≡ true → Went text tokens c (run_or_fault start (kept ++ c ∷ []) o, [])
-  run_formed None grown in_run = fault_went text tokens c start
+  run_formed : (o : Option Form) → form_with form c ≡ o → is_run_byte c ≡ true → IsCutAfterByte text tokens c (run_or_fault start (kept ++ c ∷ []) o, [])
+  run_formed None grown in_run = cut_after_fault_byte text tokens c start
   run_formed (Some other) grown in_run = by_length (nat_lt 64 (length (kept ++ c ∷ []))) refl
     where
-      by_length : (long : Bool) → nat_lt 64 (length (kept ++ c ∷ [])) ≡ long → Went text tokens c (if long then Failed start else Run start (kept ++ c ∷ []) other, [])
-      by_length true is_long = fault_went text tokens c start
+      by_length : (long : Bool) → nat_lt 64 (length (kept ++ c ∷ [])) ≡ long → IsCutAfterByte text tokens c (if long then Failed start else Run start (kept ++ c ∷ []) other, [])
+      by_length true is_long = cut_after_fault_byte text tokens c start
       by_length false is_long =
           let opened = cut.opened in
           let same : kept ++ c ∷ [] ≡ cut.bytes ++ c ∷ [] = ap (λ (t : List ℕ). t ++ c ∷ []) opened.1 in
           let few : length (kept ++ c ∷ []) ≤ 64 = grind (arith, nat_tests) in
           let has : HasForm other (cut.bytes ++ c ∷ []) =
-          form_of_has_form (cut.bytes ++ c ∷ []) other (form_of-grown cut.bytes c form (has_form_form_of form cut.bytes opened.2) in_run ∙ grown) in
+          form_of_has_form (cut.bytes ++ c ∷ []) other (form_of-grown cut.bytes c form (form_of_bytes_with_form form cut.bytes opened.2) in_run ∙ grown) in
           open_takes_byte (Run start kept form) text tokens c cut (Run start (kept ++ c ∷ []) other)
           (opened.0, same, has, subst (λ (t : List ℕ). length t ≤ 64) same few)
 
@@ -255,42 +255,42 @@ module _ (start : ℕ) (kept : List ℕ) (form : Form) (text : List ℕ) (tokens
       subst (λ (ts : List Token). Ready continues_no_run text (tokens ++ ts)) made
       (ended_before (Run start kept form) text tokens c cut continues_no_run (run form cut.bytes) refl (λ more fits. (opened.2, opened.3, fits)))
 
-  behind_run : (r : Bool) → is_run_byte c ≡ r → Went text tokens c (next (Run start kept form) (length text) c)
-  behind_run true in_run =
-      went_by text tokens c (next (Run start kept form) (length text) c) (run_or_fault start (kept ++ c ∷ []) (form_with form c), []) (rw in_run)
+  cut_after_run_and_byte : (r : Bool) → is_run_byte c ≡ r → IsCutAfterByte text tokens c (next (Run start kept form) (length text) c)
+  cut_after_run_and_byte true in_run =
+      cut_after_byte_by_equal_scan text tokens c (next (Run start kept form) (length text) c) (run_or_fault start (kept ++ c ∷ []) (form_with form c), []) (rw in_run)
       (run_formed (form_with form c) refl in_run)
-  behind_run false no_run =
+  cut_after_run_and_byte false no_run =
       let closed = closing (length text) (Run start kept form) in
       let made = begun (length text) c in
-      went_by text tokens c (next (Run start kept form) (length text) c) (after_tokens closed made) (rw no_run)
+      cut_after_byte_by_equal_scan text tokens c (next (Run start kept form) (length text) c) (after_tokens closed made) (rw no_run)
       (λ sound. subst (λ (ts : List Token). Cut any_bytes made.0 (text ++ c ∷ []) ts) (append_assoc tokens closed made.1)
-      (at_byte continues_no_run text (tokens ++ closed) c run_is_ready (λ more. no_run) sound))
+      (cut_after_begun_byte continues_no_run text (tokens ++ closed) c run_is_ready (λ more. no_run) sound))
 
 -- a byte after a `/`
 module _ (start : ℕ) (text : List ℕ) (tokens : List Token) (c : ℕ) (cut : Cut any_bytes (Slash start) text tokens) where
-  behind_star : (s : Bool) → (c == star) ≡ s → (c == slash) ≡ false → Went text tokens c (next (Slash start) (length text) c)
-  behind_star false is_s no_slash =
-      went_by text tokens c (next (Slash start) (length text) c) (Failed start, []) (rw (no_slash, is_s)) (fault_went text tokens c start)
-  behind_star true is_s no_slash =
+  cut_after_slash_by_star_test : (s : Bool) → (c == star) ≡ s → (c == slash) ≡ false → IsCutAfterByte text tokens c (next (Slash start) (length text) c)
+  cut_after_slash_by_star_test false is_s no_slash =
+      cut_after_byte_by_equal_scan text tokens c (next (Slash start) (length text) c) (Failed start, []) (rw (no_slash, is_s)) (cut_after_fault_byte text tokens c start)
+  cut_after_slash_by_star_test true is_s no_slash =
       let same : c ≡ star = grind (arith, nat_tests) in
-      went_by text tokens c (next (Slash start) (length text) c) (BlockComment start false, []) (rw (no_slash, is_s))
+      cut_after_byte_by_equal_scan text tokens c (next (Slash start) (length text) c) (BlockComment start false, []) (rw (no_slash, is_s))
       (open_takes_byte (Slash start) text tokens c cut (BlockComment start false)
       (cut.opened.0, ([], ap (λ (t : List ℕ). t ++ c ∷ []) cut.opened.1 ∙ ap (λ (b : ℕ). slash ∷ b ∷ []) same, refl, refl)))
 
-  behind_slash : (s : Bool) → (c == slash) ≡ s → Went text tokens c (next (Slash start) (length text) c)
-  behind_slash false is_s = behind_star (c == star) refl is_s
-  behind_slash true is_s =
+  cut_after_slash_and_byte : (s : Bool) → (c == slash) ≡ s → IsCutAfterByte text tokens c (next (Slash start) (length text) c)
+  cut_after_slash_and_byte false is_s = cut_after_slash_by_star_test (c == star) refl is_s
+  cut_after_slash_and_byte true is_s =
       let same : c ≡ slash = grind (arith, nat_tests) in
-      went_by text tokens c (next (Slash start) (length text) c) (LineComment start, []) (rw is_s)
+      cut_after_byte_by_equal_scan text tokens c (next (Slash start) (length text) c) (LineComment start, []) (rw is_s)
       (open_takes_byte (Slash start) text tokens c cut (LineComment start)
       (cut.opened.0, ([], ap (λ (t : List ℕ). t ++ c ∷ []) cut.opened.1 ∙ ap (λ (b : ℕ). slash ∷ b ∷ []) same, tt)))
 
 -- the line feed is a blank after the comment
 module _ (start : ℕ) (text : List ℕ) (tokens : List Token) (c : ℕ) (cut : Cut any_bytes (LineComment start) text tokens) where
-  in_line_comment : (s : Bool) → (c == line_feed) ≡ s → Went text tokens c (next (LineComment start) (length text) c)
+  in_line_comment : (s : Bool) → (c == line_feed) ≡ s → IsCutAfterByte text tokens c (next (LineComment start) (length text) c)
   in_line_comment false is_s =
       let inside = cut.opened.1 in
-      went_by text tokens c (next (LineComment start) (length text) c) (LineComment start, []) (rw is_s)
+      cut_after_byte_by_equal_scan text tokens c (next (LineComment start) (length text) c) (LineComment start, []) (rw is_s)
       (open_takes_byte (LineComment start) text tokens c cut (LineComment start)
       (cut.opened.0, (inside.0 ++ c ∷ [], ap (λ (t : List ℕ). t ++ c ∷ []) inside.1, Each-push in_line inside.0 c inside.2 (ap not is_s))))
   in_line_comment true is_s =
@@ -298,7 +298,7 @@ module _ (start : ℕ) (text : List ℕ) (tokens : List Token) (c : ℕ) (cut : 
       let inside = cut.opened.1 in
       let ready : Ready EndsLine text (tokens ++ []) =
       ended_before (LineComment start) text tokens c cut EndsLine (line_comment inside.0) (sym inside.1) (λ more fits. (inside.2, fits)) in
-      went_by text tokens c (next (LineComment start) (length text) c) (Between, []) (rw is_s)
+      cut_after_byte_by_equal_scan text tokens c (next (LineComment start) (length text) c) (Between, []) (rw is_s)
       (λ sound. subst (λ (ts : List Token). Cut any_bytes Between (text ++ c ∷ []) (ts ++ [])) (append-nil tokens)
       (byte_is_piece EndsLine text (tokens ++ []) c ready (λ more. same) (blank c) refl (λ more. ap is_blank same) tt))
 
@@ -309,11 +309,11 @@ and_parts false b is = cc
 
 -- a byte in a block comment
 module _ (start : ℕ) (closes : Bool) (text : List ℕ) (tokens : List Token) (c : ℕ) (cut : Cut any_bytes (BlockComment start closes) text tokens) where
-  in_block_comment : (s : Bool) → (closes && c == slash) ≡ s → Went text tokens c (next (BlockComment start closes) (length text) c)
+  in_block_comment : (s : Bool) → (closes && c == slash) ≡ s → IsCutAfterByte text tokens c (next (BlockComment start closes) (length text) c)
   in_block_comment false is_s =
       let inside = cut.opened.1 in
       let open_still : (ends_in_star inside.0 && c == slash) ≡ false = ap (λ (b : Bool). b && c == slash) inside.3 ∙ is_s in
-      went_by text tokens c (next (BlockComment start closes) (length text) c) (BlockComment start (c == star), []) (rw is_s)
+      cut_after_byte_by_equal_scan text tokens c (next (BlockComment start closes) (length text) c) (BlockComment start (c == star), []) (rw is_s)
       (open_takes_byte (BlockComment start closes) text tokens c cut (BlockComment start (c == star))
       (cut.opened.0, (inside.0 ++ c ∷ [], ap (λ (t : List ℕ). t ++ c ∷ []) inside.1, has_close-push inside.0 c inside.2 open_still, ends_in_star-push inside.0 c)))
   in_block_comment true is_s =
@@ -325,18 +325,18 @@ module _ (start : ℕ) (closes : Bool) (text : List ℕ) (tokens : List Token) (
       let spelling : slash ∷ star ∷ before.0 ++ star ∷ slash ∷ [] ≡ cut.bytes ++ c ∷ [] =
       sym (ap (λ (t : List ℕ). t ++ c ∷ []) inside.1 ∙ ap (λ (t : List ℕ). slash ∷ star ∷ t ++ c ∷ []) before.1
       ∙ ap (λ (t : List ℕ). slash ∷ star ∷ t) (append_assoc before.0 (star ∷ []) (c ∷ []) ∙ ap (λ (b : ℕ). before.0 ++ star ∷ b ∷ []) same)) in
-      went_by text tokens c (next (BlockComment start closes) (length text) c) (Between, []) (rw is_s)
+      cut_after_byte_by_equal_scan text tokens c (next (BlockComment start closes) (length text) c) (Between, []) (rw is_s)
       (ends_with_byte (BlockComment start closes) text tokens c cut (block_comment before.0) spelling
       (λ more. has_close-front before.0 (star ∷ []) (ap has_close (sym before.1) ∙ inside.2)) [] refl)
 
 -- a byte, whatever is open
-cut_after_byte : (mode : Mode) (text : List ℕ) (tokens : List Token) (c : ℕ) → Cut any_bytes mode text tokens → Went text tokens c (next mode (length text) c)
-cut_after_byte Between text tokens c cut = at_byte any_bytes text tokens c (ready_of_cut any_bytes text tokens cut) (λ more. tt)
-cut_after_byte (Run start kept form) text tokens c cut = behind_run start kept form text tokens c cut (is_run_byte c) refl
-cut_after_byte (Slash start) text tokens c cut = behind_slash start text tokens c cut (c == slash) refl
+cut_after_byte : (mode : Mode) (text : List ℕ) (tokens : List Token) (c : ℕ) → Cut any_bytes mode text tokens → IsCutAfterByte text tokens c (next mode (length text) c)
+cut_after_byte Between text tokens c cut = cut_after_begun_byte any_bytes text tokens c (ready_of_cut any_bytes text tokens cut) (λ more. tt)
+cut_after_byte (Run start kept form) text tokens c cut = cut_after_run_and_byte start kept form text tokens c cut (is_run_byte c) refl
+cut_after_byte (Slash start) text tokens c cut = cut_after_slash_and_byte start text tokens c cut (c == slash) refl
 cut_after_byte (LineComment start) text tokens c cut = in_line_comment start text tokens c cut (c == line_feed) refl
 cut_after_byte (BlockComment start closes) text tokens c cut = in_block_comment start closes text tokens c cut (closes && c == slash) refl
-cut_after_byte (Failed at) text tokens c cut = fault_went text tokens c at
+cut_after_byte (Failed at) text tokens c cut = cut_after_fault_byte text tokens c at
 
 -- if no fault was met after a scan, none was met before
 sound_before : (mode : Mode) (place : ℕ) (xs : List ℕ) → IsSound (scan mode place xs).0 → IsSound mode

@@ -18,7 +18,7 @@ use Rattle.goal_lexer.specs.Scan.{Scanned, after_tokens, next, scan, closing}
 use Rattle.goal_lexer.specs.Stands.{begins_run}
 use Rattle.goal_lexer.specs.Pieces.{Each, AreDigits, HasForm, sign_kind, sign_tokens}
 use Rattle.goal_lexer.specs.Whole.{BeginsWord, IsWholeRun}
-use Rattle.goal_lexer.proofs.ByteLaws.{digit_no_word}
+use Rattle.goal_lexer.proofs.ByteLaws.{digit_begins_no_word}
 use Rattle.goal_lexer.proofs.ScanLaws.{scan_after_no_token, scan_one, scan_next_byte, scan_stretch}
 use Rattle.goal_lexer.proofs.StretchLaws.{Each-take, scan_word, scan_digits}
 
@@ -40,7 +40,7 @@ scan_of_digits : (place : ℕ) (run : List ℕ) → 0 < length run → Each is_d
 scan_of_digits place [] some each short = absurd (omega arith)
 scan_of_digits place (c ∷ cs) some each short =
     let digit = each.0 in
-    let no_word = digit_no_word c digit in
+    let no_word = digit_begins_no_word c digit in
     scan_from_first_byte place c cs Digits (rw (no_word, digit)) (scan_digits place (place + 1) (c ∷ []) cs each.1 (λ _. short))
 
 -- the mark of a size after digits
@@ -181,26 +181,26 @@ run_in_piece mode place n count piece token within quiet given =
 
 -- a sign is a token
 module _ (place c : ℕ) where
-  abbrev IsOwn : ℕ → Type 0
-  IsOwn b = next Between place b ≡ (Between, sign_tokens (sign_kind b) place)
+  abbrev IsScannedAsSign : ℕ → Type 0
+  IsScannedAsSign b = next Between place b ≡ (Between, sign_tokens (sign_kind b) place)
 
-  by_colon : (s : Bool) → (c == 58) ≡ s → (c == 123) ≡ false → (c == 125) ≡ false → IsSome (sign_kind c) → IsOwn c
-  by_colon true is_s no_open no_close some = let same : c ≡ 58 = grind (arith, nat_tests) in subst IsOwn (sym same) refl
-  by_colon false is_s no_open no_close some =
+  sign_by_colon_test : (s : Bool) → (c == 58) ≡ s → (c == 123) ≡ false → (c == 125) ≡ false → IsSome (sign_kind c) → IsScannedAsSign c
+  sign_by_colon_test true is_s no_open no_close some = let same : c ≡ 58 = grind (arith, nat_tests) in subst IsScannedAsSign (sym same) refl
+  sign_by_colon_test false is_s no_open no_close some =
       let none : sign_kind c ≡ None = rw (no_open, no_close, is_s) in
       let no : IsSome {T = TokenKind} None = subst (λ (o : Option TokenKind). IsSome o) none some in
       absurd (false≢true no)
 
-  by_close : (s : Bool) → (c == 125) ≡ s → (c == 123) ≡ false → IsSome (sign_kind c) → IsOwn c
-  by_close true is_s no_open some = let same : c ≡ 125 = grind (arith, nat_tests) in subst IsOwn (sym same) refl
-  by_close false is_s no_open some = by_colon (c == 58) refl no_open is_s some
+  sign_by_close_test : (s : Bool) → (c == 125) ≡ s → (c == 123) ≡ false → IsSome (sign_kind c) → IsScannedAsSign c
+  sign_by_close_test true is_s no_open some = let same : c ≡ 125 = grind (arith, nat_tests) in subst IsScannedAsSign (sym same) refl
+  sign_by_close_test false is_s no_open some = sign_by_colon_test (c == 58) refl no_open is_s some
 
-  by_open : (s : Bool) → (c == 123) ≡ s → IsSome (sign_kind c) → IsOwn c
-  by_open true is_s some = let same : c ≡ 123 = grind (arith, nat_tests) in subst IsOwn (sym same) refl
-  by_open false is_s some = by_close (c == 125) refl is_s some
+  sign_by_open_test : (s : Bool) → (c == 123) ≡ s → IsSome (sign_kind c) → IsScannedAsSign c
+  sign_by_open_test true is_s some = let same : c ≡ 123 = grind (arith, nat_tests) in subst IsScannedAsSign (sym same) refl
+  sign_by_open_test false is_s some = sign_by_close_test (c == 125) refl is_s some
 
   pub next_sign : IsSome (sign_kind c) → next Between place c ≡ (Between, sign_tokens (sign_kind c) place)
-  next_sign some = by_open (c == 123) refl some
+  next_sign some = sign_by_open_test (c == 123) refl some
 
 -- a sign after bytes that ended no token
 pub sign_in_piece : (place n : ℕ) (piece : List ℕ) (kind : TokenKind) → n < length piece →

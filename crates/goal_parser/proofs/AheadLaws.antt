@@ -23,7 +23,7 @@ no_run_after_token : (place : ℕ) (rest more : List ℕ) (n : ℕ) (e : Bool) (
 no_run_after_token place rest more n false ts ahead is = cc
 no_run_after_token place rest more n true ts ahead is = no_run_whatever_follows n rest more ahead.0 ahead.1
 
--- a token at the front that the parser refuses is at fault in each text that is continued by it
+-- if the parser refuses the token at the front, that is the fault of each text continued by the piece
 pub refused_token_is_fault_of_text : (old : Reader) (rest : List ℕ) (n : ℕ) (e : Bool) (t : Token) (f : TextFault) →
     MayGoOn old.lexer old.place rest → 0 < n → IsAhead old.place rest n e (t ∷ []) →
     ((before : List Token) → HasTaken old.parser before → token_fault before t ≡ Some f) →
@@ -39,7 +39,7 @@ refused_token_is_fault_of_text old rest n e t f ready some ahead refuses text mo
     (ap (λ (w : List ℕ). (lexed w).0) (sym (taken_and_dropped_join text rest more n)) ∙ front.1 ∙ ap (λ (l : List Token). l ++ front.0) went.1)
     stood.passed (refuses (reverse hs) stood.taken)
 
--- A piece of which some bytes were taken, and then more.
+-- Bytes are taken from a piece twice.
 
 pub stands_after_both_takes : (start old new : Reader) (piece : List ℕ) (at n : ℕ) →
     ((text : List ℕ) → StandsFor start text → StandsFor old (text ++ take at piece)) →
@@ -66,18 +66,18 @@ fault_in_rest_is_fault_of_piece piece text more at f is =
     ∙ sym (append_assoc text (take at piece) (take (length piece - at) (drop at piece))))
     ∙ is
 
-left_both : (old mid new : Reader) (piece : List ℕ) (n m : ℕ) → GoesAhead old piece mid n →
+bytes_left_after_both_takes : (old mid new : Reader) (piece : List ℕ) (n m : ℕ) → GoesAhead old piece mid n →
     GoesAhead mid (take (length piece - n) (drop n piece)) new m → 0 < n + m → new.lexer.ends_run ≡ true → n + m < length piece
-left_both old mid new piece n zero first second some ends =
+bytes_left_after_both_takes old mid new piece n zero first second some ends =
     let same : new ≡ mid = second.none refl in
     let left : n < length piece = first.left (omega (arith, some)) (subst (λ (r : Reader). r.lexer.ends_run ≡ true) same ends) in
     omega (arith, left)
-left_both old mid new piece n (suc m) first second some ends =
+bytes_left_after_both_takes old mid new piece n (suc m) first second some ends =
     let long = ap length (take_rest piece n) ∙ length-drop n piece in
     let left = second.left (omega arith) ends in
     omega (arith, left, long, first.taken)
 
--- a reader that took bytes, and then more
+-- a reader that took bytes twice
 pub goes_ahead_twice : (old mid new : Reader) (piece : List ℕ) (n m : ℕ) → GoesAhead old piece mid n →
     GoesAhead mid (take (length piece - n) (drop n piece)) new m → GoesAhead old piece new (n + m)
 goes_ahead_twice old mid new piece n m first second =
@@ -89,7 +89,7 @@ goes_ahead_twice old mid new piece n m first second =
       place = omega (arith, first.place, second.place);
       same = second.same;
       apart = λ ends. no_run_in_rest_of_piece piece n m (second.apart ends);
-      left = λ some ends. left_both old mid new piece n m first second some ends;
+      left = λ some ends. bytes_left_after_both_takes old mid new piece n m first second some ends;
       between = λ before. second.between (first.between before);
       stands = stands_after_both_takes old mid new piece n m first.stands second.stands;
       none = λ is. second.none (omega (arith, is)) ∙ first.none (omega (arith, is));

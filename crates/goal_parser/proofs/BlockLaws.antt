@@ -1,4 +1,4 @@
--- The same plan, one time more.
+-- A list of equal plans, with another one appended.
 use Rattle.std.proofs.Common.{◌≡◌, ℕ, ◌+◌, zero, suc, [], ◌∷◌, ◌++◌, refl, ap, ◌∙◌, replicate, add-one}
 
 replicate-suc : {A : Type 0} (n : ℕ) (x : A) → replicate (suc n) x ≡ replicate n x ++ x ∷ []

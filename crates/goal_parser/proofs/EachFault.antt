@@ -7,7 +7,7 @@ use Rattle.goal_parser.specs.declared.faults.TextFault.{TextFault}
 use Rattle.goal_parser.specs.declared.faults.TextFault.TheVariants as fault
 use Rattle.goal_parser.specs.Reads.{Reading, reads, plans, faulty, IsFaultOf}
 
--- what a text says has one fault at most, and none where it is a schedule
+-- a text has at most one fault, and none if its plans are a schedule
 text_fault_unique : (r : Reading) (f g : TextFault) → IsFaultOf r f → IsFaultOf r g → f ≡ g
 text_fault_unique (faulty first) f g is other = sym is ∙ other
 text_fault_unique (plans ps) (fault.Plan f) (fault.Plan g) is other = ap fault.Plan (IsFault-unique ps f g is other)

@@ -1,4 +1,4 @@
--- A text that says plans is sentences, and its plans are what these say.
+-- The tokens of a text with plans are sentences, and its plans are those of the sentences.
 use Rattle.std.proofs.Common.{◌≡◌, ◌≢◌, ℕ, ◌+◌, ◌<◌, Bool, true, false, ◌||◌, List, [], ◌∷◌, ◌++◌, map, length, reverse, replicate, slice_set, nat_eq, nat_lt, bytes_eq, cond, not, add-zero, ◌≤◌, Option, Some, None, is_none, is_some, unwrap_or, refl, sym, ap, subst, ◌∙◌, arith, append_assoc, length-append}
 use Rattle.std.specs.Prelude.{⊤, ◌==◌, if◌then◌else◌, slice_index_or}
 use Rattle.std.specs.List.{AllByRecursion, All, flat_map, list_any, count_by}
@@ -88,7 +88,7 @@ kept_with s k at draft head kept = record {
   plans = plans_with s k kept.rank (plan_with s draft kept) kept.plans;
 }
 
--- the state behind the token
+-- the state after the token
 abbrev behind : State → TokenKind → State
 behind s k = unwrap_or (entry s k) s
 
@@ -131,17 +131,17 @@ definitions-push n (x ∷ xs) item =
     ∙ ap (λ (m : ℕ). defined_by x n ++ (definitions next xs ++ defined_by item m)) same
     ∙ sym (append_assoc (defined_by x n) (definitions next xs) (defined_by item (n + length (op_said x ++ flat_map op_said xs))))
 
--- one more at most
+-- lists and counts with another element
 All-push : {X : Type 0} (P : X → Type 0) (xs : List X) (x : X) → All P xs → P x → All P (xs ++ x ∷ [])
 All-push P xs x all one = All-append P xs (x ∷ []) all (All-from_recursion P (x ∷ []) (one, tt))
 
-count_none : {X : Type 0} (p : X → Bool) (x : X) (xs : List X) → p x ≡ false → count_by p xs ≡ 0 → count_by p (x ∷ xs) ≡ 0
-count_none p x xs is none =
+count_cons_is_zero : {X : Type 0} (p : X → Bool) (x : X) (xs : List X) → p x ≡ false → count_by p xs ≡ 0 → count_by p (x ∷ xs) ≡ 0
+count_cons_is_zero p x xs is none =
     let same : 0 + count_by p xs ≡ 0 = omega arith in
     sum_by-cons (λ y. cond (p y) 1 0) x xs ∙ ap (λ (t : Bool). cond t 1 0 + count_by p xs) is ∙ same
 
-count_one : {X : Type 0} (p : X → Bool) (xs : List X) (x : X) → (p x ≡ true → count_by p xs ≡ 0) → count_by p xs ≤ 1 → count_by p (xs ++ x ∷ []) ≤ 1
-count_one p xs x none few =
+count_push_at_most_one : {X : Type 0} (p : X → Bool) (xs : List X) (x : X) → (p x ≡ true → count_by p xs ≡ 0) → count_by p xs ≤ 1 → count_by p (xs ++ x ∷ []) ≤ 1
+count_push_at_most_one p xs x none few =
     let whole : count_by p (xs ++ x ∷ []) ≡ count_by p xs + cond (p x) 1 0 =
     sum_by-append (λ y. cond (p y) 1 0) xs (x ∷ []) ∙ ap (λ (n : ℕ). count_by p xs + n) (sum_by-cons (λ y. cond (p y) 1 0) x [] ∙ add-zero (cond (p x) 1 0)) in
     subst (λ (n : ℕ). n ≤ 1) (sym whole) (by (p x) refl)
@@ -159,7 +159,7 @@ is_label label d = bytes_eq label d.label
 abbrev ranks_in : List Block → List ℕ
 ranks_in bs = map (λ (b : Block). b.rank) bs
 
--- nothing is kept of a block
+-- no part of a block is kept
 record IsClear (kept : Kept) : Type 0 where
   ops : kept.ops ≡ []
   defined : kept.defined ≡ []
@@ -167,7 +167,7 @@ record IsClear (kept : Kept) : Type 0 where
   deps : kept.deps ≡ []
   notes : kept.notes ≡ []
 
--- the tokens are blocks and this part of the next
+-- the tokens are whole blocks, followed by this part of the next block
 record Out (kept : Kept) (ks part : List TokenKind) : Type 0 where
   written : Written
   spelled : ks ≡ text_tokens written ++ part
@@ -188,7 +188,7 @@ record Opened (kept : Kept) (ks : List TokenKind) : Type 0 where
   new : list_any (nat_eq kept.rank) (ranks_in written.blocks) ≡ false
   clear : IsClear kept
 
--- the tokens are blocks, and in the next one items and this part of an item, which defines this label
+-- the tokens are whole blocks, then an open block: items and this part of an item, which defines this label
 record In (kept : Kept) (ks part : List TokenKind) (label : Option (List ℕ)) : Type 0 where
   written : Written
   items : List Item
@@ -332,7 +332,7 @@ abbrev cpu_settings : Option ℕ → List Setting
 cpu_settings None = []
 cpu_settings (Some n) = cpu n ∷ []
 
--- what the tokens so far are, where they end in this state
+-- what the tokens so far are, if they end in this state
 abbrev At : State → Kept → Draft → ItemHead → List TokenKind → Type 0
 At state.Start kept draft head ks = (ks ≡ []) × IsClear kept × (kept.blocks ≡ [])
 At state.Ranks kept draft head ks = (ks ≡ token.NumRanks ∷ []) × IsClear kept × (kept.blocks ≡ [])
@@ -390,7 +390,7 @@ At state.Recv6 kept draft head ks =
     × In kept ks (item_tokens (recv label size from ss) ++ option_token w ∷ []) label × (gives w ss ≡ false)
     × (draft ≡ mark w (drafted action.Recv (amount size) from ss o)) × AreGivenOnce ss
 
--- the plan of a rank, with a block more
+-- the plan of a rank after another block
 or_false_parts : (a b : Bool) → (a || b) ≡ false → (a ≡ false) × (b ≡ false)
 or_false_parts false b none = (refl, none)
 or_false_parts true b none = cc
@@ -426,19 +426,19 @@ said_with_block w ps b plan said new same =
         let there : rank ≢ b.rank = grind (arith, nat_tests) in
         get_or-set_other ps b.rank rank plan empty_plan there ∙ said.each rank below ∙ sym (rank_of_other w.blocks b rank is)
 
--- the rules, with a block more
+-- the rules still hold after another block
 none_of_rank : (bs : List Block) (rank : ℕ) → list_any (nat_eq rank) (ranks_in bs) ≡ false → count_by (λ (b : Block). rank == b.rank) bs ≡ 0
 none_of_rank [] rank new = refl
 none_of_rank (b ∷ bs) rank new =
     let parts = or_false_parts (nat_eq rank b.rank) (list_any (nat_eq rank) (ranks_in bs)) new in
-    count_none (λ (c : Block). rank == c.rank) b bs parts.0 (none_of_rank bs rank parts.1)
+    count_cons_is_zero (λ (c : Block). rank == c.rank) b bs parts.0 (none_of_rank bs rank parts.1)
 
 right_with_block : (w : Written) (b : Block) → AreRight w → b.rank < w.ranks → list_any (nat_eq b.rank) (ranks_in w.blocks) ≡ false → KeepsRules b →
     AreRight (record { ranks = w.ranks; blocks = w.blocks ++ b ∷ [] })
 right_with_block w b right below new keeps =
     record {
       ranks = All-push (λ (c : Block). c.rank < w.ranks) w.blocks b right.ranks below;
-      once = λ rank. count_one (λ (c : Block). rank == c.rank) w.blocks b
+      once = λ rank. count_push_at_most_one (λ (c : Block). rank == c.rank) w.blocks b
           (λ is. let same : b.rank ≡ rank = grind (arith, nat_tests) in none_of_rank w.blocks rank (subst (λ (r : ℕ). list_any (nat_eq r) (ranks_in w.blocks) ≡ false) same new))
           (right.once rank);
       blocks = All-push KeepsRules w.blocks b right.blocks keeps;
@@ -461,9 +461,9 @@ mapped_none (Some at) none = cc
 
 -- an item begins where no action is open, or a block ends
 module _ (kept : Kept) (draft : Draft) (head : ItemHead) (ks : List TokenKind) (inside : In kept ks [] None) where
-  plan_is : plan_with state.Item draft kept ≡ plan_said inside.items
+  kept_plan_is_said : plan_with state.Item draft kept ≡ plan_said inside.items
   unfolding ends_action
-  plan_is =
+  kept_plan_is_said =
       let items = inside.items in
       let labels : kept.defined ≡ definitions 0 items = inside.defined ∙ append-nil (definitions 0 items) in
       let deps : map (dep_by kept.defined) kept.deps ≡ flat_map (dep_said (definitions 0 items)) items =
@@ -502,7 +502,7 @@ module _ (kept : Kept) (draft : Draft) (head : ItemHead) (ks : List TokenKind) (
             ∙ ap (λ (xs : List TokenKind). token.NumRanks ∷ token.Number w.ranks ∷ xs) (flat_map_with_last block_tokens w.blocks block ∙ sym (append-nil (flat_map block_tokens (w.blocks ++ block ∷ []))));
         right = right_with_block w block inside.right inside.below inside.new (rules_kept found);
         ranks = inside.ranks;
-        said = said_with_block w kept.plans block (plan_with state.Item draft kept) inside.said inside.new plan_is;
+        said = said_with_block w kept.plans block (plan_with state.Item draft kept) inside.said inside.new kept_plan_is_said;
         blocks = inside.blocks ∙ sym (map-append (λ (b : Block). b.rank) w.blocks (block ∷ []));
         clear = record { ops = refl; defined = refl; used = refl; deps = refl; notes = refl };
       }
@@ -517,7 +517,7 @@ module _ (kept : Kept) (draft : Draft) (head : ItemHead) (ks : List TokenKind) (
   step_item token.Recv at known found = (None, draft.option, item_with_token kept ks [] None inside token.Recv (token.Recv ∷ []) refl, refl)
   step_item _ at known found = absurd (true≢false known)
 
--- the same behind an action, which then is complete
+-- the same after an action, which is complete then
 abbrev with_op : Draft → Kept → Kept
 with_op draft kept = record {
   ranks = kept.ranks;
@@ -563,23 +563,23 @@ module _ (kept : Kept) (draft : Draft) (head : ItemHead) (ks : List TokenKind) (
   step_recv _ at known found = absurd (true≢false known)
 
 -- an option that the action has not given before
-tag_now : (ss : List Setting) (n : Option ℕ) → gives option.Tag ss ≡ false → tag_of (ss ++ tag n ∷ []) ≡ n
-tag_now [] n new = refl
-tag_now (tag m ∷ ss) n new = absurd (true≢false new)
-tag_now (cpu m ∷ ss) n new = tag_now ss n new
-tag_now (nic m ∷ ss) n new = tag_now ss n new
+tag_of_appended_tag : (ss : List Setting) (n : Option ℕ) → gives option.Tag ss ≡ false → tag_of (ss ++ tag n ∷ []) ≡ n
+tag_of_appended_tag [] n new = refl
+tag_of_appended_tag (tag m ∷ ss) n new = absurd (true≢false new)
+tag_of_appended_tag (cpu m ∷ ss) n new = tag_of_appended_tag ss n new
+tag_of_appended_tag (nic m ∷ ss) n new = tag_of_appended_tag ss n new
 
-cpu_now : (ss : List Setting) (n : ℕ) → gives option.Cpu ss ≡ false → cpu_of (ss ++ cpu n ∷ []) ≡ n
-cpu_now [] n new = refl
-cpu_now (tag m ∷ ss) n new = cpu_now ss n new
-cpu_now (cpu m ∷ ss) n new = absurd (true≢false new)
-cpu_now (nic m ∷ ss) n new = cpu_now ss n new
+cpu_of_appended_cpu : (ss : List Setting) (n : ℕ) → gives option.Cpu ss ≡ false → cpu_of (ss ++ cpu n ∷ []) ≡ n
+cpu_of_appended_cpu [] n new = refl
+cpu_of_appended_cpu (tag m ∷ ss) n new = cpu_of_appended_cpu ss n new
+cpu_of_appended_cpu (cpu m ∷ ss) n new = absurd (true≢false new)
+cpu_of_appended_cpu (nic m ∷ ss) n new = cpu_of_appended_cpu ss n new
 
-nic_now : (ss : List Setting) (n : ℕ) → gives option.Nic ss ≡ false → nic_of (ss ++ nic n ∷ []) ≡ n
-nic_now [] n new = refl
-nic_now (tag m ∷ ss) n new = nic_now ss n new
-nic_now (cpu m ∷ ss) n new = nic_now ss n new
-nic_now (nic m ∷ ss) n new = absurd (true≢false new)
+nic_of_appended_nic : (ss : List Setting) (n : ℕ) → gives option.Nic ss ≡ false → nic_of (ss ++ nic n ∷ []) ≡ n
+nic_of_appended_nic [] n new = refl
+nic_of_appended_nic (tag m ∷ ss) n new = nic_of_appended_nic ss n new
+nic_of_appended_nic (cpu m ∷ ss) n new = nic_of_appended_nic ss n new
+nic_of_appended_nic (nic m ∷ ss) n new = absurd (true≢false new)
 
 -- the other options stay
 tag_stays : (ss : List Setting) (x : Setting) → is_of option.Tag x ≡ false → tag_of (ss ++ x ∷ []) ≡ tag_of ss
@@ -625,7 +625,7 @@ module _ (a : Action) (size : ℕ) (peer : Option ℕ) (ss : List Setting) (o : 
     action = a;
     size = size;
     peer = peer;
-    tag = sym (tag_now ss n new) i;
+    tag = sym (tag_of_appended_tag ss n new) i;
     cpu = sym (cpu_stays ss (tag n) refl) i;
     nic = sym (nic_stays ss (tag n) refl) i;
     has_tag = sym (gives_now option.Tag ss (tag n) refl) i;
@@ -641,7 +641,7 @@ module _ (a : Action) (size : ℕ) (peer : Option ℕ) (ss : List Setting) (o : 
     size = size;
     peer = peer;
     tag = sym (tag_stays ss (cpu n) refl) i;
-    cpu = sym (cpu_now ss n new) i;
+    cpu = sym (cpu_of_appended_cpu ss n new) i;
     nic = sym (nic_stays ss (cpu n) refl) i;
     has_tag = sym (gives_stays option.Tag ss (cpu n) refl) i;
     has_cpu = sym (gives_now option.Cpu ss (cpu n) refl) i;
@@ -657,7 +657,7 @@ module _ (a : Action) (size : ℕ) (peer : Option ℕ) (ss : List Setting) (o : 
     peer = peer;
     tag = sym (tag_stays ss (nic n) refl) i;
     cpu = sym (cpu_stays ss (nic n) refl) i;
-    nic = sym (nic_now ss n new) i;
+    nic = sym (nic_of_appended_nic ss n new) i;
     has_tag = sym (gives_stays option.Tag ss (nic n) refl) i;
     has_cpu = sym (gives_stays option.Cpu ss (nic n) refl) i;
     has_nic = sym (gives_now option.Nic ss (nic n) refl) i;
@@ -671,21 +671,21 @@ module _ (a : Action) (size : ℕ) (peer : Option ℕ) (ss : List Setting) (o : 
   option_is_settled option.Nic n new = with_nic n new
 
 -- each option once
-no_option_given : AreGivenOnce []
-no_option_given = record { tags = omega arith; cpus = omega arith; nics = omega arith }
+no_options_are_given_once : AreGivenOnce []
+no_options_are_given_once = record { tags = omega arith; cpus = omega arith; nics = omega arith }
 
 gives_none : (w : OptionWord) (ss : List Setting) → gives w ss ≡ false → count_by (is_of w) ss ≡ 0
 gives_none w [] new = refl
 gives_none w (s ∷ ss) new =
     let parts = or_false_parts (is_of w s) (gives w ss) new in
-    count_none (is_of w) s ss parts.0 (gives_none w ss parts.1)
+    count_cons_is_zero (is_of w) s ss parts.0 (gives_none w ss parts.1)
 
 once_with_setting : (x : Setting) (ss : List Setting) → AreGivenOnce ss → (is_tag x ≡ true → count_by is_tag ss ≡ 0) → (is_cpu x ≡ true → count_by is_cpu ss ≡ 0) →
     (is_nic x ≡ true → count_by is_nic ss ≡ 0) → AreGivenOnce (ss ++ x ∷ [])
 once_with_setting x ss given tags cpus nics = record {
-  tags = count_one is_tag ss x tags given.tags;
-  cpus = count_one is_cpu ss x cpus given.cpus;
-  nics = count_one is_nic ss x nics given.nics;
+  tags = count_push_at_most_one is_tag ss x tags given.tags;
+  cpus = count_push_at_most_one is_cpu ss x cpus given.cpus;
+  nics = count_push_at_most_one is_nic ss x nics given.nics;
 }
 
 given_tag : (n : Option ℕ) (ss : List Setting) → gives option.Tag ss ≡ false → AreGivenOnce ss → AreGivenOnce (ss ++ tag n ∷ [])
@@ -698,12 +698,12 @@ once_with_number option.Cpu n ss new given =
 once_with_number option.Nic n ss new given =
     once_with_setting (nic n) ss given (λ is. absurd (true≢false (sym is))) (λ is. absurd (true≢false (sym is))) (λ is. gives_none option.Nic ss new)
 
-setting_is : (w : OptionWord) (n : ℕ) → option_token w ∷ token.Number n ∷ [] ≡ setting_tokens (number_setting w n)
-setting_is option.Tag n = refl
-setting_is option.Cpu n = refl
-setting_is option.Nic n = refl
+tokens_of_number_setting : (w : OptionWord) (n : ℕ) → option_token w ∷ token.Number n ∷ [] ≡ setting_tokens (number_setting w n)
+tokens_of_number_setting option.Tag n = refl
+tokens_of_number_setting option.Cpu n = refl
+tokens_of_number_setting option.Nic n = refl
 
--- an option more, of two tokens
+-- another option, of two tokens
 settings_with_another : (front back : List TokenKind) (ss : List Setting) (x : Setting) (word value : TokenKind) → word ∷ value ∷ [] ≡ setting_tokens x →
     ((front ++ (back ++ flat_map setting_tokens ss)) ++ word ∷ []) ++ value ∷ [] ≡ front ++ (back ++ flat_map setting_tokens (ss ++ x ∷ []))
 settings_with_another front back ss x word value same =
@@ -749,15 +749,15 @@ Steps s = (k : TokenKind) (at : ℕ) (kept : Kept) (draft : Draft) (head : ItemH
     is_none (entry s k) ≡ false → has_option k draft ≡ false → Fits s kept head k → At s kept draft head ks →
     At (behind s k) (kept_with s k at draft head kept) (draft_with s k draft) (head_with s k at head) (ks ++ k ∷ [])
 
-none_written : (n : ℕ) → AreRight (record { ranks = n; blocks = [] })
-none_written n = record {
+no_blocks_are_right : (n : ℕ) → AreRight (record { ranks = n; blocks = [] })
+no_blocks_are_right n = record {
   ranks = All-from_recursion (λ (b : Block). b.rank < n) [] tt;
   once = λ rank. omega arith;
   blocks = All-from_recursion KeepsRules [] tt;
 }
 
-empty_said : (n : ℕ) → AreSaid (record { ranks = n; blocks = [] }) (replicate n empty_plan)
-empty_said n = record { ranks = length-replicate n empty_plan; each = λ rank below. get_or-replicate n rank empty_plan empty_plan below }
+no_blocks_are_said : (n : ℕ) → AreSaid (record { ranks = n; blocks = [] }) (replicate n empty_plan)
+no_blocks_are_said n = record { ranks = length-replicate n empty_plan; each = λ rank below. get_or-replicate n rank empty_plan empty_plan below }
 
 step_start : Steps state.Start
 unfolding entry ranks_with used_with blocks_with rank_with draft_with head_with ops_with ends_action defined_with deps_with notes_with plans_with
@@ -770,9 +770,9 @@ step_ranks (token.Number n) at kept draft head ks known once fits here =
     record {
       written = record { ranks = n; blocks = [] };
       spelled = ap (λ (xs : List TokenKind). xs ++ token.Number n ∷ []) here.0;
-      right = none_written n;
+      right = no_blocks_are_right n;
       ranks = refl;
-      said = empty_said n;
+      said = no_blocks_are_said n;
       blocks = here.2;
       clear = record { ops = here.1.ops; defined = here.1.defined; used = here.1.used; deps = here.1.deps; notes = here.1.notes };
     }
@@ -840,12 +840,12 @@ undefined_not_counted (d ∷ ds) label new = by (bytes_eq label d.label) refl ne
     by : (b : Bool) → bytes_eq label d.label ≡ b → is_some (if b then Some d.op else defined_as ds label) ≡ false → (is_defined ds label ≡ false → count_by (is_label label) ds ≡ 0) →
         count_by (is_label label) (d ∷ ds) ≡ 0
     by true is none more = absurd (true≢false none)
-    by false is none more = count_none (is_label label) d ds is (more none)
+    by false is none more = count_cons_is_zero (is_label label) d ds is (more none)
 
 defined_once : (ds : List Definition) (label : List ℕ) (op : ℕ) → ((other : List ℕ) → count_by (is_label other) ds ≤ 1) → is_defined ds label ≡ false →
     (other : List ℕ) → count_by (is_label other) (ds ++ record { label = label; op = op } ∷ []) ≤ 1
 defined_once ds label op once new other =
-    count_one (is_label other) ds (record { label = label; op = op })
+    count_push_at_most_one (is_label other) ds (record { label = label; op = op })
     (λ is. undefined_not_counted ds other (subst (λ (l : List ℕ). is_defined ds l ≡ false) (sym ((bytes_eq-Decides other label).0 is)) new))
     (once other)
 
@@ -888,13 +888,13 @@ step_word _ at kept draft head ks known once fits here = absurd (true≢false kn
 
 -- a dependency and a note are complete
 module _ (kept : Kept) (ks : List TokenKind) (label : List ℕ) (subject : Option Mention) (at : ℕ) (is : subject ≡ Some (record { label = label; at = at })) where
-  uses_one : labels_in (note_uses state.Note3 subject kept.used) ≡ labels_in kept.used ++ label ∷ []
-  uses_one =
+  note_uses_one_label : labels_in (note_uses state.Note3 subject kept.used) ≡ labels_in kept.used ++ label ∷ []
+  note_uses_one_label =
       ap (λ (s : Option Mention). labels_in (note_uses state.Note3 s kept.used)) is ∙ map-append (λ (u : Mention). u.label) kept.used (record { label = label; at = at } ∷ [])
 
-  uses_two : (earlier : List ℕ) (place : ℕ) →
+  dep_uses_two_labels : (earlier : List ℕ) (place : ℕ) →
       labels_in (dep_uses state.Label subject (record { label = earlier; at = place }) kept.used) ≡ labels_in kept.used ++ label ∷ earlier ∷ []
-  uses_two earlier place =
+  dep_uses_two_labels earlier place =
       ap (λ (s : Option Mention). labels_in (dep_uses state.Label s (record { label = earlier; at = place }) kept.used)) is
       ∙ map-append (λ (u : Mention). u.label) (kept.used ++ record { label = label; at = at } ∷ []) (record { label = earlier; at = place } ∷ [])
       ∙ ap (λ (ls : List (List ℕ)). ls ++ earlier ∷ []) (map-append (λ (u : Mention). u.label) kept.used (record { label = label; at = at } ∷ []))
@@ -904,20 +904,20 @@ module _ (kept : Kept) (ks : List TokenKind) (label : List ℕ) (subject : Optio
       In (record kept { used = dep_uses state.Label subject (record { label = earlier; at = place }) kept.used; deps = dep_ended state.Label subject v earlier kept.deps }) ks [] None
   dependency_is_complete earlier place verb.Requires order inside =
       item_is_complete kept ks (item_tokens (requires label earlier)) None inside (requires label earlier) kept.ops (dep_ended state.Label subject verb.Requires earlier kept.deps) kept.notes (dep_uses state.Label subject (record { label = earlier; at = place }) kept.used) refl
-      (sym (append-nil kept.ops)) (ap (λ (s : Option Mention). dep_ended state.Label s verb.Requires earlier kept.deps) is) (sym (append-nil kept.notes)) (λ n. refl) (uses_two earlier place) tt
+      (sym (append-nil kept.ops)) (ap (λ (s : Option Mention). dep_ended state.Label s verb.Requires earlier kept.deps) is) (sym (append-nil kept.notes)) (λ n. refl) (dep_uses_two_labels earlier place) tt
   dependency_is_complete earlier place verb.Irequires order inside =
       item_is_complete kept ks (item_tokens (irequires label earlier)) None inside (irequires label earlier) kept.ops (dep_ended state.Label subject verb.Irequires earlier kept.deps) kept.notes (dep_uses state.Label subject (record { label = earlier; at = place }) kept.used) refl
-      (sym (append-nil kept.ops)) (ap (λ (s : Option Mention). dep_ended state.Label s verb.Irequires earlier kept.deps) is) (sym (append-nil kept.notes)) (λ n. refl) (uses_two earlier place) tt
+      (sym (append-nil kept.ops)) (ap (λ (s : Option Mention). dep_ended state.Label s verb.Irequires earlier kept.deps) is) (sym (append-nil kept.notes)) (λ n. refl) (dep_uses_two_labels earlier place) tt
   dependency_is_complete earlier place _ order inside = absurd order
 
   note_is_complete : (low n : ℕ) (v : Verb) → IsNote v → In kept ks (token.Label label ∷ verb_token v ∷ token.Number low ∷ token.To ∷ token.Number n ∷ []) None →
       In (record kept { used = note_uses state.Note3 subject kept.used; notes = note_ended state.Note3 subject v low n kept.notes }) ks [] None
   note_is_complete low n verb.Moves note inside =
       item_is_complete kept ks (item_tokens (moves label low n)) None inside (moves label low n) kept.ops kept.deps (note_ended state.Note3 subject verb.Moves low n kept.notes) (note_uses state.Note3 subject kept.used) refl
-      (sym (append-nil kept.ops)) (sym (append-nil kept.deps)) (ap (λ (s : Option Mention). note_ended state.Note3 s verb.Moves low n kept.notes) is) (λ n. refl) uses_one tt
+      (sym (append-nil kept.ops)) (sym (append-nil kept.deps)) (ap (λ (s : Option Mention). note_ended state.Note3 s verb.Moves low n kept.notes) is) (λ n. refl) note_uses_one_label tt
   note_is_complete low n verb.Adds note inside =
       item_is_complete kept ks (item_tokens (adds label low n)) None inside (adds label low n) kept.ops kept.deps (note_ended state.Note3 subject verb.Adds low n kept.notes) (note_uses state.Note3 subject kept.used) refl
-      (sym (append-nil kept.ops)) (sym (append-nil kept.deps)) (ap (λ (s : Option Mention). note_ended state.Note3 s verb.Adds low n kept.notes) is) (λ n. refl) uses_one tt
+      (sym (append-nil kept.ops)) (sym (append-nil kept.deps)) (ap (λ (s : Option Mention). note_ended state.Note3 s verb.Adds low n kept.notes) is) (λ n. refl) note_uses_one_label tt
   note_is_complete low n _ note inside = absurd note
 
 step_label : Steps state.Label
@@ -994,7 +994,7 @@ step_send2 _ at kept draft head ks known once fits here = absurd (true≢false k
 
 step_send3 : Steps state.Send3
 unfolding entry ranks_with used_with blocks_with rank_with draft_with head_with ops_with ends_action defined_with deps_with notes_with plans_with
-step_send3 (token.Number n) at kept draft head ks known once fits here = (here.0, here.1, here.2, n, [], item_with_token kept ks (label_tokens here.0 ++ token.Send ∷ amount_token here.2 ∷ token.To ∷ []) here.0 here.3 (token.Number n) (label_tokens here.0 ++ token.Send ∷ amount_token here.2 ∷ token.To ∷ token.Number n ∷ []) (append_assoc (label_tokens here.0) (token.Send ∷ amount_token here.2 ∷ token.To ∷ []) ((token.Number n) ∷ [])), ap (λ (d : Draft). record d { peer = Some n }) here.4, no_option_given)
+step_send3 (token.Number n) at kept draft head ks known once fits here = (here.0, here.1, here.2, n, [], item_with_token kept ks (label_tokens here.0 ++ token.Send ∷ amount_token here.2 ∷ token.To ∷ []) here.0 here.3 (token.Number n) (label_tokens here.0 ++ token.Send ∷ amount_token here.2 ∷ token.To ∷ token.Number n ∷ []) (append_assoc (label_tokens here.0) (token.Send ∷ amount_token here.2 ∷ token.To ∷ []) ((token.Number n) ∷ [])), ap (λ (d : Draft). record d { peer = Some n }) here.4, no_options_are_given_once)
 step_send3 _ at kept draft head ks known once fits here = absurd (true≢false known)
 
 step_send4 : Steps state.Send4
@@ -1016,7 +1016,7 @@ step_send5 (token.Number n) at kept draft head ks known once fits here = (
   here.3,
   here.4 ++ number_setting here.5 n ∷ [],
   item_with_token kept ks (item_tokens (send here.0 here.2 here.3 here.4) ++ option_token here.5 ∷ []) here.0 here.6 (token.Number n) (item_tokens (send here.0 here.2 here.3 (here.4 ++ number_setting here.5 n ∷ [])))
-      (settings_with_another (label_tokens here.0) (token.Send ∷ amount_token here.2 ∷ token.To ∷ token.Number here.3 ∷ []) here.4 (number_setting here.5 n) (option_token here.5) (token.Number n) (setting_is here.5 n)),
+      (settings_with_another (label_tokens here.0) (token.Send ∷ amount_token here.2 ∷ token.To ∷ token.Number here.3 ∷ []) here.4 (number_setting here.5 n) (option_token here.5) (token.Number n) (tokens_of_number_setting here.5 n)),
   ap (λ (d : Draft). option_with d.option n d) here.8 ∙ option_is_settled action.Send (amount here.2) (Some here.3) here.4 here.1 here.5 n here.7,
   once_with_number here.5 n here.4 here.7 here.9,
 )
@@ -1035,8 +1035,8 @@ step_recv2 _ at kept draft head ks known once fits here = absurd (true≢false k
 
 step_recv3 : Steps state.Recv3
 unfolding entry ranks_with used_with blocks_with rank_with draft_with head_with ops_with ends_action defined_with deps_with notes_with plans_with
-step_recv3 (token.Number n) at kept draft head ks known once fits here = (here.0, here.1, here.2, Some n, [], item_with_token kept ks (label_tokens here.0 ++ token.Recv ∷ amount_token here.2 ∷ token.From ∷ []) here.0 here.3 (token.Number n) (label_tokens here.0 ++ token.Recv ∷ amount_token here.2 ∷ token.From ∷ token.Number n ∷ []) (append_assoc (label_tokens here.0) (token.Recv ∷ amount_token here.2 ∷ token.From ∷ []) ((token.Number n) ∷ [])), ap (λ (d : Draft). record d { peer = Some n }) here.4, no_option_given)
-step_recv3 token.Any at kept draft head ks known once fits here = (here.0, here.1, here.2, None, [], item_with_token kept ks (label_tokens here.0 ++ token.Recv ∷ amount_token here.2 ∷ token.From ∷ []) here.0 here.3 token.Any (label_tokens here.0 ++ token.Recv ∷ amount_token here.2 ∷ token.From ∷ token.Any ∷ []) (append_assoc (label_tokens here.0) (token.Recv ∷ amount_token here.2 ∷ token.From ∷ []) (token.Any ∷ [])), ap (λ (d : Draft). record d { peer = None }) here.4, no_option_given)
+step_recv3 (token.Number n) at kept draft head ks known once fits here = (here.0, here.1, here.2, Some n, [], item_with_token kept ks (label_tokens here.0 ++ token.Recv ∷ amount_token here.2 ∷ token.From ∷ []) here.0 here.3 (token.Number n) (label_tokens here.0 ++ token.Recv ∷ amount_token here.2 ∷ token.From ∷ token.Number n ∷ []) (append_assoc (label_tokens here.0) (token.Recv ∷ amount_token here.2 ∷ token.From ∷ []) ((token.Number n) ∷ [])), ap (λ (d : Draft). record d { peer = Some n }) here.4, no_options_are_given_once)
+step_recv3 token.Any at kept draft head ks known once fits here = (here.0, here.1, here.2, None, [], item_with_token kept ks (label_tokens here.0 ++ token.Recv ∷ amount_token here.2 ∷ token.From ∷ []) here.0 here.3 token.Any (label_tokens here.0 ++ token.Recv ∷ amount_token here.2 ∷ token.From ∷ token.Any ∷ []) (append_assoc (label_tokens here.0) (token.Recv ∷ amount_token here.2 ∷ token.From ∷ []) (token.Any ∷ [])), ap (λ (d : Draft). record d { peer = None }) here.4, no_options_are_given_once)
 step_recv3 _ at kept draft head ks known once fits here = absurd (true≢false known)
 
 step_recv4 : Steps state.Recv4
@@ -1058,7 +1058,7 @@ step_recv5 (token.Number n) at kept draft head ks known once fits here = (
   here.3,
   here.4 ++ number_setting option.Tag n ∷ [],
   item_with_token kept ks (item_tokens (recv here.0 here.2 here.3 here.4) ++ option_token option.Tag ∷ []) here.0 here.5 (token.Number n) (item_tokens (recv here.0 here.2 here.3 (here.4 ++ number_setting option.Tag n ∷ [])))
-      (settings_with_another (label_tokens here.0) (token.Recv ∷ amount_token here.2 ∷ token.From ∷ number_or_any here.3 ∷ []) here.4 (number_setting option.Tag n) (option_token option.Tag) (token.Number n) (setting_is option.Tag n)),
+      (settings_with_another (label_tokens here.0) (token.Recv ∷ amount_token here.2 ∷ token.From ∷ number_or_any here.3 ∷ []) here.4 (number_setting option.Tag n) (option_token option.Tag) (token.Number n) (tokens_of_number_setting option.Tag n)),
   ap (λ (d : Draft). option_with d.option n d) here.7 ∙ option_is_settled action.Recv (amount here.2) here.3 here.4 here.1 option.Tag n here.6,
   once_with_number option.Tag n here.4 here.6 here.8,
 )
@@ -1084,7 +1084,7 @@ step_recv6 (token.Number n) at kept draft head ks known once fits here = (
   here.3,
   here.4 ++ number_setting here.5 n ∷ [],
   item_with_token kept ks (item_tokens (recv here.0 here.2 here.3 here.4) ++ option_token here.5 ∷ []) here.0 here.6 (token.Number n) (item_tokens (recv here.0 here.2 here.3 (here.4 ++ number_setting here.5 n ∷ [])))
-      (settings_with_another (label_tokens here.0) (token.Recv ∷ amount_token here.2 ∷ token.From ∷ number_or_any here.3 ∷ []) here.4 (number_setting here.5 n) (option_token here.5) (token.Number n) (setting_is here.5 n)),
+      (settings_with_another (label_tokens here.0) (token.Recv ∷ amount_token here.2 ∷ token.From ∷ number_or_any here.3 ∷ []) here.4 (number_setting here.5 n) (option_token here.5) (token.Number n) (tokens_of_number_setting here.5 n)),
   ap (λ (d : Draft). option_with d.option n d) here.8 ∙ option_is_settled action.Recv (amount here.2) here.3 here.4 here.1 here.5 n here.7,
   once_with_number here.5 n here.4 here.7 here.9,
 )
@@ -1139,9 +1139,9 @@ below_passes state.Block ranks blocks (token.Number n) at h =
 below_passes _ ranks blocks _ at h = tt
 
 module _ (s : State) (draft : Draft) (ranks : ℕ) (blocks : List ℕ) (ds : List Definition) (subject : Option Mention) (counts : Counts) (us : List Mention) (t : Token) where
-  passes_of : fault_by s draft ranks blocks ds subject counts us t ≡ None → Passes s draft ranks blocks ds subject us t.kind
+  faultless_token_passes : fault_by s draft ranks blocks ds subject counts us t ≡ None → Passes s draft ranks blocks ds subject us t.kind
   unfolding fault_by syntax_fault rank_fault option_fault label_fault unknown_fault
-  passes_of h =
+  faultless_token_passes h =
       let last = option_or (count_fault counts t) (unknown_fault ds us t) in
       let labels = option_or (label_fault ds subject t) last in
       let options = option_or (option_fault draft t) labels in
@@ -1161,14 +1161,14 @@ module _ (s : State) (draft : Draft) (ranks : ℕ) (blocks : List ℕ) (ds : Lis
         found = second_is_none (count_fault counts t) (unknown_fault ds us t) (second_is_none (label_fault ds subject t) last behind_option);
       }
 
--- what tokens that fail no test are
+-- the sentences of tokens that fail no test
 abbrev AtEnd : List Token → List TokenKind → Type 0
 AtEnd before ks = At (state_of before) (kept_of before) (draft_of before) (head_of before) ks
 
 sentences_with_token : (before : List Token) (t : Token) (ks : List TokenKind) → token_fault before t ≡ None → AtEnd before ks → AtEnd (t ∷ before) (ks ++ t.kind ∷ [])
 unfolding token_fault state_of draft_of head_of ranks_of used_of blocks_of rank_of ops_of defined_of deps_of notes_of plans_of
 sentences_with_token before t ks passed here =
-    let passes = passes_of (state_of before) (draft_of before) (ranks_of before) (blocks_of before) (defined_of before) (head_of before).subject (counts_of before) (used_of before) t passed in
+    let passes = faultless_token_passes (state_of before) (draft_of before) (ranks_of before) (blocks_of before) (defined_of before) (head_of before).subject (counts_of before) (used_of before) t passed in
     let fits : Fits (state_of before) (kept_of before) (head_of before) t.kind = record { new = passes.new_rank; below = passes.below; fresh = passes.fresh; found = passes.found } in
     step (state_of before) t.kind t.start (kept_of before) (draft_of before) (head_of before) ks passes.known passes.once fits here
 

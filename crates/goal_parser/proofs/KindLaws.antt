@@ -34,9 +34,9 @@ use Rattle.goal_parser.specs.FaultInText.{fault_in_text}
 use Rattle.goal_parser.specs.Slots.{NamesHold}
 use Rattle.goal_parser.specs.Taken.{KeepsHead, HasTaken, Takes, Refuses, IsAction, IsOption, IsVerb, IsPlain}
 use Rattle.goal_parser.proofs.SlotLaws.{option_or-none}
-use Rattle.goal_parser.proofs.ParserLaws.{fault_taken, rank_passes, KeepsHead-next, defined_kept, used_kept, deps_kept, notes_kept}
+use Rattle.goal_parser.proofs.ParserLaws.{fault_by_parser_is_token_fault, rank_passes, KeepsHead-next, defined_kept, used_kept, deps_kept, notes_kept}
 
--- The tests behind that of the sentence.
+-- The tests that follow the test of the sentence.
 
 -- the first of them that a token fails
 abbrev pub rest_fault : Parser → List Token → Token → Option TextFault
@@ -52,23 +52,23 @@ module _ (p : Parser) (before : List Token) where
   abbrev at_kind : Token → TokenKind → Token
   at_kind t k = record { kind = k; start = t.start; end = t.end }
 
-  pub rest_of_number : (t : Token) (n : ℕ) → t.kind ≡ token.Number n
+  pub rest_fault_of_number : (t : Token) (n : ℕ) → t.kind ≡ token.Number n
       → rest_fault p before t ≡ option_or (fault_if (not (number_within p.state p.draft.option n)) (Number t.start)) (numbered_rank_fault p.state p.ranks.count p.ranks.blocks.keys n t.start)
   unfolding number_fault option_fault label_fault count_fault unknown_fault is_within is_too_many rank_fault
-  rest_of_number t n is = subst (λ (k : TokenKind). rest_fault p before (at_kind t k)
+  rest_fault_of_number t n is = subst (λ (k : TokenKind). rest_fault p before (at_kind t k)
       ≡ option_or (fault_if (not (number_within p.state p.draft.option n)) (Number t.start)) (numbered_rank_fault p.state p.ranks.count p.ranks.blocks.keys n t.start)) (sym is)
       (ap (option_or (fault_if (not (number_within p.state p.draft.option n)) (Number t.start)))
       (option_or-none (numbered_rank_fault p.state p.ranks.count p.ranks.blocks.keys n t.start)))
 
-  pub rest_of_size : (t : Token) (n : ℕ) → t.kind ≡ token.Size n → rest_fault p before t ≡ fault_if (not (number_within p.state p.draft.option n)) (Number t.start)
+  pub rest_fault_of_size : (t : Token) (n : ℕ) → t.kind ≡ token.Size n → rest_fault p before t ≡ fault_if (not (number_within p.state p.draft.option n)) (Number t.start)
   unfolding number_fault option_fault label_fault count_fault unknown_fault is_within is_too_many rank_fault
-  rest_of_size t n is = subst (λ (k : TokenKind). rest_fault p before (at_kind t k)
+  rest_fault_of_size t n is = subst (λ (k : TokenKind). rest_fault p before (at_kind t k)
       ≡ fault_if (not (number_within p.state p.draft.option n)) (Number t.start)) (sym is)
       (option_or-none (fault_if (not (number_within p.state p.draft.option n)) (Number t.start)))
 
-  pub rest_of_option : (t : Token) → IsOption t.kind → rest_fault p before t ≡ fault_if (has_option t.kind p.draft) (Repeat t.start)
+  pub rest_fault_of_option : (t : Token) → IsOption t.kind → rest_fault p before t ≡ fault_if (has_option t.kind p.draft) (Repeat t.start)
   unfolding number_fault option_fault label_fault count_fault unknown_fault is_within is_too_many rank_fault
-  rest_of_option t is = by t.kind is
+  rest_fault_of_option t is = by t.kind is
     where
       by : (k : TokenKind) → IsOption k → rest_fault p before (at_kind t k) ≡ fault_if (has_option k p.draft) (Repeat t.start)
       by token.Tag h = option_or-none (fault_if p.draft.has_tag (Repeat t.start))
@@ -76,9 +76,9 @@ module _ (p : Parser) (before : List Token) where
       by token.Nic h = option_or-none (fault_if p.draft.has_nic (Repeat t.start))
       by _ h = absurd h
 
-  pub rest_of_action : (t : Token) → IsAction t.kind → rest_fault p before t ≡ fault_if (is_too_many t.kind p.counts) (TooMany t.start)
+  pub rest_fault_of_action : (t : Token) → IsAction t.kind → rest_fault p before t ≡ fault_if (is_too_many t.kind p.counts) (TooMany t.start)
   unfolding number_fault option_fault label_fault count_fault unknown_fault is_within rank_fault
-  rest_of_action t is = by t.kind is
+  rest_fault_of_action t is = by t.kind is
     where
       by : (k : TokenKind) → IsAction k → rest_fault p before (at_kind t k) ≡ fault_if (is_too_many k p.counts) (TooMany t.start)
       by token.Calc h = option_or-none (fault_if (is_too_many token.Calc p.counts) (TooMany t.start))
@@ -86,9 +86,9 @@ module _ (p : Parser) (before : List Token) where
       by token.Recv h = option_or-none (fault_if (is_too_many token.Recv p.counts) (TooMany t.start))
       by _ h = absurd h
 
-  pub rest_of_verb : (t : Token) → IsVerb t.kind → rest_fault p before t ≡ fault_if (is_too_many t.kind p.counts) (TooMany t.start)
+  pub rest_fault_of_verb : (t : Token) → IsVerb t.kind → rest_fault p before t ≡ fault_if (is_too_many t.kind p.counts) (TooMany t.start)
   unfolding number_fault option_fault label_fault count_fault unknown_fault is_within rank_fault
-  rest_of_verb t is = by t.kind is
+  rest_fault_of_verb t is = by t.kind is
     where
       by : (k : TokenKind) → IsVerb k → rest_fault p before (at_kind t k) ≡ fault_if (is_too_many k p.counts) (TooMany t.start)
       by token.Requires h = option_or-none (fault_if (is_too_many token.Requires p.counts) (TooMany t.start))
@@ -97,26 +97,26 @@ module _ (p : Parser) (before : List Token) where
       by token.Adds h = option_or-none (fault_if (is_too_many token.Adds p.counts) (TooMany t.start))
       by _ h = absurd h
 
-  pub rest_of_colon : (t : Token) → t.kind ≡ token.Colon → rest_fault p before t ≡ defined_fault (defined_of before) p.head.subject
+  pub rest_fault_of_colon : (t : Token) → t.kind ≡ token.Colon → rest_fault p before t ≡ defined_fault (defined_of before) p.head.subject
   unfolding number_fault option_fault label_fault count_fault unknown_fault is_within is_too_many rank_fault
-  rest_of_colon t is = subst (λ (k : TokenKind). rest_fault p before (at_kind t k) ≡ defined_fault (defined_of before) p.head.subject) (sym is)
+  rest_fault_of_colon t is = subst (λ (k : TokenKind). rest_fault p before (at_kind t k) ≡ defined_fault (defined_of before) p.head.subject) (sym is)
       (option_or-none (defined_fault (defined_of before) p.head.subject))
 
-  pub rest_of_close : (t : Token) → t.kind ≡ token.Close → rest_fault p before t ≡ option_map UnknownLabel (first_unknown (defined_of before) (used_of before))
+  pub rest_fault_of_close : (t : Token) → t.kind ≡ token.Close → rest_fault p before t ≡ option_map UnknownLabel (first_unknown (defined_of before) (used_of before))
   unfolding number_fault option_fault label_fault count_fault unknown_fault is_within is_too_many rank_fault
-  rest_of_close t is = subst (λ (k : TokenKind). rest_fault p before (at_kind t k) ≡ option_map UnknownLabel (first_unknown (defined_of before) (used_of before))) (sym is) refl
+  rest_fault_of_close t is = subst (λ (k : TokenKind). rest_fault p before (at_kind t k) ≡ option_map UnknownLabel (first_unknown (defined_of before) (used_of before))) (sym is) refl
 
-  pub rest_of_label : (t : Token) (label : List ℕ) → t.kind ≡ token.Label label → rest_fault p before t ≡ None
+  pub rest_fault_of_label : (t : Token) (label : List ℕ) → t.kind ≡ token.Label label → rest_fault p before t ≡ None
   unfolding number_fault option_fault label_fault count_fault unknown_fault is_within is_too_many rank_fault
-  rest_of_label t label is = subst (λ (k : TokenKind). rest_fault p before (at_kind t k) ≡ None) (sym is) refl
+  rest_fault_of_label t label is = subst (λ (k : TokenKind). rest_fault p before (at_kind t k) ≡ None) (sym is) refl
 
-  pub rest_of_any : (t : Token) → t.kind ≡ token.Any → rest_fault p before t ≡ None
+  pub rest_fault_of_any : (t : Token) → t.kind ≡ token.Any → rest_fault p before t ≡ None
   unfolding number_fault option_fault label_fault count_fault unknown_fault is_within is_too_many rank_fault
-  rest_of_any t is = subst (λ (k : TokenKind). rest_fault p before (at_kind t k) ≡ None) (sym is) refl
+  rest_fault_of_any t is = subst (λ (k : TokenKind). rest_fault p before (at_kind t k) ≡ None) (sym is) refl
 
-  pub rest_of_plain : (t : Token) → IsPlain t.kind → rest_fault p before t ≡ None
+  pub rest_fault_of_plain : (t : Token) → IsPlain t.kind → rest_fault p before t ≡ None
   unfolding number_fault option_fault label_fault count_fault unknown_fault is_within is_too_many rank_fault
-  rest_of_plain t is = by t.kind is
+  rest_fault_of_plain t is = by t.kind is
     where
       by : (k : TokenKind) → IsPlain k → rest_fault p before (at_kind t k) ≡ None
       by token.NumRanks h = refl
@@ -126,19 +126,19 @@ module _ (p : Parser) (before : List Token) where
       by token.Open h = refl
       by _ h = absurd h
 
-  entered_fails_rest_alone : (t : Token) (next : State) → entry p.state t.kind ≡ Some next
+  entered_token_fails_only_rest_tests : (t : Token) (next : State) → entry p.state t.kind ≡ Some next
       → fault_by p.state p.draft p.ranks.count p.ranks.blocks.keys (defined_of before) p.head.subject p.counts (used_of before) t ≡ rest_fault p before t
   unfolding fault_by syntax_fault
-  entered_fails_rest_alone t next enters = ap (λ (o : Option State). option_or (fault_if (is_none o) (Syntax t.start)) (rest_fault p before t)) enters
+  entered_token_fails_only_rest_tests t next enters = ap (λ (o : Option State). option_or (fault_if (is_none o) (Syntax t.start)) (rest_fault p before t)) enters
 
 -- the first test that a token fails, where the sentence may go on with it
 pub rest_fault_is_token_fault : (p : Parser) (before : List Token) (t : Token) (next : State) (fault : Option TextFault) → HasTaken p before → entry p.state t.kind ≡ Some next → rest_fault p before t ≡ fault
     → token_fault before t ≡ fault
-rest_fault_is_token_fault p before t next fault taken enters rest = sym (fault_taken p before t fault taken (sym (entered_fails_rest_alone p before t next enters ∙ rest)))
+rest_fault_is_token_fault p before t next fault taken enters rest = sym (fault_by_parser_is_token_fault p before t fault taken (sym (entered_token_fails_only_rest_tests p before t next enters ∙ rest)))
 
 pub refuses_entry : (p : Parser) (t : Token) → entry p.state t.kind ≡ None → Refuses p t (refused.Syntax t.start)
 unfolding fault_by syntax_fault
-refuses_entry p t none = λ before taken. sym (fault_taken p before t (Some (Syntax t.start)) taken
+refuses_entry p t none = λ before taken. sym (fault_by_parser_is_token_fault p before t (Some (Syntax t.start)) taken
     (sym (ap (λ (o : Option State). option_or (fault_if (is_none o) (Syntax t.start)) (rest_fault p before t)) none)))
 
 pub rest_fault_refuses : (p : Parser) (t : Token) (next : State) (fault : TokenFault) → entry p.state t.kind ≡ Some next
@@ -147,7 +147,7 @@ rest_fault_refuses p t next fault enters rest = λ before taken. rest_fault_is_t
 
 -- What a token gives.
 
--- the names of a block, with a token of this kind more
+-- the names of a block after a token of this kind
 abbrev pub NamesGive : Names → Names → State → TokenKind → ℕ → ItemHead → ℕ → Type 0
 NamesGive old new s k at head op = (ds : List Definition) (us : List Mention) (deps : List NamedDep) (notes : List NamedNote) → NamesHold old ds us deps notes
     → NamesHold new (defined_with k head.subject op ds) (used_with s k at head us) (deps_with s k head deps) (notes_with s k head notes)
@@ -170,7 +170,7 @@ pub record Gives (old new : Parser) (s : State) (k : TokenKind) (at : ℕ) : Typ
   pub names : NamesGive old.block.names new.block.names s k at old.head (length old.block.ops.items)
   pub plans : PlansGive old new s k
 
--- the state behind a token
+-- the state after a token
 state_after_token : (s next : State) (k : TokenKind) → entry s k ≡ Some next → next ≡ unwrap_or (entry s k) s
 state_after_token s next k enters = sym (ap (λ (o : Option State). unwrap_or o s) enters)
 
@@ -215,7 +215,7 @@ pub takes : (old new : Parser) (t : Token) (next : State) → entry old.state t.
     → ((before : List Token) → HasTaken old before → rest_fault old before t ≡ None) → Gives old new old.state t.kind t.start → Takes old t new
 takes old new t next enters rest gives = λ before taken. (rest_fault_is_token_fault old before t next None taken enters (rest before taken), gives_keeps_taken old new t next enters gives before taken)
 
--- What a token leaves, where its kind gives nothing there.
+-- What a token leaves unchanged.
 
 abbrev IsNoNumber : TokenKind → Type 0
 IsNoNumber (token.Number n) = ⊥
@@ -469,56 +469,56 @@ action_begins_item _ is = absurd is
 pub takes_any : (old : Parser) (t : Token) (next : State) (draft : Draft) → entry old.state t.kind ≡ Some next → t.kind ≡ token.Any → draft ≡ draft_with old.state t.kind old.draft
     → Takes old t (record old { state = next; draft = draft })
 takes_any old t next draft enters is drafted =
-    takes old (record old { state = next; draft = draft }) t next enters (λ before taken. rest_of_any old before t is) (gives_any old next draft t.kind t.start is enters drafted)
+    takes old (record old { state = next; draft = draft }) t next enters (λ before taken. rest_fault_of_any old before t is) (gives_any old next draft t.kind t.start is enters drafted)
 
 pub takes_plain : (old : Parser) (t : Token) (next : State) → entry old.state t.kind ≡ Some next → IsPlain t.kind → Takes old t (record old { state = next })
-takes_plain old t next enters is = takes old (record old { state = next }) t next enters (λ before taken. rest_of_plain old before t is) (gives_plain old next t.kind t.start enters is)
+takes_plain old t next enters is = takes old (record old { state = next }) t next enters (λ before taken. rest_fault_of_plain old before t is) (gives_plain old next t.kind t.start enters is)
 
 pub takes_option : (old : Parser) (t : Token) (next : State) (draft : Draft) → entry old.state t.kind ≡ Some next → IsOption t.kind → has_option t.kind old.draft ≡ false
     → draft ≡ draft_with old.state t.kind old.draft → Takes old t (record old { state = next; draft = draft })
 takes_option old t next draft enters is new drafted =
-    takes old (record old { state = next; draft = draft }) t next enters (λ before taken. rest_of_option old before t is ∙ ap (λ (b : Bool). fault_if b (Repeat t.start)) new)
+    takes old (record old { state = next; draft = draft }) t next enters (λ before taken. rest_fault_of_option old before t is ∙ ap (λ (b : Bool). fault_if b (Repeat t.start)) new)
     (gives_option old next draft t.kind t.start enters is drafted)
 
 pub refuses_option : (old : Parser) (t : Token) (next : State) → entry old.state t.kind ≡ Some next → IsOption t.kind → has_option t.kind old.draft ≡ true → Refuses old t (refused.Repeat t.start)
 refuses_option old t next enters is again =
-    rest_fault_refuses old t next (refused.Repeat t.start) enters (λ before taken. rest_of_option old before t is ∙ ap (λ (b : Bool). fault_if b (Repeat t.start)) again)
+    rest_fault_refuses old t next (refused.Repeat t.start) enters (λ before taken. rest_fault_of_option old before t is ∙ ap (λ (b : Bool). fault_if b (Repeat t.start)) again)
 
 pub takes_size : (old : Parser) (t : Token) (next : State) (draft : Draft) (n : ℕ) → entry old.state t.kind ≡ Some next → t.kind ≡ token.Size n → number_within old.state old.draft.option n ≡ true
     → draft ≡ draft_with old.state t.kind old.draft → Takes old t (record old { state = next; draft = draft })
 takes_size old t next draft n enters is within drafted =
-    takes old (record old { state = next; draft = draft }) t next enters (λ before taken. rest_of_size old before t n is ∙ ap (λ (b : Bool). fault_if (not b) (Number t.start)) within)
+    takes old (record old { state = next; draft = draft }) t next enters (λ before taken. rest_fault_of_size old before t n is ∙ ap (λ (b : Bool). fault_if (not b) (Number t.start)) within)
     (gives_size old next draft n t.kind t.start is enters drafted)
 
 pub refuses_size : (old : Parser) (t : Token) (next : State) (n : ℕ) → entry old.state t.kind ≡ Some next → t.kind ≡ token.Size n → number_within old.state old.draft.option n ≡ false → Refuses old t (refused.Number t.start)
 refuses_size old t next n enters is beyond =
-    rest_fault_refuses old t next (refused.Number t.start) enters (λ before taken. rest_of_size old before t n is ∙ ap (λ (b : Bool). fault_if (not b) (Number t.start)) beyond)
+    rest_fault_refuses old t next (refused.Number t.start) enters (λ before taken. rest_fault_of_size old before t n is ∙ ap (λ (b : Bool). fault_if (not b) (Number t.start)) beyond)
 
 pub takes_action : (old new : Parser) (t : Token) (next : State) → entry old.state t.kind ≡ Some next → IsAction t.kind → is_too_many t.kind old.counts ≡ false
     → new.state ≡ next → new.ranks ≡ old.ranks → new.counts ≡ counts_with t.kind old.counts → new.draft ≡ draft_with old.state t.kind old.draft → new.head ≡ old.head
     → new.block.ops.items ≡ ended_ops old.state t.kind (op_of old.draft) old.block.ops.items → new.block.names ≡ old.block.names → new.plans ≡ old.plans
     → Takes old t new
 takes_action old new t next enters is few stated ranked counted drafted headed opened named planned =
-    takes old new t next enters (λ before taken. rest_of_action old before t is ∙ ap (λ (b : Bool). fault_if b (TooMany t.start)) few)
+    takes old new t next enters (λ before taken. rest_fault_of_action old before t is ∙ ap (λ (b : Bool). fault_if b (TooMany t.start)) few)
     (gives_action old new next t.kind t.start enters is stated ranked counted drafted headed opened named planned)
 
 pub refuses_action : (old : Parser) (t : Token) (next : State) → entry old.state t.kind ≡ Some next → IsAction t.kind → is_too_many t.kind old.counts ≡ true → Refuses old t (refused.TooMany t.start)
 refuses_action old t next enters is many =
-    rest_fault_refuses old t next (refused.TooMany t.start) enters (λ before taken. rest_of_action old before t is ∙ ap (λ (b : Bool). fault_if b (TooMany t.start)) many)
+    rest_fault_refuses old t next (refused.TooMany t.start) enters (λ before taken. rest_fault_of_action old before t is ∙ ap (λ (b : Bool). fault_if b (TooMany t.start)) many)
 
 pub takes_verb : (old : Parser) (t : Token) (next : State) (counts : Counts) (head : ItemHead) → entry old.state t.kind ≡ Some next → IsVerb t.kind → is_too_many t.kind old.counts ≡ false
     → counts ≡ counts_with t.kind old.counts → head ≡ verb_head t.kind old.head → Takes old t (record old { state = next; counts = counts; head = head })
 takes_verb old t next counts head enters is few counted headed =
-    takes old (record old { state = next; counts = counts; head = head }) t next enters (λ before taken. rest_of_verb old before t is ∙ ap (λ (b : Bool). fault_if b (TooMany t.start)) few)
+    takes old (record old { state = next; counts = counts; head = head }) t next enters (λ before taken. rest_fault_of_verb old before t is ∙ ap (λ (b : Bool). fault_if b (TooMany t.start)) few)
     (gives_verb old next counts head t.kind t.start enters is counted headed)
 
 pub refuses_verb : (old : Parser) (t : Token) (next : State) → entry old.state t.kind ≡ Some next → IsVerb t.kind → is_too_many t.kind old.counts ≡ true → Refuses old t (refused.TooMany t.start)
 refuses_verb old t next enters is many =
-    rest_fault_refuses old t next (refused.TooMany t.start) enters (λ before taken. rest_of_verb old before t is ∙ ap (λ (b : Bool). fault_if b (TooMany t.start)) many)
+    rest_fault_refuses old t next (refused.TooMany t.start) enters (λ before taken. rest_fault_of_verb old before t is ∙ ap (λ (b : Bool). fault_if b (TooMany t.start)) many)
 
 pub refuses_colon : (old : Parser) (t : Token) (next : State) (fault : TokenFault) → entry old.state t.kind ≡ Some next → t.kind ≡ token.Colon
     → ((before : List Token) → HasTaken old before → defined_fault (defined_of before) old.head.subject ≡ Some (fault_in_text fault)) → Refuses old t fault
-refuses_colon old t next fault enters is again = rest_fault_refuses old t next fault enters (λ before taken. rest_of_colon old before t is ∙ again before taken)
+refuses_colon old t next fault enters is again = rest_fault_refuses old t next fault enters (λ before taken. rest_fault_of_colon old before t is ∙ again before taken)
 
 pub takes_colon : (old new : Parser) (t : Token) (next : State) (op : ℕ) → entry old.state t.kind ≡ Some next → t.kind ≡ token.Colon → op ≡ length old.block.ops.items
     → new.state ≡ next → new.ranks ≡ old.ranks → new.counts ≡ old.counts → new.draft ≡ old.draft → new.head ≡ old.head → new.block.ops ≡ old.block.ops → new.plans ≡ old.plans
@@ -528,7 +528,7 @@ pub takes_colon : (old new : Parser) (t : Token) (next : State) (op : ℕ) → e
 unfolding counts_with draft_with head_with defined_with used_with deps_with notes_with plans_with
 takes_colon old new t next op enters is counted stated ranked same drafted headed opened planned names =
     takes old new t next enters
-    (λ before taken. rest_of_colon old before t is ∙ (names (defined_of before) (used_of before) (deps_of before) (notes_of before) taken.names).0)
+    (λ before taken. rest_fault_of_colon old before t is ∙ (names (defined_of before) (used_of before) (deps_of before) (notes_of before) taken.names).0)
     (subst (λ (k : TokenKind). entry old.state k ≡ Some next → Gives old new old.state k t.start) (sym is) (λ enters_here. record {
       state = stated ∙ state_after_token old.state next token.Colon enters_here;
       ranks = (λ i. (ranked i).count) ∙ ranks_stay_without_number old.state token.Colon old.ranks.count tt;
@@ -545,7 +545,7 @@ takes_colon old new t next op enters is counted stated ranked same drafted heade
 pub refuses_close : (old : Parser) (t : Token) (next : State) (at : ℕ) → entry old.state t.kind ≡ Some next → t.kind ≡ token.Close
     → ((before : List Token) → HasTaken old before → first_unknown (defined_of before) (used_of before) ≡ Some at) → Refuses old t (refused.UnknownLabel at)
 refuses_close old t next at enters is unknown =
-    rest_fault_refuses old t next (refused.UnknownLabel at) enters (λ before taken. rest_of_close old before t is ∙ ap (option_map UnknownLabel) (unknown before taken))
+    rest_fault_refuses old t next (refused.UnknownLabel at) enters (λ before taken. rest_fault_of_close old before t is ∙ ap (option_map UnknownLabel) (unknown before taken))
 
 pub takes_close : (old new : Parser) (t : Token) (next : State) (plan : Plan) → entry old.state t.kind ≡ Some next → t.kind ≡ token.Close
     → ((before : List Token) → HasTaken old before → first_unknown (defined_of before) (used_of before) ≡ None)
@@ -556,7 +556,7 @@ pub takes_close : (old new : Parser) (t : Token) (next : State) (plan : Plan) �
     → new.plans.items ≡ slice_set old.plans.items old.ranks.present plan → Takes old t new
 unfolding counts_with draft_with head_with ops_with defined_with used_with deps_with notes_with plans_with
 takes_close old new t next plan enters is known stated ranked same drafted headed opened names planned put =
-    takes old new t next enters (λ before taken. rest_of_close old before t is ∙ ap (option_map UnknownLabel) (known before taken))
+    takes old new t next enters (λ before taken. rest_fault_of_close old before t is ∙ ap (option_map UnknownLabel) (known before taken))
     (subst (λ (k : TokenKind). entry old.state k ≡ Some next → Gives old new old.state k t.start) (sym is) (λ enters_here. record {
       state = stated ∙ state_after_token old.state next token.Close enters_here;
       ranks = (λ i. (ranked i).count) ∙ ranks_stay_without_number old.state token.Close old.ranks.count tt;
@@ -570,7 +570,7 @@ takes_close old new t next plan enters is known stated ranked same drafted heade
       plans = λ ds us deps notes holds. put ∙ ap (slice_set old.plans.items old.ranks.present) (planned ds us deps notes holds);
     }) enters)
 
--- a label behind `requires` or `irequires`
+-- a label after `requires` or `irequires`
 pub takes_earlier : (old new : Parser) (t : Token) (next : State) (label : List ℕ) → entry old.state t.kind ≡ Some next → t.kind ≡ token.Label label → old.state ≡ state.Label
     → new.state ≡ next → new.ranks ≡ old.ranks → new.counts ≡ old.counts → new.draft ≡ old.draft → new.head ≡ old.head → new.block.ops ≡ old.block.ops → new.plans ≡ old.plans
     → ((ds : List Definition) (us : List Mention) (deps : List NamedDep) (notes : List NamedNote) → NamesHold old.block.names ds us deps notes
@@ -578,7 +578,7 @@ pub takes_earlier : (old new : Parser) (t : Token) (next : State) (label : List 
     → Takes old t new
 unfolding ranks_with rank_with blocks_with counts_with draft_with head_with ops_with ends_action defined_with used_with deps_with notes_with plans_with
 takes_earlier old new t next label enters is here stated ranked same drafted headed opened planned names =
-    takes old new t next enters (λ before taken. rest_of_label old before t label is)
+    takes old new t next enters (λ before taken. rest_fault_of_label old before t label is)
     (subst (λ (z : State × TokenKind). entry z.0 z.1 ≡ Some next → Gives old new z.0 z.1 t.start) (λ i. (sym here i, sym is i)) (λ enters_here. record {
       state = stated ∙ state_after_token state.Label next (token.Label label) enters_here;
       ranks = λ i. (ranked i).count;
@@ -597,7 +597,7 @@ pub takes_label : (old new : Parser) (t : Token) (next : State) (label : List �
     → new.block.ops.items ≡ ended_ops old.state t.kind (op_of old.draft) old.block.ops.items → new.block.names ≡ old.block.names → new.plans ≡ old.plans
     → Takes old t new
 takes_label old new t next label enters is other stated ranked same drafted headed opened named planned =
-    takes old new t next enters (λ before taken. rest_of_label old before t label is)
+    takes old new t next enters (λ before taken. rest_fault_of_label old before t label is)
     (subst (λ (k : TokenKind). entry old.state k ≡ Some next → new.block.ops.items ≡ ended_ops old.state k (op_of old.draft) old.block.ops.items → Gives old new old.state k t.start) (sym is)
     (λ enters_here opened_here. gives_label old new next label t.start other enters_here stated ranked same drafted headed opened_here named planned) enters opened)
 
@@ -605,20 +605,20 @@ takes_label old new t next label enters is other stated ranked same drafted head
 
 module _ (old : Parser) (t : Token) (next : State) (n : ℕ) (enters : entry old.state t.kind ≡ Some next) (is : t.kind ≡ token.Number n) where
   pub refuses_number : number_within old.state old.draft.option n ≡ false → Refuses old t (refused.Number t.start)
-  refuses_number beyond = rest_fault_refuses old t next (refused.Number t.start) enters (λ before taken. rest_of_number old before t n is
+  refuses_number beyond = rest_fault_refuses old t next (refused.Number t.start) enters (λ before taken. rest_fault_of_number old before t n is
       ∙ ap (λ (b : Bool). option_or (fault_if (not b) (Number t.start)) (numbered_rank_fault old.state old.ranks.count old.ranks.blocks.keys n t.start)) beyond)
 
   rank_fault_of_number : rank_fault old.state old.ranks.count old.ranks.blocks.keys t ≡ numbered_rank_fault old.state old.ranks.count old.ranks.blocks.keys n t.start
   unfolding rank_fault
   rank_fault_of_number = ap (λ (k : TokenKind). rank_fault_of old.state old.ranks.count old.ranks.blocks.keys k t.start) is
 
-  number_within_fails_as_rank_alone : number_within old.state old.draft.option n ≡ true → (before : List Token)
+  number_within_fails_only_rank_test : number_within old.state old.draft.option n ≡ true → (before : List Token)
       → rest_fault old before t ≡ numbered_rank_fault old.state old.ranks.count old.ranks.blocks.keys n t.start
-  number_within_fails_as_rank_alone within before = rest_of_number old before t n is
+  number_within_fails_only_rank_test within before = rest_fault_of_number old before t n is
       ∙ ap (λ (b : Bool). option_or (fault_if (not b) (Number t.start)) (numbered_rank_fault old.state old.ranks.count old.ranks.blocks.keys n t.start)) within
 
   pub refuses_rank : (fault : TokenFault) → number_within old.state old.draft.option n ≡ true → Some (fault_in_text fault) ≡ rank_fault old.state old.ranks.count old.ranks.blocks.keys t → Refuses old t fault
-  refuses_rank fault within ranked = rest_fault_refuses old t next fault enters (λ before taken. number_within_fails_as_rank_alone within before ∙ sym (ranked ∙ rank_fault_of_number))
+  refuses_rank fault within ranked = rest_fault_refuses old t next fault enters (λ before taken. number_within_fails_only_rank_test within before ∙ sym (ranked ∙ rank_fault_of_number))
 
   pub faultless_rank_is_new : old.state ≡ state.Block → None ≡ rank_fault old.state old.ranks.count old.ranks.blocks.keys t → list_any (nat_eq n) old.ranks.blocks.keys ≡ false
   faultless_rank_is_new here passes = subst (λ (z : State × TokenKind). IsNewRank z.0 old.ranks.blocks.keys z.1) (λ i. (here i, is i))
@@ -631,7 +631,7 @@ module _ (old : Parser) (t : Token) (next : State) (n : ℕ) (enters : entry old
     no_rank_fault_outside_block _ other = refl
 
     takes_number_outside_block : (new : Parser) → (old.state ≡ state.Block → ⊥) → Gives old new old.state (token.Number n) t.start → Takes old t new
-    takes_number_outside_block new other gives = takes old new t next enters (λ before taken. number_within_fails_as_rank_alone within before ∙ no_rank_fault_outside_block old.state other)
+    takes_number_outside_block new other gives = takes old new t next enters (λ before taken. number_within_fails_only_rank_test within before ∙ no_rank_fault_outside_block old.state other)
         (subst (λ (k : TokenKind). Gives old new old.state k t.start) (sym is) gives)
 
     enters_number : entry old.state (token.Number n) ≡ Some next
@@ -704,7 +704,7 @@ module _ (old : Parser) (t : Token) (next : State) (n : ℕ) (enters : entry old
         → new.counts ≡ old.counts → new.draft ≡ old.draft → new.head ≡ old.head → new.block ≡ old.block → new.plans ≡ old.plans → Takes old t new
     unfolding ranks_with rank_with blocks_with counts_with draft_with head_with ops_with ends_action defined_with used_with deps_with notes_with plans_with
     takes_rank new here passes stated counted present blocks same drafted headed blocked planned =
-        takes old new t next enters (λ before taken. number_within_fails_as_rank_alone within before ∙ sym rank_fault_of_number ∙ sym passes)
+        takes old new t next enters (λ before taken. number_within_fails_only_rank_test within before ∙ sym rank_fault_of_number ∙ sym passes)
         (subst (λ (z : State × TokenKind). entry z.0 z.1 ≡ Some next → Gives old new z.0 z.1 t.start) (λ i. (sym here i, sym is i)) (λ enters_here. record {
           state = stated ∙ state_after_token state.Block next (token.Number n) enters_here;
           ranks = counted;
@@ -718,7 +718,7 @@ module _ (old : Parser) (t : Token) (next : State) (n : ℕ) (enters : entry old
           plans = λ ds us deps notes holds. λ i. (planned i).items;
         }) enters)
 
--- Values that are within their limits, or aren't there.
+-- Values that are within their limits or absent.
 
 pub within_any : (s : State) (o : OptionWord) (k : TokenKind) → k ≡ token.Any → is_within s o k ≡ true
 unfolding is_within
@@ -746,7 +746,7 @@ pub within_number : (s : State) (o : OptionWord) (k : TokenKind) (n : ℕ) → k
 unfolding is_within
 within_number s o k n is within = ap (λ (k : TokenKind). is_within s o k) is ∙ within
 
--- What is known of a call, in each of its answers.
+-- Combining and weakening what is known of a call's result.
 
 pub on_ok_of_both : {A E : Type 0} (r : Result A E) (P Q R : Type 0) → OnOk r P → OnOk r Q → (P → Q → R) → OnOk r R
 on_ok_of_both (Ok x) P Q R p q both = both p q

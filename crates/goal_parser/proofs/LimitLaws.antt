@@ -1,4 +1,4 @@
--- In a text without a fault the counts and the values keep their limits.
+-- In a text without a fault, the counts and the values are within their limits.
 use Rattle.std.proofs.Common.{◌≡◌, ℕ, ◌+◌, ◌*◌, ◌<◌, ◌≤◌, inl, inr, Bool, true, false, ◌&&◌, List, [], ◌∷◌, ◌++◌, length, reverse, replicate, slice_set, nat_le, Option, Some, None, is_none, unwrap_or, refl, sym, ap, subst, ◌∙◌, arith, append_assoc, length-append}
 use Rattle.std.specs.Prelude.{⊤, ◌==◌, if◌then◌else◌, slice_index_or}
 use Rattle.std.specs.List.{AllByRecursion, sum_by}
@@ -41,33 +41,33 @@ use Rattle.goal_parser.specs.Reads.{first_fault, last_fault, text_fault, text_pl
 use Rattle.goal_graph.specs.Limits.{HasValue, HaveValues, AreWithinLimits}
 use Rattle.goal_parser.proofs.ParserLaws.{first_is_none, second_is_none, no_fault_if_false, number_passes, count_passes}
 
--- an operation, a dependency or a note has begun in this state, and isn't kept yet
-abbrev acting : State → ℕ
-acting state.Calc1 = 1
-acting state.Calc2 = 1
-acting state.Calc3 = 1
-acting state.Send1 = 1
-acting state.Send2 = 1
-acting state.Send3 = 1
-acting state.Send4 = 1
-acting state.Send5 = 1
-acting state.Recv1 = 1
-acting state.Recv2 = 1
-acting state.Recv3 = 1
-acting state.Recv4 = 1
-acting state.Recv5 = 1
-acting state.Recv6 = 1
-acting _ = 0
+-- 1 if an operation, a dependency or a note has begun in this state and is not kept yet, else 0
+abbrev unfinished_ops : State → ℕ
+unfinished_ops state.Calc1 = 1
+unfinished_ops state.Calc2 = 1
+unfinished_ops state.Calc3 = 1
+unfinished_ops state.Send1 = 1
+unfinished_ops state.Send2 = 1
+unfinished_ops state.Send3 = 1
+unfinished_ops state.Send4 = 1
+unfinished_ops state.Send5 = 1
+unfinished_ops state.Recv1 = 1
+unfinished_ops state.Recv2 = 1
+unfinished_ops state.Recv3 = 1
+unfinished_ops state.Recv4 = 1
+unfinished_ops state.Recv5 = 1
+unfinished_ops state.Recv6 = 1
+unfinished_ops _ = 0
 
-abbrev depending : State → ℕ
-depending state.Label = 1
-depending _ = 0
+abbrev unfinished_deps : State → ℕ
+unfinished_deps state.Label = 1
+unfinished_deps _ = 0
 
-abbrev noting : State → ℕ
-noting state.Note1 = 1
-noting state.Note2 = 1
-noting state.Note3 = 1
-noting _ = 0
+abbrev unfinished_notes : State → ℕ
+unfinished_notes state.Note1 = 1
+unfinished_notes state.Note2 = 1
+unfinished_notes state.Note3 = 1
+unfinished_notes _ = 0
 
 -- how many of each a token begins, and keeps
 abbrev begun_ops : TokenKind → ℕ
@@ -97,24 +97,24 @@ abbrev kept_notes : State → TokenKind → ℕ
 kept_notes state.Note3 (token.Number n) = 1
 kept_notes _ _ = 0
 
--- the state behind the token
+-- the state after the token
 abbrev state_after : State → TokenKind → State
 state_after s k = unwrap_or (entry s k) s
 
--- what is kept had begun
-ops_begun : (s : State) (k : TokenKind) → nat_le (kept_ops s k + acting (state_after s k)) (acting s + begun_ops k) ≡ true
+-- each operation, dependency or note had begun before it is kept
+ops_begun : (s : State) (k : TokenKind) → nat_le (kept_ops s k + unfinished_ops (state_after s k)) (unfinished_ops s + begun_ops k) ≡ true
 unfolding ends_action entry
 ops_begun state.Start token.Calc = refl
 ops_begun _ token.Calc = refl
 ops_begun _ _ = refl
 
-deps_begun : (s : State) (k : TokenKind) → nat_le (kept_deps s k + depending (state_after s k)) (depending s + begun_deps k) ≡ true
+deps_begun : (s : State) (k : TokenKind) → nat_le (kept_deps s k + unfinished_deps (state_after s k)) (unfinished_deps s + begun_deps k) ≡ true
 unfolding entry
 deps_begun state.Start token.Calc = refl
 deps_begun _ token.Calc = refl
 deps_begun _ _ = refl
 
-notes_begun : (s : State) (k : TokenKind) → nat_le (kept_notes s k + noting (state_after s k)) (noting s + begun_notes k) ≡ true
+notes_begun : (s : State) (k : TokenKind) → nat_le (kept_notes s k + unfinished_notes (state_after s k)) (unfinished_notes s + begun_notes k) ≡ true
 unfolding entry
 notes_begun state.Start token.Calc = refl
 notes_begun _ token.Calc = refl
@@ -147,28 +147,28 @@ record AreFew (counts : Counts) : Type 0 where
   deps : counts.deps ≤ MAX_DEPS
   notes : counts.notes ≤ MAX_NOTES
 
-room_for_next : (limit n : ℕ) → nat_le limit n ≡ false → n + 1 ≤ limit
-room_for_next limit n h = let below : n < limit = leb-false limit n h in omega arith
+successor_fits_below_limit : (limit n : ℕ) → nat_le limit n ≡ false → n + 1 ≤ limit
+successor_fits_below_limit limit n h = let below : n < limit = leb-false limit n h in omega arith
 
-few_with : (k : TokenKind) (counts : Counts) → is_too_many k counts ≡ false → AreFew counts → AreFew (counts_with k counts)
+counts_stay_few : (k : TokenKind) (counts : Counts) → is_too_many k counts ≡ false → AreFew counts → AreFew (counts_with k counts)
 unfolding counts_with is_too_many
-few_with token.Calc counts h few = record { ops = room_for_next MAX_OPS counts.ops h; deps = few.deps; notes = few.notes }
-few_with token.Send counts h few = record { ops = room_for_next MAX_OPS counts.ops h; deps = few.deps; notes = few.notes }
-few_with token.Recv counts h few = record { ops = room_for_next MAX_OPS counts.ops h; deps = few.deps; notes = few.notes }
-few_with token.Requires counts h few = record { ops = few.ops; deps = room_for_next MAX_DEPS counts.deps h; notes = few.notes }
-few_with token.Irequires counts h few = record { ops = few.ops; deps = room_for_next MAX_DEPS counts.deps h; notes = few.notes }
-few_with token.Moves counts h few = record { ops = few.ops; deps = few.deps; notes = room_for_next MAX_NOTES counts.notes h }
-few_with token.Adds counts h few = record { ops = few.ops; deps = few.deps; notes = room_for_next MAX_NOTES counts.notes h }
-few_with _ counts h few = few
+counts_stay_few token.Calc counts h few = record { ops = successor_fits_below_limit MAX_OPS counts.ops h; deps = few.deps; notes = few.notes }
+counts_stay_few token.Send counts h few = record { ops = successor_fits_below_limit MAX_OPS counts.ops h; deps = few.deps; notes = few.notes }
+counts_stay_few token.Recv counts h few = record { ops = successor_fits_below_limit MAX_OPS counts.ops h; deps = few.deps; notes = few.notes }
+counts_stay_few token.Requires counts h few = record { ops = few.ops; deps = successor_fits_below_limit MAX_DEPS counts.deps h; notes = few.notes }
+counts_stay_few token.Irequires counts h few = record { ops = few.ops; deps = successor_fits_below_limit MAX_DEPS counts.deps h; notes = few.notes }
+counts_stay_few token.Moves counts h few = record { ops = few.ops; deps = few.deps; notes = successor_fits_below_limit MAX_NOTES counts.notes h }
+counts_stay_few token.Adds counts h few = record { ops = few.ops; deps = few.deps; notes = successor_fits_below_limit MAX_NOTES counts.notes h }
+counts_stay_few _ counts h few = few
 
 -- the end of a block moves what it has kept to the plan of its rank
-abbrev closing : TokenKind → ℕ → ℕ
-closing token.Close n = n
-closing _ n = 0
+abbrev count_if_closing : TokenKind → ℕ → ℕ
+count_if_closing token.Close n = n
+count_if_closing _ n = 0
 
 module _ (f : Plan → ℕ) where
-  put_sum : (ps : List Plan) (rank : ℕ) (plan : Plan) → sum_by f (slice_set ps rank plan) ≤ sum_by f ps + f plan
-  put_sum ps rank plan = elim (cases_lt rank (length ps)) [
+  sum_after_slice_set : (ps : List Plan) (rank : ℕ) (plan : Plan) → sum_by f (slice_set ps rank plan) ≤ sum_by f ps + f plan
+  sum_after_slice_set ps rank plan = elim (cases_lt rank (length ps)) [
     | inl lt ↦ (let e : sum_by f (slice_set ps rank plan) + f (slice_index_or ps rank empty_plan) ≡ sum_by f ps + f plan = sum_by-set f ps rank plan empty_plan lt in omega arith)
     | inr ge ↦ subst (λ (l : List Plan). sum_by f l ≤ sum_by f ps + f plan) (sym (set_past ps rank plan ge)) (omega arith)
   ]
@@ -178,9 +178,9 @@ module _ (f : Plan → ℕ) where
       let e : sum_by f (replicate n empty_plan) ≡ n * 0 = sum_by-replicate f n empty_plan ∙ ap (λ m. n * m) none in omega arith
   first_sum none _ n ps = omega arith
 
-  plans_sum : f empty_plan ≡ 0 → (s : State) (k : TokenKind) (rank : ℕ) (plan : Plan) (ps : List Plan) → sum_by f (plans_with s k rank plan ps) ≤ sum_by f ps + closing k (f plan)
+  plans_sum : f empty_plan ≡ 0 → (s : State) (k : TokenKind) (rank : ℕ) (plan : Plan) (ps : List Plan) → sum_by f (plans_with s k rank plan ps) ≤ sum_by f ps + count_if_closing k (f plan)
   unfolding plans_with
-  plans_sum none s token.Close rank plan ps = put_sum ps rank plan
+  plans_sum none s token.Close rank plan ps = sum_after_slice_set ps rank plan
   plans_sum none s (token.Number n) rank plan ps = let h = first_sum none s n ps in omega arith
   plans_sum none s _ rank plan ps = omega arith
 
@@ -188,12 +188,12 @@ ended_length : (b : Bool) (op : Op) (ops : List Op) → length (if b then ops ++
 ended_length true op ops = length-append ops (op ∷ [])
 ended_length false op ops = omega arith
 
-ops_length : (s : State) (k : TokenKind) (op : Op) (ops : List Op) → length (ops_with s k op ops) + closing k (length (ended_ops s token.Close op ops)) ≡ length ops + kept_ops s k
+ops_length : (s : State) (k : TokenKind) (op : Op) (ops : List Op) → length (ops_with s k op ops) + count_if_closing k (length (ended_ops s token.Close op ops)) ≡ length ops + kept_ops s k
 unfolding ops_with
 ops_length s token.Close op ops = let e = ended_length (ends_action s token.Close) op ops in omega arith
 ops_length s k op ops = let e = ended_length (ends_action s k) op ops in omega arith
 
-deps_length : (s : State) (k : TokenKind) (head : ItemHead) (deps : List NamedDep) → length (deps_with s k head deps) + closing k (length deps) ≤ length deps + kept_deps s k
+deps_length : (s : State) (k : TokenKind) (head : ItemHead) (deps : List NamedDep) → length (deps_with s k head deps) + count_if_closing k (length deps) ≤ length deps + kept_deps s k
 unfolding deps_with
 deps_length state.Label (token.Label label) head deps = by head.subject
   where
@@ -203,7 +203,7 @@ deps_length state.Label (token.Label label) head deps = by head.subject
 deps_length _ token.Close head deps = omega arith
 deps_length _ _ head deps = omega arith
 
-notes_length : (s : State) (k : TokenKind) (head : ItemHead) (notes : List NamedNote) → length (notes_with s k head notes) + closing k (length notes) ≤ length notes + kept_notes s k
+notes_length : (s : State) (k : TokenKind) (head : ItemHead) (notes : List NamedNote) → length (notes_with s k head notes) + count_if_closing k (length notes) ≤ length notes + kept_notes s k
 unfolding notes_with
 notes_length state.Note3 (token.Number n) head notes = by head.subject
   where
@@ -349,33 +349,33 @@ ended_action_has_value state.Send4 k d h e = subst (λ (a : Action). value_fits 
 ended_action_has_value state.Recv4 k d h e = subst (λ (a : Action). value_fits (kind_of a d) d.nic ≡ true) (sym h.0) (le-leb d.size MAX_BYTES h.1)
 ended_action_has_value _ k d h e = absurd (true≢false (sym e))
 
-ended_all : (b : Bool) (op : Op) (ops : List Op) → (b ≡ true → HasValue op) → AllByRecursion HasValue ops → AllByRecursion HasValue (if b then ops ++ op ∷ [] else ops)
-ended_all true op ops v all = All-append HasValue ops (op ∷ []) all (v refl, tt)
-ended_all false op ops v all = all
+all_have_value_if_op_appended : (b : Bool) (op : Op) (ops : List Op) → (b ≡ true → HasValue op) → AllByRecursion HasValue ops → AllByRecursion HasValue (if b then ops ++ op ∷ [] else ops)
+all_have_value_if_op_appended true op ops v all = All-append HasValue ops (op ∷ []) all (v refl, tt)
+all_have_value_if_op_appended false op ops v all = all
 
-ops_all : (s : State) (k : TokenKind) (op : Op) (ops : List Op) → (ends_action s k ≡ true → HasValue op) → AllByRecursion HasValue ops → AllByRecursion HasValue (ops_with s k op ops)
+ops_with_token_have_values : (s : State) (k : TokenKind) (op : Op) (ops : List Op) → (ends_action s k ≡ true → HasValue op) → AllByRecursion HasValue ops → AllByRecursion HasValue (ops_with s k op ops)
 unfolding ops_with
-ops_all s token.Close op ops v all = tt
-ops_all s k op ops v all = ended_all (ends_action s k) op ops v all
+ops_with_token_have_values s token.Close op ops v all = tt
+ops_with_token_have_values s k op ops v all = all_have_value_if_op_appended (ends_action s k) op ops v all
 
 abbrev KeptValues : Plan → Type 0
 KeptValues p = AllByRecursion HasValue p.ops
 
-first_all : (s : State) (n : ℕ) (ps : List Plan) → AllByRecursion KeptValues ps → AllByRecursion KeptValues (first_plans s n ps)
-first_all state.Ranks n ps all = recursion_from_All KeptValues (replicate n empty_plan) (All-replicate KeptValues n empty_plan tt)
-first_all _ n ps all = all
+first_plans_have_values : (s : State) (n : ℕ) (ps : List Plan) → AllByRecursion KeptValues ps → AllByRecursion KeptValues (first_plans s n ps)
+first_plans_have_values state.Ranks n ps all = recursion_from_All KeptValues (replicate n empty_plan) (All-replicate KeptValues n empty_plan tt)
+first_plans_have_values _ n ps all = all
 
-plans_all : (s : State) (k : TokenKind) (rank : ℕ) (plan : Plan) (ps : List Plan) → KeptValues plan → AllByRecursion KeptValues ps → AllByRecursion KeptValues (plans_with s k rank plan ps)
+plans_with_token_have_values : (s : State) (k : TokenKind) (rank : ℕ) (plan : Plan) (ps : List Plan) → KeptValues plan → AllByRecursion KeptValues ps → AllByRecursion KeptValues (plans_with s k rank plan ps)
 unfolding plans_with
-plans_all s token.Close rank plan ps p all = All-set KeptValues ps rank plan p all
-plans_all s (token.Number n) rank plan ps p all = first_all s n ps all
-plans_all s _ rank plan ps p all = all
+plans_with_token_have_values s token.Close rank plan ps p all = All-set KeptValues ps rank plan p all
+plans_with_token_have_values s (token.Number n) rank plan ps p all = first_plans_have_values s n ps all
+plans_with_token_have_values s _ rank plan ps p all = all
 
--- what tokens that fail no test keep
+-- what holds after tokens that fail no test
 record Keeps (before : List Token) : Type 0 where
-  ops : op_count (plans_of before) + length (ops_of before) + acting (state_of before) ≤ (counts_of before).ops
-  deps : dep_count (plans_of before) + length (deps_of before) + depending (state_of before) ≤ (counts_of before).deps
-  notes : note_count (plans_of before) + length (notes_of before) + noting (state_of before) ≤ (counts_of before).notes
+  ops : op_count (plans_of before) + length (ops_of before) + unfinished_ops (state_of before) ≤ (counts_of before).ops
+  deps : dep_count (plans_of before) + length (deps_of before) + unfinished_deps (state_of before) ≤ (counts_of before).deps
+  notes : note_count (plans_of before) + length (notes_of before) + unfinished_notes (state_of before) ≤ (counts_of before).notes
   few : AreFew (counts_of before)
   ranks : RanksFit (state_of before) (plans_of before)
   draft : DraftFits (state_of before) (draft_of before)
@@ -405,10 +405,10 @@ known_passes : (s : State) (t : Token) → syntax_fault s t ≡ None → is_none
 unfolding syntax_fault
 known_passes s t h = no_fault_if_false (is_none (entry s t.kind)) (Syntax t.start) h
 
-passes_of : (s : State) (draft : Draft) (ranks : ℕ) (blocks : List ℕ) (ds : List Definition) (subject : Option Mention) (counts : Counts) (us : List Mention) (t : Token)
+faultless_token_passes_limits : (s : State) (draft : Draft) (ranks : ℕ) (blocks : List ℕ) (ds : List Definition) (subject : Option Mention) (counts : Counts) (us : List Mention) (t : Token)
     → fault_by s draft ranks blocks ds subject counts us t ≡ None → Passes s draft.option counts t
 unfolding fault_by
-passes_of s draft ranks blocks ds subject counts us t h =
+faultless_token_passes_limits s draft ranks blocks ds subject counts us t h =
     let last = option_or (count_fault counts t) (unknown_fault ds us t) in
     let labels = option_or (label_fault ds subject t) last in
     let options = option_or (option_fault draft t) labels in
@@ -427,52 +427,52 @@ passes_of s draft ranks blocks ds subject counts us t h =
 
 token_passes : (before : List Token) (t : Token) → token_fault before t ≡ None → Passes (state_of before) (draft_of before).option (counts_of before) t
 unfolding token_fault
-token_passes before t h = passes_of (state_of before) (draft_of before) (ranks_of before) (blocks_of before) (defined_of before) (head_of before).subject (counts_of before) (used_of before) t h
+token_passes before t h = faultless_token_passes_limits (state_of before) (draft_of before) (ranks_of before) (blocks_of before) (defined_of before) (head_of before).subject (counts_of before) (used_of before) t h
 
--- what is kept and what has begun, with one token more
-within_count : (new old length_new length_old closed kept_one acting_new acting_old begun count count_new : ℕ)
+-- after another token: what is kept and what has begun is still within the count
+sum_stays_within_count : (new old length_new length_old closed kept_one acting_new acting_old begun count count_new : ℕ)
     → new ≤ old + closed → length_new + closed ≤ length_old + kept_one → kept_one + acting_new ≤ acting_old + begun → count_new ≡ count + begun
     → old + length_old + acting_old ≤ count → new + length_new + acting_new ≤ count_new
-within_count new old length_new length_old closed kept_one acting_new acting_old begun count count_new p l a c h = omega arith
+sum_stays_within_count new old length_new length_old closed kept_one acting_new acting_old begun count count_new p l a c h = omega arith
 
 same_le : (a b : ℕ) → a ≡ b → a ≤ b
 same_le a b e = omega arith
 
 module _ (before : List Token) (t : Token) (passes : Passes (state_of before) (draft_of before).option (counts_of before) t) (keeps : Keeps before) where
-  ops_with_token : op_count (plans_of (t ∷ before)) + length (ops_of (t ∷ before)) + acting (state_of (t ∷ before)) ≤ (counts_of (t ∷ before)).ops
+  ops_with_token : op_count (plans_of (t ∷ before)) + length (ops_of (t ∷ before)) + unfinished_ops (state_of (t ∷ before)) ≤ (counts_of (t ∷ before)).ops
   unfolding op_count plans_of ops_of state_of counts_of
   ops_with_token =
       let s = state_of before in let k = t.kind in let op = op_of (draft_of before) in let ops = ops_of before in
-      within_count (op_count (plans_with s k (rank_of before) (block_plan before) (plans_of before))) (op_count (plans_of before)) (length (ops_with s k op ops)) (length ops) (closing k (length (ended_ops s token.Close op ops))) (kept_ops s k) (acting (state_after s k)) (acting s) (begun_ops k) (counts_of before).ops (counts_with k (counts_of before)).ops
+      sum_stays_within_count (op_count (plans_with s k (rank_of before) (block_plan before) (plans_of before))) (op_count (plans_of before)) (length (ops_with s k op ops)) (length ops) (count_if_closing k (length (ended_ops s token.Close op ops))) (kept_ops s k) (unfinished_ops (state_after s k)) (unfinished_ops s) (begun_ops k) (counts_of before).ops (counts_with k (counts_of before)).ops
       (plans_sum (λ (p : Plan). length p.ops) refl s k (rank_of before) (block_plan before) (plans_of before))
-      (same_le (length (ops_with s k op ops) + closing k (length (ended_ops s token.Close op ops))) (length ops + kept_ops s k) (ops_length s k op ops))
-      (leb-true (kept_ops s k + acting (state_after s k)) (acting s + begun_ops k) (ops_begun s k))
+      (same_le (length (ops_with s k op ops) + count_if_closing k (length (ended_ops s token.Close op ops))) (length ops + kept_ops s k) (ops_length s k op ops))
+      (leb-true (kept_ops s k + unfinished_ops (state_after s k)) (unfinished_ops s + begun_ops k) (ops_begun s k))
       (ops_counted (counts_of before) k)
       keeps.ops
 
-  deps_with_token : dep_count (plans_of (t ∷ before)) + length (deps_of (t ∷ before)) + depending (state_of (t ∷ before)) ≤ (counts_of (t ∷ before)).deps
+  deps_with_token : dep_count (plans_of (t ∷ before)) + length (deps_of (t ∷ before)) + unfinished_deps (state_of (t ∷ before)) ≤ (counts_of (t ∷ before)).deps
   unfolding dep_count plans_of deps_of state_of counts_of
   deps_with_token =
       let s = state_of before in let k = t.kind in let deps = deps_of before in
       let plan = block_plan before in
-      within_count (dep_count (plans_with s k (rank_of before) plan (plans_of before))) (dep_count (plans_of before)) (length (deps_with s k (head_of before) deps)) (length deps) (closing k (length deps)) (kept_deps s k) (depending (state_after s k)) (depending s) (begun_deps k) (counts_of before).deps (counts_with k (counts_of before)).deps
-      (subst (λ (n : ℕ). dep_count (plans_with s k (rank_of before) plan (plans_of before)) ≤ dep_count (plans_of before) + closing k n) (length-map deps (dep_by (defined_of before)))
+      sum_stays_within_count (dep_count (plans_with s k (rank_of before) plan (plans_of before))) (dep_count (plans_of before)) (length (deps_with s k (head_of before) deps)) (length deps) (count_if_closing k (length deps)) (kept_deps s k) (unfinished_deps (state_after s k)) (unfinished_deps s) (begun_deps k) (counts_of before).deps (counts_with k (counts_of before)).deps
+      (subst (λ (n : ℕ). dep_count (plans_with s k (rank_of before) plan (plans_of before)) ≤ dep_count (plans_of before) + count_if_closing k n) (length-map deps (dep_by (defined_of before)))
       (plans_sum (λ (p : Plan). length p.deps) refl s k (rank_of before) plan (plans_of before)))
       (deps_length s k (head_of before) deps)
-      (leb-true (kept_deps s k + depending (state_after s k)) (depending s + begun_deps k) (deps_begun s k))
+      (leb-true (kept_deps s k + unfinished_deps (state_after s k)) (unfinished_deps s + begun_deps k) (deps_begun s k))
       (deps_counted (counts_of before) k)
       keeps.deps
 
-  notes_with_token : note_count (plans_of (t ∷ before)) + length (notes_of (t ∷ before)) + noting (state_of (t ∷ before)) ≤ (counts_of (t ∷ before)).notes
+  notes_with_token : note_count (plans_of (t ∷ before)) + length (notes_of (t ∷ before)) + unfinished_notes (state_of (t ∷ before)) ≤ (counts_of (t ∷ before)).notes
   unfolding note_count plans_of notes_of state_of counts_of
   notes_with_token =
       let s = state_of before in let k = t.kind in let notes = notes_of before in
       let plan = block_plan before in
-      within_count (note_count (plans_with s k (rank_of before) plan (plans_of before))) (note_count (plans_of before)) (length (notes_with s k (head_of before) notes)) (length notes) (closing k (length notes)) (kept_notes s k) (noting (state_after s k)) (noting s) (begun_notes k) (counts_of before).notes (counts_with k (counts_of before)).notes
-      (subst (λ (n : ℕ). note_count (plans_with s k (rank_of before) plan (plans_of before)) ≤ note_count (plans_of before) + closing k n) (length-map notes (note_by (defined_of before)))
+      sum_stays_within_count (note_count (plans_with s k (rank_of before) plan (plans_of before))) (note_count (plans_of before)) (length (notes_with s k (head_of before) notes)) (length notes) (count_if_closing k (length notes)) (kept_notes s k) (unfinished_notes (state_after s k)) (unfinished_notes s) (begun_notes k) (counts_of before).notes (counts_with k (counts_of before)).notes
+      (subst (λ (n : ℕ). note_count (plans_with s k (rank_of before) plan (plans_of before)) ≤ note_count (plans_of before) + count_if_closing k n) (length-map notes (note_by (defined_of before)))
       (plans_sum (λ (p : Plan). length p.notes) refl s k (rank_of before) plan (plans_of before)))
       (notes_length s k (head_of before) notes)
-      (leb-true (kept_notes s k + noting (state_after s k)) (noting s + begun_notes k) (notes_begun s k))
+      (leb-true (kept_notes s k + unfinished_notes (state_after s k)) (unfinished_notes s + begun_notes k) (notes_begun s k))
       (notes_counted (counts_of before) k)
       keeps.notes
 
@@ -485,11 +485,11 @@ module _ (before : List Token) (t : Token) (passes : Passes (state_of before) (d
         ops = ops_with_token;
         deps = deps_with_token;
         notes = notes_with_token;
-        few = few_with k (counts_of before) passes.few keeps.few;
+        few = counts_stay_few k (counts_of before) passes.few keeps.few;
         ranks = ranks_fit s k (draft_of before).option (rank_of before) (block_plan before) (plans_of before) passes.within keeps.ranks;
         draft = draft_fits s k (draft_of before) passes.known passes.within keeps.draft;
-        values = ops_all s k op (ops_of before) (value k) keeps.values;
-        plans = plans_all s k (rank_of before) (block_plan before) (plans_of before) (ended_all (ends_action s token.Close) op (ops_of before) (value token.Close) keeps.values) keeps.plans;
+        values = ops_with_token_have_values s k op (ops_of before) (value k) keeps.values;
+        plans = plans_with_token_have_values s k (rank_of before) (block_plan before) (plans_of before) (all_have_value_if_op_appended (ends_action s token.Close) op (ops_of before) (value token.Close) keeps.values) keeps.plans;
       }
 
 -- all tokens of a text without a fault

@@ -1,4 +1,4 @@
--- Where the plans of a text are no schedule, the rule that they break is none of the limits of counts and values.
+-- If the plans of a text are no schedule, the broken rule is not a limit of a count or a value.
 use Rattle.std.proofs.Common.{◌≡◌, ◌≢◌, ℕ, Bool, true, false, Option, Some, None, List, [], ◌∷◌, length, Result, Ok, Err, refl, sym, subst}
 use Rattle.std.specs.List.{list_any}
 use Rattle.std.specs.Option.{option_or, option_map}

@@ -30,10 +30,10 @@ cpu_unique (Some n) (Some m) a b no_a no_b same = let e : n ≡ m = cc in (ap So
 cpu_unique None (Some m) a b no_a no_b same = let no : ⊥ = subst NoOption same no_a in absurd no
 cpu_unique (Some n) None a b no_a no_b same = let no : ⊥ = subst NoOption (sym same) no_b in absurd no
 
-option_next : (s : Setting) (a b : List TokenKind) → NoOption a → a ≡ setting_tokens s ++ b → ⊥
-option_next (tag n) a b no_a same = subst NoOption same no_a
-option_next (cpu n) a b no_a same = subst NoOption same no_a
-option_next (nic n) a b no_a same = subst NoOption same no_a
+setting_begins_with_option : (s : Setting) (a b : List TokenKind) → NoOption a → a ≡ setting_tokens s ++ b → ⊥
+setting_begins_with_option (tag n) a b no_a same = subst NoOption same no_a
+setting_begins_with_option (cpu n) a b no_a same = subst NoOption same no_a
+setting_begins_with_option (nic n) a b no_a same = subst NoOption same no_a
 
 setting_unique : (s t : Setting) (a b : List TokenKind) → setting_tokens s ++ a ≡ setting_tokens t ++ b → (s ≡ t) × (a ≡ b)
 setting_unique (tag n) (tag m) a b same = let e : number_or_any n ≡ number_or_any m = cc in (ap tag (source_unique n m e), cc)
@@ -45,16 +45,16 @@ settings_unique : (ss ts : List Setting) (a b : List TokenKind) → NoOption a �
     flat_map setting_tokens ss ++ a ≡ flat_map setting_tokens ts ++ b → (ss ≡ ts) × (a ≡ b)
 settings_unique [] [] a b no_a no_b same = (refl, same)
 settings_unique [] (t ∷ ts) a b no_a no_b same =
-    absurd (option_next t a (flat_map setting_tokens ts ++ b) no_a (same ∙ append_assoc (setting_tokens t) (flat_map setting_tokens ts) b))
+    absurd (setting_begins_with_option t a (flat_map setting_tokens ts ++ b) no_a (same ∙ append_assoc (setting_tokens t) (flat_map setting_tokens ts) b))
 settings_unique (s ∷ ss) [] a b no_a no_b same =
-    absurd (option_next s b (flat_map setting_tokens ss ++ a) no_b (sym same ∙ append_assoc (setting_tokens s) (flat_map setting_tokens ss) a))
+    absurd (setting_begins_with_option s b (flat_map setting_tokens ss ++ a) no_b (sym same ∙ append_assoc (setting_tokens s) (flat_map setting_tokens ss) a))
 settings_unique (s ∷ ss) (t ∷ ts) a b no_a no_b same =
     let first = setting_unique s t (flat_map setting_tokens ss ++ a) (flat_map setting_tokens ts ++ b)
     (sym (append_assoc (setting_tokens s) (flat_map setting_tokens ss) a) ∙ same ∙ append_assoc (setting_tokens t) (flat_map setting_tokens ts) b) in
     let rest = settings_unique ss ts a b no_a no_b first.1 in
     (ap (λ (x : Setting). x ∷ ss) first.0 ∙ ap (λ (xs : List Setting). t ∷ xs) rest.0, rest.1)
 
--- actions in front, behind the same label
+-- actions at the front, after the same label
 calc_unique : (l : Option (List ℕ)) (n m : ℕ) (c d : Option ℕ) (a b : List TokenKind) → NoOption a → NoOption b →
     token.Calc ∷ token.Number n ∷ (cpu_tokens c ++ a) ≡ token.Calc ∷ token.Number m ∷ (cpu_tokens d ++ b) → (calc l n c ≡ calc l m d) × (a ≡ b)
 calc_unique l n m c d a b no_a no_b same =
@@ -123,7 +123,7 @@ sort_by_tokens _ a = refl
 same_sort : (i j : Item) (a b : List TokenKind) → item_tokens i ++ a ≡ item_tokens j ++ b → sort_of i ≡ sort_of j
 same_sort i j a b same = sym (sort_by_tokens i a) ∙ ap sort same ∙ sort_by_tokens j b
 
--- one item in front
+-- one item at the front
 item_unique : (i j : Item) (a b : List TokenKind) → NoOption a → NoOption b → item_tokens i ++ a ≡ item_tokens j ++ b → (i ≡ j) × (a ≡ b)
 item_unique (calc None n c) (calc None m d) a b no_a no_b same = calc_unique None n m c d a b no_a no_b same
 item_unique (calc None n c) (calc (Some l) m d) a b no_a no_b same = cc
@@ -158,19 +158,19 @@ item_unique (adds x n m) (adds y p q) a b no_a no_b same =
     (ap (λ (l : List ℕ). adds l n m) e ∙ ap (λ (k : ℕ). adds y k m) f ∙ ap (λ (k : ℕ). adds y p k) g, cc)
 item_unique i j a b no_a no_b same = let no = same_sort i j a b same in absurd (omega arith)
 
--- behind an item comes an item, or the end of the block
-item_next : (i : Item) (a : List TokenKind) → NoOption (item_tokens i ++ a)
-item_next (calc None n c) a = tt
-item_next (calc (Some l) n c) a = tt
-item_next (send None s n ss) a = tt
-item_next (send (Some l) s n ss) a = tt
-item_next (recv None s n ss) a = tt
-item_next (recv (Some l) s n ss) a = tt
-item_next _ a = tt
+-- after an item comes another item, or the end of the block
+item_begins_with_no_option : (i : Item) (a : List TokenKind) → NoOption (item_tokens i ++ a)
+item_begins_with_no_option (calc None n c) a = tt
+item_begins_with_no_option (calc (Some l) n c) a = tt
+item_begins_with_no_option (send None s n ss) a = tt
+item_begins_with_no_option (send (Some l) s n ss) a = tt
+item_begins_with_no_option (recv None s n ss) a = tt
+item_begins_with_no_option (recv (Some l) s n ss) a = tt
+item_begins_with_no_option _ a = tt
 
-items_next : (is : List Item) (a : List TokenKind) → NoOption (flat_map item_tokens is ++ token.Close ∷ a)
-items_next [] a = tt
-items_next (i ∷ is) a = subst NoOption (sym (append_assoc (item_tokens i) (flat_map item_tokens is) (token.Close ∷ a))) (item_next i (flat_map item_tokens is ++ token.Close ∷ a))
+items_begin_with_no_option : (is : List Item) (a : List TokenKind) → NoOption (flat_map item_tokens is ++ token.Close ∷ a)
+items_begin_with_no_option [] a = tt
+items_begin_with_no_option (i ∷ is) a = subst NoOption (sym (append_assoc (item_tokens i) (flat_map item_tokens is) (token.Close ∷ a))) (item_begins_with_no_option i (flat_map item_tokens is ++ token.Close ∷ a))
 
 close_begins_no_item : (i : Item) (a b : List TokenKind) → token.Close ∷ a ≡ item_tokens i ++ b → ⊥
 close_begins_no_item (calc None n c) a b same = cc
@@ -188,7 +188,7 @@ items_unique [] (j ∷ js) a b same =
 items_unique (i ∷ is) [] a b same =
     absurd (close_begins_no_item i b (flat_map item_tokens is ++ token.Close ∷ a) (sym same ∙ append_assoc (item_tokens i) (flat_map item_tokens is) (token.Close ∷ a)))
 items_unique (i ∷ is) (j ∷ js) a b same =
-    let first = item_unique i j (flat_map item_tokens is ++ token.Close ∷ a) (flat_map item_tokens js ++ token.Close ∷ b) (items_next is a) (items_next js b)
+    let first = item_unique i j (flat_map item_tokens is ++ token.Close ∷ a) (flat_map item_tokens js ++ token.Close ∷ b) (items_begin_with_no_option is a) (items_begin_with_no_option js b)
     (sym (append_assoc (item_tokens i) (flat_map item_tokens is) (token.Close ∷ a)) ∙ same ∙ append_assoc (item_tokens j) (flat_map item_tokens js) (token.Close ∷ b)) in
     let rest = items_unique is js a b first.1 in
     (ap (λ (x : Item). x ∷ is) first.0 ∙ ap (λ (xs : List Item). j ∷ xs) rest.0, rest.1)

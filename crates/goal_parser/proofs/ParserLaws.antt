@@ -1,4 +1,4 @@
--- What a token that fails no test is.
+-- What is true of a token that fails no test.
 use Rattle.std.proofs.Common.{◌≡◌, ◌∙◌, ℕ, Bool, true, false, not, List, Option, Some, None, refl, ap, subst, nat_eq, nat_lt}
 use Rattle.std.specs.Prelude.{⊤}
 use Rattle.std.specs.List.{list_any}
@@ -60,7 +60,7 @@ rank_passes s ranks blocks t h = new_rank s ranks blocks t.kind t.start h
 -- What is kept of an item's label is enough for the tokens that may follow: a label that isn't kept is asked for only at a
 -- colon, and the sentence can't go on there with one.
 
--- the state behind a token keeps the same of what the token gives
+-- the state after a token still agrees with what the token gives
 abbrev OnState : Option State → ItemHead → ItemHead → Type 0
 OnState None kept given = ⊤
 OnState (Some s) kept given = KeepsHead s kept given
@@ -96,7 +96,7 @@ keeps_entry _ _ at kept given keeps = tt
 pub KeepsHead-next : (s next : State) (k : TokenKind) (at : ℕ) (kept given : ItemHead) → entry s k ≡ Some next → KeepsHead s kept given → KeepsHead next (head_with s k at kept) (head_with s k at given)
 KeepsHead-next s next k at kept given enters keeps = subst (λ (o : Option State). OnState o (head_with s k at kept) (head_with s k at given)) enters (keeps_entry k s at kept given keeps)
 
--- a token gives the same names by the label that is kept
+-- a token gives the same names if only the kept label is known
 pub defined_kept : (k : TokenKind) (s next : State) (kept given : ItemHead) (op : ℕ) (ds : List Definition) → entry s k ≡ Some next → KeepsHead s kept given
     → defined_with k kept.subject op ds ≡ defined_with k given.subject op ds
 unfolding entry defined_with
@@ -120,11 +120,11 @@ unfolding notes_with
 notes_kept (token.Number n) state.Note3 kept given notes keeps = ap (λ (head : ItemHead). note_ended state.Note3 head.subject head.verb head.low n notes) keeps
 notes_kept _ _ kept given notes keeps = refl
 
--- a token fails the same test first by the label that is kept
-fault_kept : (s : State) (draft : Draft) (ranks : ℕ) (blocks : List ℕ) (ds : List Definition) (kept given : ItemHead) (counts : Counts) (us : List Mention) (t : Token) → KeepsHead s kept given
+-- a token fails the same test first if only the kept label is known
+fault_by_kept_head : (s : State) (draft : Draft) (ranks : ℕ) (blocks : List ℕ) (ds : List Definition) (kept given : ItemHead) (counts : Counts) (us : List Mention) (t : Token) → KeepsHead s kept given
     → fault_by s draft ranks blocks ds kept.subject counts us t ≡ fault_by s draft ranks blocks ds given.subject counts us t
 unfolding fault_by syntax_fault entry label_fault
-fault_kept s draft ranks blocks ds kept given counts us t keeps = by t.kind s keeps
+fault_by_kept_head s draft ranks blocks ds kept given counts us t keeps = by t.kind s keeps
   where
     by : (k : TokenKind) (s : State) → KeepsHead s kept given
         → fault_by s draft ranks blocks ds kept.subject counts us (record { kind = k; start = t.start; end = t.end }) ≡ fault_by s draft ranks blocks ds given.subject counts us (record { kind = k; start = t.start; end = t.end })
@@ -133,10 +133,10 @@ fault_kept s draft ranks blocks ds kept given counts us t keeps = by t.kind s ke
     by _ s keeps = refl
 
 -- what a parser keeps decides the first test that a token fails
-pub fault_taken : (parser : Parser) (before : List Token) (t : Token) (fault : Option TextFault) → HasTaken parser before
+pub fault_by_parser_is_token_fault : (parser : Parser) (before : List Token) (t : Token) (fault : Option TextFault) → HasTaken parser before
     → fault ≡ fault_by parser.state parser.draft parser.ranks.count parser.ranks.blocks.keys (defined_of before) parser.head.subject parser.counts (used_of before) t
     → fault ≡ token_fault before t
 unfolding token_fault
-fault_taken parser before t fault taken h =
-    h ∙ fault_kept parser.state parser.draft parser.ranks.count parser.ranks.blocks.keys (defined_of before) parser.head (head_of before) parser.counts (used_of before) t taken.head
+fault_by_parser_is_token_fault parser before t fault taken h =
+    h ∙ fault_by_kept_head parser.state parser.draft parser.ranks.count parser.ranks.blocks.keys (defined_of before) parser.head (head_of before) parser.counts (used_of before) t taken.head
     ∙ (λ i. fault_by (taken.state i) (taken.draft i) (taken.ranks i) (taken.blocks i) (defined_of before) (head_of before).subject (taken.counts i) (used_of before) t)

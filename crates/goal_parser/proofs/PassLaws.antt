@@ -23,21 +23,21 @@ use Rattle.goal_parser.specs.TextRead.{HasRead}
 use Rattle.goal_parser.specs.Laws.{IsSign, PassesSoFar}
 use Rattle.goal_parser.proofs.ReaderLaws.{first_fault-append}
 
--- a token stands among these
-abbrev Stood : List Token → Token → Type 0
-Stood cs t = (xs : List Token) × (ys : List Token) × (cs ≡ xs ++ t ∷ ys)
+-- the token is among these
+abbrev IsTokenAmong : List Token → Token → Type 0
+IsTokenAmong cs t = (xs : List Token) × (ys : List Token) × (cs ≡ xs ++ t ∷ ys)
 
--- a token of two lists, one after the other, is in the first or in the second after the whole first
-token_in_front_or_behind : (before later hs cs : List Token) (t : Token) → before ++ t ∷ later ≡ hs ++ cs → ((more : List Token) × (hs ≡ before ++ t ∷ more)) ⊎ Stood cs t
-token_in_front_or_behind [] later [] cs t e = inr ([], later, sym e)
-token_in_front_or_behind [] later (h ∷ hs) cs t e =
+-- a token of two joined lists is in the first list or in the second
+token_in_first_or_second_list : (before later hs cs : List Token) (t : Token) → before ++ t ∷ later ≡ hs ++ cs → ((more : List Token) × (hs ≡ before ++ t ∷ more)) ⊎ IsTokenAmong cs t
+token_in_first_or_second_list [] later [] cs t e = inr ([], later, sym e)
+token_in_first_or_second_list [] later (h ∷ hs) cs t e =
     let same : t ≡ h = cc in
     inl (hs, ap (λ (x : Token). x ∷ hs) (sym same))
-token_in_front_or_behind (b ∷ bs) later [] cs t e = inr (b ∷ bs, later, sym e)
-token_in_front_or_behind (b ∷ bs) later (h ∷ hs) cs t e =
+token_in_first_or_second_list (b ∷ bs) later [] cs t e = inr (b ∷ bs, later, sym e)
+token_in_first_or_second_list (b ∷ bs) later (h ∷ hs) cs t e =
     let same : b ≡ h = cc in
     let rest : bs ++ t ∷ later ≡ hs ++ cs = cc in
-    ⊎_elim (λ found. inl (found.0, ap (λ (x : Token). x ∷ hs) (sym same) ∙ ap (λ (l : List Token). b ∷ l) found.1)) (λ stood. inr stood) (token_in_front_or_behind bs later hs cs t rest)
+    ⊎_elim (λ found. inl (found.0, ap (λ (x : Token). x ∷ hs) (sym same) ∙ ap (λ (l : List Token). b ∷ l) found.1)) (λ stood. inr stood) (token_in_first_or_second_list bs later hs cs t rest)
 
 first_is_none : (a b : Option TextFault) → option_or a b ≡ None → a ≡ None
 first_is_none None b e = refl
@@ -54,13 +54,13 @@ passes before more t passed =
     let behind = second_is_none (first_fault [] before) _ (sym (first_fault-append [] before (t ∷ more)) ∙ passed) in
     ap (λ (l : List Token). token_fault l t) (sym (append-nil (reverse before))) ∙ first_is_none (token_fault (reverse before ++ []) t) _ behind
 
--- nothing stands among no tokens
+-- an empty list has no token
 no_token_among_none : {A : Type 0} (xs ys : List Token) (t : Token) → [] ≡ xs ++ t ∷ ys → A
 no_token_among_none [] ys t e = cc
 no_token_among_none (x ∷ xs) ys t e = cc
 
--- what a text's end closes ends there
-closed_token_ends_at_place : (place : ℕ) (mode : Mode) (t : Token) → Stood (closing place mode) t → t.end ≡ place
+-- a token that the end of a text closes ends there
+closed_token_ends_at_place : (place : ℕ) (mode : Mode) (t : Token) → IsTokenAmong (closing place mode) t → t.end ≡ place
 closed_token_ends_at_place place (Run start bytes form) t ([], ys, e) = cc
 closed_token_ends_at_place place (Run start bytes form) t (x ∷ xs, ys, e) =
     let rest : [] ≡ xs ++ t ∷ ys = cc in
@@ -94,25 +94,25 @@ no_run_sign Word bytes h = no_sign_among reserved_words bytes no_reserved_sign h
 no_run_sign Digits bytes h = h
 no_run_sign Sized bytes h = h
 
-no_sign_there : (place : ℕ) (mode : Mode) (t : Token) → Stood (closing place mode) t → IsSign t.kind → ⊥
-no_sign_there place (Run start bytes form) t ([], ys, e) h =
+closing_token_is_no_sign : (place : ℕ) (mode : Mode) (t : Token) → IsTokenAmong (closing place mode) t → IsSign t.kind → ⊥
+closing_token_is_no_sign place (Run start bytes form) t ([], ys, e) h =
     let same : run_kind form bytes ≡ t.kind = cc in
     no_run_sign form bytes (subst IsSign (sym same) h)
-no_sign_there place (Run start bytes form) t (x ∷ xs, ys, e) h =
+closing_token_is_no_sign place (Run start bytes form) t (x ∷ xs, ys, e) h =
     let rest : [] ≡ xs ++ t ∷ ys = cc in
     no_token_among_none xs ys t rest
-no_sign_there place Between t (xs, ys, e) h = no_token_among_none xs ys t e
-no_sign_there place (Slash start) t (xs, ys, e) h = no_token_among_none xs ys t e
-no_sign_there place (LineComment start) t (xs, ys, e) h = no_token_among_none xs ys t e
-no_sign_there place (BlockComment start closes) t (xs, ys, e) h = no_token_among_none xs ys t e
-no_sign_there place (Failed at) t (xs, ys, e) h = no_token_among_none xs ys t e
+closing_token_is_no_sign place Between t (xs, ys, e) h = no_token_among_none xs ys t e
+closing_token_is_no_sign place (Slash start) t (xs, ys, e) h = no_token_among_none xs ys t e
+closing_token_is_no_sign place (LineComment start) t (xs, ys, e) h = no_token_among_none xs ys t e
+closing_token_is_no_sign place (BlockComment start closes) t (xs, ys, e) h = no_token_among_none xs ys t e
+closing_token_is_no_sign place (Failed at) t (xs, ys, e) h = no_token_among_none xs ys t e
 
 pub passes_so_far : (r : TextReader) (text : List ℕ) → HasRead r text → PassesSoFar text
 passes_so_far r text read = record {
   tokens = λ before later t e inside.
       ⊎_elim (λ found. passes before found.0 t (sym (ap (first_fault []) found.1) ∙ read.stands.passed))
-      (λ stood. absurd (⊎_elim (λ early. let last = closed_token_ends_at_place lexer.place lexer.mode t stood in let long = stands.place in omega (arith, last, long, early)) (λ sign. no_sign_there lexer.place lexer.mode t stood sign) inside))
-      (token_in_front_or_behind before later (handed lexer text) (closing lexer.place lexer.mode) t (sym e ∙ ap (λ (p : List Token × Option ℕ). p.0) (lexed_at_end lexer.mode lexer.place lexer.ends_run text stands)));
+      (λ stood. absurd (⊎_elim (λ early. let last = closed_token_ends_at_place lexer.place lexer.mode t stood in let long = stands.place in omega (arith, last, long, early)) (λ sign. closing_token_is_no_sign lexer.place lexer.mode t stood sign) inside))
+      (token_in_first_or_second_list before later (handed lexer text) (closing lexer.place lexer.mode) t (sym e ∙ ap (λ (p : List Token × Option ℕ). p.0) (lexed_at_end lexer.mode lexer.place lexer.ends_run text stands)));
   bytes = λ at e. fault_at_end_is_cut_off lexer text at stands e;
 }
   where

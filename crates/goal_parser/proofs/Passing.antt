@@ -1,4 +1,4 @@
--- Sentences that keep the rules and the limits fail no test, wherever their tokens stand.
+-- Sentences that obey the rules and the limits fail no test, at whatever places their tokens are.
 use Rattle.std.proofs.Common.{◌≡◌, ℕ, ◌+◌, ◌^◌, ◌<◌, ◌≤◌, arith, Bool, true, false, cond, ◌||◌, eq-eqb, List, [], ◌∷◌, ◌++◌, length, map, reverse, Option, Some, None, nat_le, nat_eq, bytes_eq, is_some, unwrap_or, refl, sym, ap, subst, ◌∙◌, append_assoc, length-append}
 use Rattle.std.specs.Prelude.{⊤, if◌then◌else◌, ◌==◌}
 use Rattle.std.specs.Option.{option_or, option_map}
@@ -32,9 +32,9 @@ use Rattle.goal_parser.specs.Items.{Definition, when_of, is_defined, defined_as,
 use Rattle.goal_parser.specs.Faults.{token_fault}
 use Rattle.goal_parser.specs.Reads.{first_fault}
 use Rattle.goal_parser.specs.Grammar.{plan_said, ops_in, deps_in, notes_in, Amount, plain, marked, Setting, tag, cpu, nic, Item, calc, send, recv, requires, irequires, moves, adds, Block, Written, number_or_any, amount_token, setting_tokens, label_tokens, cpu_tokens, item_tokens, block_tokens, text_tokens, amount, op_said, defined_before, defined_by, definitions, dep_said, note_said, used_by, is_tag, is_cpu, is_nic, AreGivenOnce, HasOptionsOnce, KeepsRules, AreRight, IsSettingWithin, IsOfSend, IsItemWithin, AreWithin}
-use Rattle.goal_parser.proofs.Seen.{Seen, seen_of, ops_now, step, fault_in, kinds_of, passes_if_false, passes_rank, room_for_next, passes_number, passes_upto, passes_u32, BeginsItem, at_word, at_close}
+use Rattle.goal_parser.proofs.Seen.{Seen, seen_of, ops_now, step, fault_in, kinds_of, passes_if_false, passes_rank, limit_not_reached, passes_number, passes_upto, passes_u32, BeginsItem, at_word, at_close}
 
--- Tokens of these kinds, wherever they stand, fail no test, and behind them the text may end.
+-- Tokens of these kinds fail no test, at whatever places, and the text may end after them.
 pub data Passes : Seen → List TokenKind → Type 0 where
   ends : {s : Seen} → s.state ≡ state.Top → Passes s []
   next : {s : Seen} {kind : TokenKind} {kinds : List TokenKind}
@@ -42,20 +42,20 @@ pub data Passes : Seen → List TokenKind → Type 0 where
       → ((start end : ℕ) → Passes (step (record { kind = kind; start = start; end = end }) s) kinds)
       → Passes s (kind ∷ kinds)
 
-at_end : {s : Seen} → Passes s [] → s.state ≡ state.Top
-at_end (ends here) = here
+passes_end_in_top_state : {s : Seen} → Passes s [] → s.state ≡ state.Top
+passes_end_in_top_state (ends here) = here
 
-at_token : {s : Seen} {kind : TokenKind} {kinds : List TokenKind} → Passes s (kind ∷ kinds) → (start end : ℕ)
+first_token_passes : {s : Seen} {kind : TokenKind} {kinds : List TokenKind} → Passes s (kind ∷ kinds) → (start end : ℕ)
     → (fault_in s (record { kind = kind; start = start; end = end }) ≡ None) × Passes (step (record { kind = kind; start = start; end = end }) s) kinds
-at_token (next passes more) start end = (passes start end, more start end)
+first_token_passes (next passes more) start end = (passes start end, more start end)
 
 -- so tokens of these kinds have no fault
 pub passing_tokens : (before tokens : List Token) → Passes (seen_of before) (kinds_of tokens)
     → (first_fault before tokens ≡ None) × (state_of (reverse tokens ++ before) ≡ state.Top)
 unfolding step fault_in first_fault token_fault state_of draft_of ranks_of blocks_of rank_of head_of ops_of defined_of deps_of notes_of used_of counts_of plans_of
-passing_tokens before [] good = (refl, at_end good)
+passing_tokens before [] good = (refl, passes_end_in_top_state good)
 passing_tokens before (t ∷ tokens) good =
-    let here = at_token good t.start t.end in
+    let here = first_token_passes good t.start t.end in
     let rest = passing_tokens (t ∷ before) tokens here.1 in
     let turned : reverse (t ∷ tokens) ++ before ≡ reverse tokens ++ t ∷ before =
     ap (λ l. l ++ before) (reverse-append (t ∷ []) tokens) ∙ append_assoc (reverse tokens) (t ∷ []) before in (
@@ -76,7 +76,7 @@ label_passes s label kinds begins good = by s.state begins good
     by state.Recv4 begins good = next (λ start end. refl) (λ start end. good start)
     by _ begins good = absurd begins
 
--- the word of an action, and the state behind it
+-- the word of an action, and the state after it
 abbrev word : Action → TokenKind
 word action.Calc = token.Calc
 word action.Send = token.Send
@@ -111,20 +111,20 @@ word_passes a s None kinds begins new few good =
     by : (a : Action) (st : State) → BeginsItem st
         → Passes (record (begun_at (record s { state = st }) None s.head a) { defined = s.defined }) kinds
         → Passes (record s { state = st }) (word a ∷ kinds)
-    by action.Calc state.Item begins good = next (λ x y. passes_if_false (nat_le MAX_OPS s.counts.ops) (fault.TooMany x) (room_for_next MAX_OPS s.counts.ops few)) (λ x y. good)
-    by action.Calc state.Calc2 begins good = next (λ x y. passes_if_false (nat_le MAX_OPS s.counts.ops) (fault.TooMany x) (room_for_next MAX_OPS s.counts.ops few)) (λ x y. good)
-    by action.Calc state.Send4 begins good = next (λ x y. passes_if_false (nat_le MAX_OPS s.counts.ops) (fault.TooMany x) (room_for_next MAX_OPS s.counts.ops few)) (λ x y. good)
-    by action.Calc state.Recv4 begins good = next (λ x y. passes_if_false (nat_le MAX_OPS s.counts.ops) (fault.TooMany x) (room_for_next MAX_OPS s.counts.ops few)) (λ x y. good)
+    by action.Calc state.Item begins good = next (λ x y. passes_if_false (nat_le MAX_OPS s.counts.ops) (fault.TooMany x) (limit_not_reached MAX_OPS s.counts.ops few)) (λ x y. good)
+    by action.Calc state.Calc2 begins good = next (λ x y. passes_if_false (nat_le MAX_OPS s.counts.ops) (fault.TooMany x) (limit_not_reached MAX_OPS s.counts.ops few)) (λ x y. good)
+    by action.Calc state.Send4 begins good = next (λ x y. passes_if_false (nat_le MAX_OPS s.counts.ops) (fault.TooMany x) (limit_not_reached MAX_OPS s.counts.ops few)) (λ x y. good)
+    by action.Calc state.Recv4 begins good = next (λ x y. passes_if_false (nat_le MAX_OPS s.counts.ops) (fault.TooMany x) (limit_not_reached MAX_OPS s.counts.ops few)) (λ x y. good)
     by action.Calc _ begins good = absurd begins
-    by action.Send state.Item begins good = next (λ x y. passes_if_false (nat_le MAX_OPS s.counts.ops) (fault.TooMany x) (room_for_next MAX_OPS s.counts.ops few)) (λ x y. good)
-    by action.Send state.Calc2 begins good = next (λ x y. passes_if_false (nat_le MAX_OPS s.counts.ops) (fault.TooMany x) (room_for_next MAX_OPS s.counts.ops few)) (λ x y. good)
-    by action.Send state.Send4 begins good = next (λ x y. passes_if_false (nat_le MAX_OPS s.counts.ops) (fault.TooMany x) (room_for_next MAX_OPS s.counts.ops few)) (λ x y. good)
-    by action.Send state.Recv4 begins good = next (λ x y. passes_if_false (nat_le MAX_OPS s.counts.ops) (fault.TooMany x) (room_for_next MAX_OPS s.counts.ops few)) (λ x y. good)
+    by action.Send state.Item begins good = next (λ x y. passes_if_false (nat_le MAX_OPS s.counts.ops) (fault.TooMany x) (limit_not_reached MAX_OPS s.counts.ops few)) (λ x y. good)
+    by action.Send state.Calc2 begins good = next (λ x y. passes_if_false (nat_le MAX_OPS s.counts.ops) (fault.TooMany x) (limit_not_reached MAX_OPS s.counts.ops few)) (λ x y. good)
+    by action.Send state.Send4 begins good = next (λ x y. passes_if_false (nat_le MAX_OPS s.counts.ops) (fault.TooMany x) (limit_not_reached MAX_OPS s.counts.ops few)) (λ x y. good)
+    by action.Send state.Recv4 begins good = next (λ x y. passes_if_false (nat_le MAX_OPS s.counts.ops) (fault.TooMany x) (limit_not_reached MAX_OPS s.counts.ops few)) (λ x y. good)
     by action.Send _ begins good = absurd begins
-    by action.Recv state.Item begins good = next (λ x y. passes_if_false (nat_le MAX_OPS s.counts.ops) (fault.TooMany x) (room_for_next MAX_OPS s.counts.ops few)) (λ x y. good)
-    by action.Recv state.Calc2 begins good = next (λ x y. passes_if_false (nat_le MAX_OPS s.counts.ops) (fault.TooMany x) (room_for_next MAX_OPS s.counts.ops few)) (λ x y. good)
-    by action.Recv state.Send4 begins good = next (λ x y. passes_if_false (nat_le MAX_OPS s.counts.ops) (fault.TooMany x) (room_for_next MAX_OPS s.counts.ops few)) (λ x y. good)
-    by action.Recv state.Recv4 begins good = next (λ x y. passes_if_false (nat_le MAX_OPS s.counts.ops) (fault.TooMany x) (room_for_next MAX_OPS s.counts.ops few)) (λ x y. good)
+    by action.Recv state.Item begins good = next (λ x y. passes_if_false (nat_le MAX_OPS s.counts.ops) (fault.TooMany x) (limit_not_reached MAX_OPS s.counts.ops few)) (λ x y. good)
+    by action.Recv state.Calc2 begins good = next (λ x y. passes_if_false (nat_le MAX_OPS s.counts.ops) (fault.TooMany x) (limit_not_reached MAX_OPS s.counts.ops few)) (λ x y. good)
+    by action.Recv state.Send4 begins good = next (λ x y. passes_if_false (nat_le MAX_OPS s.counts.ops) (fault.TooMany x) (limit_not_reached MAX_OPS s.counts.ops few)) (λ x y. good)
+    by action.Recv state.Recv4 begins good = next (λ x y. passes_if_false (nat_le MAX_OPS s.counts.ops) (fault.TooMany x) (limit_not_reached MAX_OPS s.counts.ops few)) (λ x y. good)
     by action.Recv _ begins good = absurd begins
 word_passes a s (Some label) kinds begins new few good =
     label_passes s label (token.Colon ∷ word a ∷ kinds) begins (λ at.
@@ -132,11 +132,11 @@ word_passes a s (Some label) kinds begins new few good =
   where
     behind : (a : Action) (at : ℕ) → Passes (begun_at s (Some label) (record s.head { subject = Some (record { label = label; at = at }) }) a) kinds
         → Passes (record (at_word s label at) { state = state.Action; defined = s.defined ++ record { label = label; op = length (ops_now s) } ∷ [] }) (word a ∷ kinds)
-    behind action.Calc at good = next (λ x y. passes_if_false (nat_le MAX_OPS s.counts.ops) (fault.TooMany x) (room_for_next MAX_OPS s.counts.ops few)) (λ x y. good)
-    behind action.Send at good = next (λ x y. passes_if_false (nat_le MAX_OPS s.counts.ops) (fault.TooMany x) (room_for_next MAX_OPS s.counts.ops few)) (λ x y. good)
-    behind action.Recv at good = next (λ x y. passes_if_false (nat_le MAX_OPS s.counts.ops) (fault.TooMany x) (room_for_next MAX_OPS s.counts.ops few)) (λ x y. good)
+    behind action.Calc at good = next (λ x y. passes_if_false (nat_le MAX_OPS s.counts.ops) (fault.TooMany x) (limit_not_reached MAX_OPS s.counts.ops few)) (λ x y. good)
+    behind action.Send at good = next (λ x y. passes_if_false (nat_le MAX_OPS s.counts.ops) (fault.TooMany x) (limit_not_reached MAX_OPS s.counts.ops few)) (λ x y. good)
+    behind action.Recv at good = next (λ x y. passes_if_false (nat_le MAX_OPS s.counts.ops) (fault.TooMany x) (limit_not_reached MAX_OPS s.counts.ops few)) (λ x y. good)
 
--- no option of these was given before, or stands twice
+-- none of these options was given before, and none is given twice
 abbrev Fresh : (tags cpus nics : Bool) → List Setting → Type 0
 Fresh tags cpus nics [] = ⊤
 Fresh tags cpus nics (tag n ∷ settings) = (tags ≡ false) × Fresh true cpus nics settings
@@ -214,8 +214,8 @@ recv_settings (nic n ∷ settings) s kinds within new good =
 abbrev labels_in : List Mention → List (List ℕ)
 labels_in us = map (λ (u : Mention). u.label) us
 
--- what is given behind an item
-record Behind (s t : Seen) (item : Item) : Type 0 where
+-- what is given after an item
+record IsAfterItem (s t : Seen) (item : Item) : Type 0 where
   begins : BeginsItem t.state
   ranks : t.ranks ≡ s.ranks
   blocks : t.blocks ≡ s.blocks
@@ -226,7 +226,7 @@ record Behind (s t : Seen) (item : Item) : Type 0 where
   dep_count : t.counts.deps ≡ s.counts.deps + length (dep_said [] item)
   note_count : t.counts.notes ≡ s.counts.notes + length (note_said [] item)
 
--- the state behind an action, where it may end
+-- the state after an action that may end here
 abbrev IsEnd : State → Type 0
 IsEnd state.Calc2 = ⊤
 IsEnd state.Send4 = ⊤
@@ -239,25 +239,25 @@ end_begins state.Send4 e = tt
 end_begins state.Recv4 e = tt
 end_begins _ e = absurd e
 
-one_op_more : (st : State) (s : Seen) (draft : Draft) → IsEnd st → length (ops_now (record s { state = st; draft = draft })) ≡ length s.ops + 1
+action_end_adds_one_op : (st : State) (s : Seen) (draft : Draft) → IsEnd st → length (ops_now (record s { state = st; draft = draft })) ≡ length s.ops + 1
 unfolding ends_action
-one_op_more state.Calc2 s draft e = length-append s.ops _
-one_op_more state.Send4 s draft e = length-append s.ops _
-one_op_more state.Recv4 s draft e = length-append s.ops _
-one_op_more _ s draft e = absurd e
+action_end_adds_one_op state.Calc2 s draft e = length-append s.ops _
+action_end_adds_one_op state.Send4 s draft e = length-append s.ops _
+action_end_adds_one_op state.Recv4 s draft e = length-append s.ops _
+action_end_adds_one_op _ s draft e = absurd e
 
--- what is given behind an action
+-- what is given after an action
 module _ (s : Seen) (label : Option (List ℕ)) (head : ItemHead) (a : Action) (st : State) (draft : Draft) (end : IsEnd st) where
-  abbrev behind_action_state : Seen
-  behind_action_state = record (begun_at s label head a) { state = st; draft = draft }
+  abbrev seen_after_action : Seen
+  seen_after_action = record (begun_at s label head a) { state = st; draft = draft }
 
-  behind_action : (item : Item) → length (op_said item) ≡ 1 → ((n : ℕ) → defined_before label n ≡ defined_by item n) → used_by item ≡ []
-      → length (dep_said [] item) ≡ 0 → length (note_said [] item) ≡ 0 → Behind s behind_action_state item
-  behind_action item one defines uses deps notes = record {
+  seen_after_action_is_after_item : (item : Item) → length (op_said item) ≡ 1 → ((n : ℕ) → defined_before label n ≡ defined_by item n) → used_by item ≡ []
+      → length (dep_said [] item) ≡ 0 → length (note_said [] item) ≡ 0 → IsAfterItem s seen_after_action item
+  seen_after_action_is_after_item item one defines uses deps notes = record {
     begins = end_begins st end;
     ranks = refl;
     blocks = refl;
-    ops = omega (arith, one_op_more st (begun_at s label head a) draft end, one);
+    ops = omega (arith, action_end_adds_one_op st (begun_at s label head a) draft end, one);
     defined = ap (λ (ds : List Definition). s.defined ++ ds) (defines (length (ops_now s)));
     used = sym (append-nil (labels_in s.used)) ∙ ap (λ (ls : List (List ℕ)). labels_in s.used ++ ls) (sym uses);
     op_count = omega (arith, one);
@@ -273,36 +273,36 @@ record Fits (s : Seen) (item : Item) : Type 0 where
   deps : s.counts.deps + length (dep_said [] item) ≤ MAX_DEPS
   notes : s.counts.notes + length (note_said [] item) ≤ MAX_NOTES
 
-is_new : (s : Seen) (label : Option (List ℕ)) (n : ℕ) → ((l : List ℕ) → defined_before label n ≡ record { label = l; op = n } ∷ [] → is_defined s.defined l ≡ false) → IsNew s label
-is_new s None n h = tt
-is_new s (Some l) n h = h l refl
+fitting_label_is_new : (s : Seen) (label : Option (List ℕ)) (n : ℕ) → ((l : List ℕ) → defined_before label n ≡ record { label = l; op = n } ∷ [] → is_defined s.defined l ≡ false) → IsNew s label
+fitting_label_is_new s None n h = tt
+fitting_label_is_new s (Some l) n h = h l refl
 
 -- a calc
 calc_passes : (label : Option (List ℕ)) (nanos : ℕ) (on : Option ℕ) (s : Seen) (kinds : List TokenKind) → Fits s (calc label nanos on) → IsItemWithin (calc label nanos on)
-    → ((t : Seen) → Behind s t (calc label nanos on) → Passes t kinds) → Passes s (item_tokens (calc label nanos on) ++ kinds)
+    → ((t : Seen) → IsAfterItem s t (calc label nanos on) → Passes t kinds) → Passes s (item_tokens (calc label nanos on) ++ kinds)
 unfolding step fault_in
 calc_passes label nanos on s kinds fits within good =
     subst (Passes s) (sym (append_assoc (label_tokens label) (token.Calc ∷ token.Number nanos ∷ cpu_tokens on) kinds))
-    (word_passes action.Calc s label (token.Number nanos ∷ cpu_tokens on ++ kinds) fits.begins (is_new s label (length (ops_now s)) fits.new) (let few = fits.ops in omega arith) (λ head.
+    (word_passes action.Calc s label (token.Number nanos ∷ cpu_tokens on ++ kinds) fits.begins (fitting_label_is_new s label (length (ops_now s)) fits.new) (let few = fits.ops in omega arith) (λ head.
     next (λ a b. passes_upto nanos MAX_NANOS (fault.Number a) within.0) (λ a b. rest on within.1 head (λ t h. good t h))))
   where
-    rest : (on : Option ℕ) → unwrap_or on 0 ≤ 255 → (head : ItemHead) → ((t : Seen) → Behind s t (calc label nanos on) → Passes t kinds)
+    rest : (on : Option ℕ) → unwrap_or on 0 ≤ 255 → (head : ItemHead) → ((t : Seen) → IsAfterItem s t (calc label nanos on) → Passes t kinds)
         → Passes (record (begun_at s label head action.Calc) { state = state.Calc2; draft = record (begun action.Calc s.draft.option) { size = nanos } }) (cpu_tokens on ++ kinds)
     rest None few head good =
-        good _ (behind_action s label head action.Calc state.Calc2 (record (begun action.Calc s.draft.option) { size = nanos }) tt (calc label nanos None) refl (λ n. refl) refl refl refl)
+        good _ (seen_after_action_is_after_item s label head action.Calc state.Calc2 (record (begun action.Calc s.draft.option) { size = nanos }) tt (calc label nanos None) refl (λ n. refl) refl refl refl)
     rest (Some n) few head good =
         next (λ a b. refl) (λ a b.
         next (λ c d. passes_upto n 255 (fault.Number c) few) (λ c d.
-        good _ (behind_action s label head action.Calc state.Calc2 (record (begun action.Calc s.draft.option) { size = nanos; has_cpu = true; option = option.Cpu; cpu = n }) tt (calc label nanos (Some n)) refl (λ n. refl) refl refl refl)))
+        good _ (seen_after_action_is_after_item s label head action.Calc state.Calc2 (record (begun action.Calc s.draft.option) { size = nanos; has_cpu = true; option = option.Cpu; cpu = n }) tt (calc label nanos (Some n)) refl (λ n. refl) refl refl refl)))
 
 -- a send
 send_passes : (label : Option (List ℕ)) (size : Amount) (to : ℕ) (settings : List Setting) (s : Seen) (kinds : List TokenKind) → Fits s (send label size to settings)
     → IsItemWithin (send label size to settings) → AreGivenOnce settings
-    → ((t : Seen) → Behind s t (send label size to settings) → Passes t kinds) → Passes s (item_tokens (send label size to settings) ++ kinds)
+    → ((t : Seen) → IsAfterItem s t (send label size to settings) → Passes t kinds) → Passes s (item_tokens (send label size to settings) ++ kinds)
 unfolding step fault_in
 send_passes label size to settings s kinds fits within once good =
     subst (Passes s) (sym (append_assoc (label_tokens label) (token.Send ∷ amount_token size ∷ token.To ∷ token.Number to ∷ flat_map setting_tokens settings) kinds))
-    (word_passes action.Send s label (amount_token size ∷ token.To ∷ token.Number to ∷ flat_map setting_tokens settings ++ kinds) fits.begins (is_new s label (length (ops_now s)) fits.new) (let few = fits.ops in omega arith) (λ head.
+    (word_passes action.Send s label (amount_token size ∷ token.To ∷ token.Number to ∷ flat_map setting_tokens settings ++ kinds) fits.begins (fitting_label_is_new s label (length (ops_now s)) fits.new) (let few = fits.ops in omega arith) (λ head.
     sized size within.0 head))
   where
     rest : (n : ℕ) (head : ItemHead)
@@ -312,7 +312,7 @@ send_passes label size to settings s kinds fits within once good =
         next (λ c d. passes_u32 to (fault.Number c) within.1) (λ c d.
         send_settings settings (record (begun_at s label head action.Send) { state = state.Send4; draft = record (begun action.Send s.draft.option) { size = n; peer = Some to } }) kinds
         (recursion_from_All IsSettingWithin settings within.2) (recursion_from_All IsOfSend settings within.3) (once_fresh settings once) (λ draft.
-        good _ (behind_action s label head action.Send state.Send4 draft tt (send label size to settings) refl (λ n. refl) refl refl refl))))
+        good _ (seen_after_action_is_after_item s label head action.Send state.Send4 draft tt (send label size to settings) refl (λ n. refl) refl refl refl))))
 
     sized : (z : Amount) → amount z ≤ MAX_BYTES → (head : ItemHead)
         → Passes (begun_at s label head action.Send) (amount_token z ∷ token.To ∷ token.Number to ∷ flat_map setting_tokens settings ++ kinds)
@@ -322,11 +322,11 @@ send_passes label size to settings s kinds fits within once good =
 -- a receive
 recv_passes : (label : Option (List ℕ)) (size : Amount) (from : Option ℕ) (settings : List Setting) (s : Seen) (kinds : List TokenKind) → Fits s (recv label size from settings)
     → IsItemWithin (recv label size from settings) → AreGivenOnce settings
-    → ((t : Seen) → Behind s t (recv label size from settings) → Passes t kinds) → Passes s (item_tokens (recv label size from settings) ++ kinds)
+    → ((t : Seen) → IsAfterItem s t (recv label size from settings) → Passes t kinds) → Passes s (item_tokens (recv label size from settings) ++ kinds)
 unfolding step fault_in
 recv_passes label size from settings s kinds fits within once good =
     subst (Passes s) (sym (append_assoc (label_tokens label) (token.Recv ∷ amount_token size ∷ token.From ∷ number_or_any from ∷ flat_map setting_tokens settings) kinds))
-    (word_passes action.Recv s label (amount_token size ∷ token.From ∷ number_or_any from ∷ flat_map setting_tokens settings ++ kinds) fits.begins (is_new s label (length (ops_now s)) fits.new) (let few = fits.ops in omega arith) (λ head.
+    (word_passes action.Recv s label (amount_token size ∷ token.From ∷ number_or_any from ∷ flat_map setting_tokens settings ++ kinds) fits.begins (fitting_label_is_new s label (length (ops_now s)) fits.new) (let few = fits.ops in omega arith) (λ head.
     sized size within.0 head))
   where
     behind : (n : ℕ) (source : Option ℕ) (head : ItemHead)
@@ -334,7 +334,7 @@ recv_passes label size from settings s kinds fits within once good =
     behind n source head =
         recv_settings settings (record (begun_at s label head action.Recv) { state = state.Recv4; draft = record (begun action.Recv s.draft.option) { size = n; peer = source } }) kinds
         (recursion_from_All IsSettingWithin settings within.2) (once_fresh settings once) (λ draft.
-        good _ (behind_action s label head action.Recv state.Recv4 draft tt (recv label size from settings) refl (λ n. refl) refl refl refl))
+        good _ (seen_after_action_is_after_item s label head action.Recv state.Recv4 draft tt (recv label size from settings) refl (λ n. refl) refl refl refl))
 
     rest : (n : ℕ) (source : Option ℕ) → unwrap_or source 0 < 2 ^ 32 → (head : ItemHead)
         → Passes (record (begun_at s label head action.Recv) { state = state.Recv2; draft = record (begun action.Recv s.draft.option) { size = n } }) (token.From ∷ number_or_any source ∷ flat_map setting_tokens settings ++ kinds)
@@ -347,14 +347,14 @@ recv_passes label size from settings s kinds fits within once good =
     sized (marked n) few head = next (λ a b. passes_upto n MAX_BYTES (fault.Number a) few) (λ a b. rest n from within.1 head)
 
 -- a dependency and a note
-one_label : (us : List Mention) (u : Mention) → labels_in (us ++ u ∷ []) ≡ labels_in us ++ u.label ∷ []
-one_label us u = map-append (λ (v : Mention). v.label) us (u ∷ [])
+labels_in_appended_mention : (us : List Mention) (u : Mention) → labels_in (us ++ u ∷ []) ≡ labels_in us ++ u.label ∷ []
+labels_in_appended_mention us u = map-append (λ (v : Mention). v.label) us (u ∷ [])
 
-two_labels : (us : List Mention) (u v : Mention) → labels_in ((us ++ u ∷ []) ++ v ∷ []) ≡ labels_in us ++ u.label ∷ v.label ∷ []
-two_labels us u v =
-    one_label (us ++ u ∷ []) v ∙ ap (λ (ls : List (List ℕ)). ls ++ v.label ∷ []) (one_label us u) ∙ append_assoc (labels_in us) (u.label ∷ []) (v.label ∷ [])
+labels_in_two_appended_mentions : (us : List Mention) (u v : Mention) → labels_in ((us ++ u ∷ []) ++ v ∷ []) ≡ labels_in us ++ u.label ∷ v.label ∷ []
+labels_in_two_appended_mentions us u v =
+    labels_in_appended_mention (us ++ u ∷ []) v ∙ ap (λ (ls : List (List ℕ)). ls ++ v.label ∷ []) (labels_in_appended_mention us u) ∙ append_assoc (labels_in us) (u.label ∷ []) (v.label ∷ [])
 
--- what is given behind a dependency, and behind a note
+-- what is given after a dependency, and after a note
 abbrev after_dep : Seen → List ℕ → List ℕ → ℕ → ℕ → Verb → Seen
 after_dep s later earlier at there verb = record s {
   state = state.Item;
@@ -375,38 +375,38 @@ after_note s subject at verb first second = record s {
   counts = record s.counts { notes = s.counts.notes + 1 };
 }
 
-same_with_none : (n : ℕ) → n ≡ n + 0
-same_with_none n = omega arith
+equals_plus_zero : (n : ℕ) → n ≡ n + 0
+equals_plus_zero n = omega arith
 
-behind_dep : (s : Seen) (later earlier : List ℕ) (at there : ℕ) (verb : Verb) (item : Item) → op_said item ≡ [] → ((n : ℕ) → [] ≡ defined_by item n)
+after_dep_is_after_item : (s : Seen) (later earlier : List ℕ) (at there : ℕ) (verb : Verb) (item : Item) → op_said item ≡ [] → ((n : ℕ) → [] ≡ defined_by item n)
     → used_by item ≡ later ∷ earlier ∷ [] → length (dep_said [] item) ≡ 1 → length (note_said [] item) ≡ 0
-    → Behind s (after_dep s later earlier at there verb) item
+    → IsAfterItem s (after_dep s later earlier at there verb) item
 unfolding ends_action
-behind_dep s later earlier at there verb item ops defines uses deps notes = record {
+after_dep_is_after_item s later earlier at there verb item ops defines uses deps notes = record {
   begins = tt;
   ranks = refl;
   blocks = refl;
-  ops = same_with_none (length (ops_now s)) ∙ ap (λ (l : List Op). length (ops_now s) + length l) (sym ops);
+  ops = equals_plus_zero (length (ops_now s)) ∙ ap (λ (l : List Op). length (ops_now s) + length l) (sym ops);
   defined = sym (append-nil s.defined) ∙ ap (λ (ds : List Definition). s.defined ++ ds) (defines (length (ops_now s)));
-  used = two_labels s.used (record { label = later; at = at }) (record { label = earlier; at = there }) ∙ ap (λ (ls : List (List ℕ)). labels_in s.used ++ ls) (sym uses);
-  op_count = same_with_none s.counts.ops ∙ ap (λ (l : List Op). s.counts.ops + length l) (sym ops);
+  used = labels_in_two_appended_mentions s.used (record { label = later; at = at }) (record { label = earlier; at = there }) ∙ ap (λ (ls : List (List ℕ)). labels_in s.used ++ ls) (sym uses);
+  op_count = equals_plus_zero s.counts.ops ∙ ap (λ (l : List Op). s.counts.ops + length l) (sym ops);
   dep_count = ap (λ (n : ℕ). s.counts.deps + n) (sym deps);
-  note_count = same_with_none s.counts.notes ∙ ap (λ (n : ℕ). s.counts.notes + n) (sym notes);
+  note_count = equals_plus_zero s.counts.notes ∙ ap (λ (n : ℕ). s.counts.notes + n) (sym notes);
 }
 
-behind_note : (s : Seen) (label : List ℕ) (at : ℕ) (verb : Verb) (first second : ℕ) (item : Item) → op_said item ≡ [] → ((n : ℕ) → [] ≡ defined_by item n)
+after_note_is_after_item : (s : Seen) (label : List ℕ) (at : ℕ) (verb : Verb) (first second : ℕ) (item : Item) → op_said item ≡ [] → ((n : ℕ) → [] ≡ defined_by item n)
     → used_by item ≡ label ∷ [] → length (dep_said [] item) ≡ 0 → length (note_said [] item) ≡ 1
-    → Behind s (after_note s label at verb first second) item
+    → IsAfterItem s (after_note s label at verb first second) item
 unfolding ends_action
-behind_note s label at verb first second item ops defines uses deps notes = record {
+after_note_is_after_item s label at verb first second item ops defines uses deps notes = record {
   begins = tt;
   ranks = refl;
   blocks = refl;
-  ops = same_with_none (length (ops_now s)) ∙ ap (λ (l : List Op). length (ops_now s) + length l) (sym ops);
+  ops = equals_plus_zero (length (ops_now s)) ∙ ap (λ (l : List Op). length (ops_now s) + length l) (sym ops);
   defined = sym (append-nil s.defined) ∙ ap (λ (ds : List Definition). s.defined ++ ds) (defines (length (ops_now s)));
-  used = one_label s.used (record { label = label; at = at }) ∙ ap (λ (ls : List (List ℕ)). labels_in s.used ++ ls) (sym uses);
-  op_count = same_with_none s.counts.ops ∙ ap (λ (l : List Op). s.counts.ops + length l) (sym ops);
-  dep_count = same_with_none s.counts.deps ∙ ap (λ (n : ℕ). s.counts.deps + n) (sym deps);
+  used = labels_in_appended_mention s.used (record { label = label; at = at }) ∙ ap (λ (ls : List (List ℕ)). labels_in s.used ++ ls) (sym uses);
+  op_count = equals_plus_zero s.counts.ops ∙ ap (λ (l : List Op). s.counts.ops + length l) (sym ops);
+  dep_count = equals_plus_zero s.counts.deps ∙ ap (λ (n : ℕ). s.counts.deps + n) (sym deps);
   note_count = ap (λ (n : ℕ). s.counts.notes + n) (sym notes);
 }
 
@@ -415,7 +415,7 @@ requires_passes : (later earlier : List ℕ) (s : Seen) (kinds : List TokenKind)
 unfolding step fault_in
 requires_passes later earlier s kinds begins few good =
     label_passes s later (token.Requires ∷ token.Label earlier ∷ kinds) begins (λ at.
-    next (λ a b. passes_if_false (nat_le MAX_DEPS s.counts.deps) (fault.TooMany a) (room_for_next MAX_DEPS s.counts.deps few)) (λ a b.
+    next (λ a b. passes_if_false (nat_le MAX_DEPS s.counts.deps) (fault.TooMany a) (limit_not_reached MAX_DEPS s.counts.deps few)) (λ a b.
     next (λ c d. refl) (λ c d. good at c)))
 
 irequires_passes : (later earlier : List ℕ) (s : Seen) (kinds : List TokenKind) → BeginsItem s.state → s.counts.deps < MAX_DEPS
@@ -423,7 +423,7 @@ irequires_passes : (later earlier : List ℕ) (s : Seen) (kinds : List TokenKind
 unfolding step fault_in
 irequires_passes later earlier s kinds begins few good =
     label_passes s later (token.Irequires ∷ token.Label earlier ∷ kinds) begins (λ at.
-    next (λ a b. passes_if_false (nat_le MAX_DEPS s.counts.deps) (fault.TooMany a) (room_for_next MAX_DEPS s.counts.deps few)) (λ a b.
+    next (λ a b. passes_if_false (nat_le MAX_DEPS s.counts.deps) (fault.TooMany a) (limit_not_reached MAX_DEPS s.counts.deps few)) (λ a b.
     next (λ c d. refl) (λ c d. good at c)))
 
 moves_passes : (label : List ℕ) (first last : ℕ) (s : Seen) (kinds : List TokenKind) → BeginsItem s.state → s.counts.notes < MAX_NOTES → first < 2 ^ 32 → last < 2 ^ 32
@@ -431,7 +431,7 @@ moves_passes : (label : List ℕ) (first last : ℕ) (s : Seen) (kinds : List To
 unfolding step fault_in
 moves_passes label first last s kinds begins few first_fits last_fits good =
     label_passes s label (token.Moves ∷ token.Number first ∷ token.To ∷ token.Number last ∷ kinds) begins (λ at.
-    next (λ a b. passes_if_false (nat_le MAX_NOTES s.counts.notes) (fault.TooMany a) (room_for_next MAX_NOTES s.counts.notes few)) (λ a b.
+    next (λ a b. passes_if_false (nat_le MAX_NOTES s.counts.notes) (fault.TooMany a) (limit_not_reached MAX_NOTES s.counts.notes few)) (λ a b.
     next (λ c d. passes_u32 first (fault.Number c) first_fits) (λ c d.
     next (λ e f. refl) (λ e f.
     next (λ g h. passes_u32 last (fault.Number g) last_fits) (λ g h. good at)))))
@@ -441,31 +441,31 @@ adds_passes : (label : List ℕ) (from to : ℕ) (s : Seen) (kinds : List TokenK
 unfolding step fault_in
 adds_passes label from to s kinds begins few from_fits to_fits good =
     label_passes s label (token.Adds ∷ token.Number from ∷ token.To ∷ token.Number to ∷ kinds) begins (λ at.
-    next (λ a b. passes_if_false (nat_le MAX_NOTES s.counts.notes) (fault.TooMany a) (room_for_next MAX_NOTES s.counts.notes few)) (λ a b.
+    next (λ a b. passes_if_false (nat_le MAX_NOTES s.counts.notes) (fault.TooMany a) (limit_not_reached MAX_NOTES s.counts.notes few)) (λ a b.
     next (λ c d. passes_u32 from (fault.Number c) from_fits) (λ c d.
     next (λ e f. refl) (λ e f.
     next (λ g h. passes_u32 to (fault.Number g) to_fits) (λ g h. good at)))))
 
-one_less : (n limit : ℕ) → n + 1 ≤ limit → n < limit
-one_less n limit h = omega arith
+less_if_successor_fits : (n limit : ℕ) → n + 1 ≤ limit → n < limit
+less_if_successor_fits n limit h = omega arith
 
 item_passes : (item : Item) (s : Seen) (kinds : List TokenKind) → Fits s item → IsItemWithin item → HasOptionsOnce item
-    → ((t : Seen) → Behind s t item → Passes t kinds) → Passes s (item_tokens item ++ kinds)
+    → ((t : Seen) → IsAfterItem s t item → Passes t kinds) → Passes s (item_tokens item ++ kinds)
 item_passes (calc label nanos on) s kinds fits within once good = calc_passes label nanos on s kinds fits within good
 item_passes (send label size to settings) s kinds fits within once good = send_passes label size to settings s kinds fits within once good
 item_passes (recv label size from settings) s kinds fits within once good = recv_passes label size from settings s kinds fits within once good
 item_passes (requires later earlier) s kinds fits within once good =
-    requires_passes later earlier s kinds fits.begins (one_less s.counts.deps MAX_DEPS fits.deps) (λ at there.
-    good (after_dep s later earlier at there verb.Requires) (behind_dep s later earlier at there verb.Requires (requires later earlier) refl (λ n. refl) refl refl refl))
+    requires_passes later earlier s kinds fits.begins (less_if_successor_fits s.counts.deps MAX_DEPS fits.deps) (λ at there.
+    good (after_dep s later earlier at there verb.Requires) (after_dep_is_after_item s later earlier at there verb.Requires (requires later earlier) refl (λ n. refl) refl refl refl))
 item_passes (irequires later earlier) s kinds fits within once good =
-    irequires_passes later earlier s kinds fits.begins (one_less s.counts.deps MAX_DEPS fits.deps) (λ at there.
-    good (after_dep s later earlier at there verb.Irequires) (behind_dep s later earlier at there verb.Irequires (irequires later earlier) refl (λ n. refl) refl refl refl))
+    irequires_passes later earlier s kinds fits.begins (less_if_successor_fits s.counts.deps MAX_DEPS fits.deps) (λ at there.
+    good (after_dep s later earlier at there verb.Irequires) (after_dep_is_after_item s later earlier at there verb.Irequires (irequires later earlier) refl (λ n. refl) refl refl refl))
 item_passes (moves label first last) s kinds fits within once good =
-    moves_passes label first last s kinds fits.begins (one_less s.counts.notes MAX_NOTES fits.notes) within.0 within.1 (λ at.
-    good (after_note s label at verb.Moves first last) (behind_note s label at verb.Moves first last (moves label first last) refl (λ n. refl) refl refl refl))
+    moves_passes label first last s kinds fits.begins (less_if_successor_fits s.counts.notes MAX_NOTES fits.notes) within.0 within.1 (λ at.
+    good (after_note s label at verb.Moves first last) (after_note_is_after_item s label at verb.Moves first last (moves label first last) refl (λ n. refl) refl refl refl))
 item_passes (adds label from to) s kinds fits within once good =
-    adds_passes label from to s kinds fits.begins (one_less s.counts.notes MAX_NOTES fits.notes) within.0 within.1 (λ at.
-    good (after_note s label at verb.Adds from to) (behind_note s label at verb.Adds from to (adds label from to) refl (λ n. refl) refl refl refl))
+    adds_passes label from to s kinds fits.begins (less_if_successor_fits s.counts.notes MAX_NOTES fits.notes) within.0 within.1 (λ at.
+    good (after_note s label at verb.Adds from to) (after_note_is_after_item s label at verb.Adds from to (adds label from to) refl (λ n. refl) refl refl refl))
 
 count-cons : {X : Type 0} (p : X → Bool) (x : X) (xs : List X) → count_by p (x ∷ xs) ≡ cond (p x) 1 0 + count_by p xs
 count-cons p x xs = sum_by-cons (λ y. cond (p y) 1 0) x xs
@@ -474,16 +474,16 @@ count-append : {X : Type 0} (p : X → Bool) (xs ys : List X) → count_by p (xs
 count-append p xs ys = sum_by-append (λ y. cond (p y) 1 0) xs ys
 
 -- a label that is counted in none of these definitions is not defined
-none_here : (b : Bool) (ds : List Definition) (label : List ℕ) (op : ℕ) → cond b 1 0 + count_by (λ (e : Definition). bytes_eq label e.label) ds ≡ 0
+uncounted_label_is_undefined_in_cons : (b : Bool) (ds : List Definition) (label : List ℕ) (op : ℕ) → cond b 1 0 + count_by (λ (e : Definition). bytes_eq label e.label) ds ≡ 0
     → (count_by (λ (e : Definition). bytes_eq label e.label) ds ≡ 0 → is_defined ds label ≡ false) → is_some (if b then Some op else defined_as ds label) ≡ false
-none_here true ds label op none rest = absurd (omega (arith, none))
-none_here false ds label op none rest = rest (omega (arith, none))
+uncounted_label_is_undefined_in_cons true ds label op none rest = absurd (omega (arith, none))
+uncounted_label_is_undefined_in_cons false ds label op none rest = rest (omega (arith, none))
 
-none_defined : (ds : List Definition) (label : List ℕ) → count_by (λ (d : Definition). bytes_eq label d.label) ds ≡ 0 → is_defined ds label ≡ false
+uncounted_label_is_undefined : (ds : List Definition) (label : List ℕ) → count_by (λ (d : Definition). bytes_eq label d.label) ds ≡ 0 → is_defined ds label ≡ false
 unfolding defined_as
-none_defined [] label none = refl
-none_defined (d ∷ ds) label none =
-    none_here (bytes_eq label d.label) ds label d.op (sym (count-cons (λ (e : Definition). bytes_eq label e.label) d ds) ∙ none) (none_defined ds label)
+uncounted_label_is_undefined [] label none = refl
+uncounted_label_is_undefined (d ∷ ds) label none =
+    uncounted_label_is_undefined_in_cons (bytes_eq label d.label) ds label d.op (sym (count-cons (λ (e : Definition). bytes_eq label e.label) d ds) ∙ none) (uncounted_label_is_undefined ds label)
 
 -- how many operations, dependencies and notes items have together
 abbrev op_total : List Item → ℕ
@@ -503,8 +503,8 @@ record FitAll (s : Seen) (items : List Item) : Type 0 where
   deps : s.counts.deps + dep_total items ≤ MAX_DEPS
   notes : s.counts.notes + note_total items ≤ MAX_NOTES
 
--- what is given behind items
-record BehindAll (s t : Seen) (items : List Item) : Type 0 where
+-- what is given after items
+record IsAfterItems (s t : Seen) (items : List Item) : Type 0 where
   begins : BeginsItem t.state
   ranks : t.ranks ≡ s.ranks
   blocks : t.blocks ≡ s.blocks
@@ -519,26 +519,26 @@ module _ (item : Item) (items : List Item) (s : Seen) (fits : FitAll s (item ∷
   abbrev behind_first : List Definition
   behind_first = definitions (length (ops_now s) + length (op_said item)) items
 
-  first_new : (label : List ℕ) → defined_by item (length (ops_now s)) ≡ record { label = label; op = length (ops_now s) } ∷ [] → is_defined s.defined label ≡ false
-  first_new label is =
+  first_item_defines_new_label : (label : List ℕ) → defined_by item (length (ops_now s)) ≡ record { label = label; op = length (ops_now s) } ∷ [] → is_defined s.defined label ≡ false
+  first_item_defines_new_label label is =
       let test : Definition → Bool = λ d. bytes_eq label d.label in
       let whole : count_by (λ (d : Definition). bytes_eq label d.label) (s.defined ++ (defined_by item (length (ops_now s)) ++ behind_first)) ≡ count_by (λ (d : Definition). bytes_eq label d.label) s.defined + (count_by (λ (d : Definition). bytes_eq label d.label) (defined_by item (length (ops_now s))) + count_by (λ (d : Definition). bytes_eq label d.label) behind_first) =
       count-append test s.defined (defined_by item (length (ops_now s)) ++ behind_first) ∙ ap (λ (n : ℕ). count_by test s.defined + n) (count-append test (defined_by item (length (ops_now s))) behind_first) in
       let one : count_by (λ (d : Definition). bytes_eq label d.label) (defined_by item (length (ops_now s))) ≡ cond (bytes_eq label label) 1 0 + 0 =
       ap (count_by test) is ∙ count-cons test (record { label = label; op = length (ops_now s) }) [] in
       let same : ◌≡◌ {A = ℕ} (cond (bytes_eq label label) 1 0) 1 = ap (λ (b : Bool). cond b 1 0) ((bytes_eq-Decides label label).1 refl) in
-      none_defined s.defined label (omega (arith, whole, one, same, fits.once label))
+      uncounted_label_is_undefined s.defined label (omega (arith, whole, one, same, fits.once label))
 
   first_fits : Fits s item
   first_fits = record {
     begins = fits.begins;
-    new = first_new;
+    new = first_item_defines_new_label;
     ops = let few = fits.ops in omega (arith, length-append (op_said item) (flat_map op_said items));
     deps = let few = fits.deps in omega (arith, length-append (dep_said [] item) (flat_map (dep_said []) items));
     notes = let few = fits.notes in omega (arith, length-append (note_said [] item) (flat_map (note_said []) items));
   }
 
-  module _ (t : Seen) (behind : Behind s t item) where
+  module _ (t : Seen) (behind : IsAfterItem s t item) where
     definitions_on : t.defined ++ definitions (length (ops_now t)) items ≡ s.defined ++ (defined_by item (length (ops_now s)) ++ behind_first)
     definitions_on =
         ap (λ (ds : List Definition). ds ++ definitions (length (ops_now t)) items) behind.defined
@@ -554,7 +554,7 @@ module _ (item : Item) (items : List Item) (s : Seen) (fits : FitAll s (item ∷
       notes = let few = fits.notes in let more = behind.note_count in omega (arith, length-append (note_said [] item) (flat_map (note_said []) items));
     }
 
-    all_behind : (u : Seen) → BehindAll t u items → BehindAll s u (item ∷ items)
+    all_behind : (u : Seen) → IsAfterItems t u items → IsAfterItems s u (item ∷ items)
     all_behind u rest = record {
       begins = rest.begins;
       ranks = rest.ranks ∙ behind.ranks;
@@ -567,7 +567,7 @@ module _ (item : Item) (items : List Item) (s : Seen) (fits : FitAll s (item ∷
     }
 
 items_pass : (items : List Item) (s : Seen) (kinds : List TokenKind) → FitAll s items → AllByRecursion IsItemWithin items → AllByRecursion HasOptionsOnce items
-    → ((t : Seen) → BehindAll s t items → Passes t kinds) → Passes s (flat_map item_tokens items ++ kinds)
+    → ((t : Seen) → IsAfterItems s t items → Passes t kinds) → Passes s (flat_map item_tokens items ++ kinds)
 items_pass [] s kinds fits within once good =
     good s (record {
       begins = fits.begins;
@@ -575,9 +575,9 @@ items_pass [] s kinds fits within once good =
       blocks = refl;
       defined = sym (append-nil s.defined);
       used = sym (append-nil (labels_in s.used));
-      op_count = same_with_none s.counts.ops;
-      dep_count = same_with_none s.counts.deps;
-      note_count = same_with_none s.counts.notes;
+      op_count = equals_plus_zero s.counts.ops;
+      dep_count = equals_plus_zero s.counts.deps;
+      note_count = equals_plus_zero s.counts.notes;
     })
 items_pass (item ∷ items) s kinds fits within once good =
     subst (Passes s) (sym (append_assoc (item_tokens item) (flat_map item_tokens items) kinds))
@@ -596,19 +596,19 @@ close_passes s kinds begins known good = by s.state begins good
     by state.Recv4 begins good = next (λ start end. ap (option_map fault.UnknownLabel) known) (λ start end. good)
     by _ begins good = absurd begins
 
-all_known : (test : List ℕ → Bool) (us : List Mention) → AllByRecursion (λ (l : List ℕ). test l ≡ true) (labels_in us) → first_outside test us ≡ None
+no_label_outside_if_all_pass : (test : List ℕ → Bool) (us : List Mention) → AllByRecursion (λ (l : List ℕ). test l ≡ true) (labels_in us) → first_outside test us ≡ None
 unfolding first_outside
-all_known test [] all = refl
-all_known test (u ∷ us) all = ap (λ (b : Bool). if b then first_outside test us else Some u.at) all.0 ∙ all_known test us all.1
+no_label_outside_if_all_pass test [] all = refl
+no_label_outside_if_all_pass test (u ∷ us) all = ap (λ (b : Bool). if b then first_outside test us else Some u.at) all.0 ∙ no_label_outside_if_all_pass test us all.1
 
--- nothing of a block is open
+-- no block is open
 record IsTop (s : Seen) : Type 0 where
   top : s.state ≡ state.Top
   no_ops : s.ops ≡ []
   no_names : s.defined ≡ []
   no_uses : s.used ≡ []
 
--- the begin of a block
+-- the start of a block
 abbrev at_open : Seen → ℕ → Seen
 at_open s rank = record s { state = state.Item; blocks = s.blocks ++ rank ∷ []; rank = rank }
 
@@ -622,8 +622,8 @@ open_passes s rank kinds top below fits fresh good =
     next (λ a b. passes_rank rank s.ranks s.blocks a below fits fresh) (λ a b.
     next (λ a b. refl) (λ a b. good))))
 
--- what is given behind a block
-record BehindBlock (s t : Seen) (b : Block) : Type 0 where
+-- what is given after a block
+record IsAfterBlock (s t : Seen) (b : Block) : Type 0 where
   top : IsTop t
   ranks : t.ranks ≡ s.ranks
   blocks : t.blocks ≡ s.blocks ++ b.rank ∷ []
@@ -651,17 +651,17 @@ module _ (s : Seen) (b : Block) (is_top : IsTop s) (rules : KeepsRules b)
     notes = notes;
   }
 
-  block_known : (t : Seen) → BehindAll (at_open s b.rank) t b.items → first_unknown t.defined t.used ≡ None
+  block_known : (t : Seen) → IsAfterItems (at_open s b.rank) t b.items → first_unknown t.defined t.used ≡ None
   block_known t behind =
       let names : t.defined ≡ definitions 0 b.items = behind.defined ∙ opened_names in
       let uses : labels_in t.used ≡ flat_map used_by b.items = behind.used ∙ ap (λ (us : List Mention). labels_in us ++ flat_map used_by b.items) is_top.no_uses in
-      all_known (is_defined t.defined) t.used
+      no_label_outside_if_all_pass (is_defined t.defined) t.used
       (subst (λ (ls : List (List ℕ)). AllByRecursion (λ (l : List ℕ). is_defined t.defined l ≡ true) ls) (sym uses)
       (subst (λ (ds : List Definition). AllByRecursion (λ (l : List ℕ). is_defined ds l ≡ true) (flat_map used_by b.items)) (sym names)
       (recursion_from_All (λ (l : List ℕ). is_defined (definitions 0 b.items) l ≡ true) (flat_map used_by b.items) rules.defined)))
 
   block_passes : (kinds : List TokenKind) → b.rank < s.ranks → b.rank < 2 ^ 32 → list_any (nat_eq b.rank) s.blocks ≡ false → All IsItemWithin b.items
-      → ((t : Seen) → BehindBlock s t b → Passes t kinds) → Passes s (block_tokens b ++ kinds)
+      → ((t : Seen) → IsAfterBlock s t b → Passes t kinds) → Passes s (block_tokens b ++ kinds)
   block_passes kinds below fits fresh within good =
       subst (λ (ks : List TokenKind). Passes s (token.Rank ∷ token.Number b.rank ∷ token.Open ∷ ks)) (sym (append_assoc (flat_map item_tokens b.items) (token.Close ∷ []) kinds))
       (open_passes s b.rank (flat_map item_tokens b.items ++ token.Close ∷ kinds) is_top.top below fits fresh
@@ -675,7 +675,7 @@ module _ (s : Seen) (b : Block) (is_top : IsTop s) (rules : KeepsRules b)
         note_count = behind.note_count;
       })))))
 
--- the lengths of what a block says do not hang on its labels
+-- the numbers of a block's dependencies and notes do not depend on how labels are defined
 dep_length : (ds : List Definition) (items : List Item) → length (flat_map (dep_said ds) items) ≡ dep_total items
 dep_length ds [] = refl
 dep_length ds (item ∷ items) =
@@ -696,17 +696,17 @@ note_length ds (item ∷ items) =
     one (adds label from to) = refl
     one _ = refl
 
--- a rank that none of these is
-none_any : (rank : ℕ) (rs : List ℕ) → count_by (λ (r : ℕ). rank == r) rs ≡ 0 → list_any (nat_eq rank) rs ≡ false
-none_any rank [] none = refl
-none_any rank (r ∷ rs) none =
-    none_first (nat_eq rank r) (sym (count-cons (λ (q : ℕ). rank == q) r rs) ∙ none) (none_any rank rs)
+-- a rank that is none of these
+uncounted_rank_is_absent : (rank : ℕ) (rs : List ℕ) → count_by (λ (r : ℕ). rank == r) rs ≡ 0 → list_any (nat_eq rank) rs ≡ false
+uncounted_rank_is_absent rank [] none = refl
+uncounted_rank_is_absent rank (r ∷ rs) none =
+    none_first (nat_eq rank r) (sym (count-cons (λ (q : ℕ). rank == q) r rs) ∙ none) (uncounted_rank_is_absent rank rs)
   where
     none_first : (b : Bool) → cond b 1 0 + count_by (λ (q : ℕ). rank == q) rs ≡ 0 → (count_by (λ (q : ℕ). rank == q) rs ≡ 0 → list_any (nat_eq rank) rs ≡ false) → b || list_any (nat_eq rank) rs ≡ false
     none_first true h rest = absurd (omega (arith, h))
     none_first false h rest = rest (omega (arith, h))
 
--- blocks, behind those of the ranks that were given
+-- blocks, after those of the ranks that were given
 record FitBlocks (s : Seen) (ranks : ℕ) (bs : List Block) : Type 0 where
   top : IsTop s
   ranks_are : s.ranks ≡ ranks
@@ -717,23 +717,23 @@ record FitBlocks (s : Seen) (ranks : ℕ) (bs : List Block) : Type 0 where
   notes : s.counts.notes + notes_in bs ≤ MAX_NOTES
 
 module _ (b : Block) (bs : List Block) where
-  ops_here : ops_in (b ∷ bs) ≡ op_total b.items + ops_in bs
-  ops_here = sum_by-cons (λ (c : Block). length (plan_said c.items).ops) b bs
+  ops_in_cons : ops_in (b ∷ bs) ≡ op_total b.items + ops_in bs
+  ops_in_cons = sum_by-cons (λ (c : Block). length (plan_said c.items).ops) b bs
 
-  deps_here : deps_in (b ∷ bs) ≡ dep_total b.items + deps_in bs
-  deps_here = sum_by-cons (λ (c : Block). length (plan_said c.items).deps) b bs ∙ ap (λ (n : ℕ). n + deps_in bs) (dep_length (definitions 0 b.items) b.items)
+  deps_in_cons : deps_in (b ∷ bs) ≡ dep_total b.items + deps_in bs
+  deps_in_cons = sum_by-cons (λ (c : Block). length (plan_said c.items).deps) b bs ∙ ap (λ (n : ℕ). n + deps_in bs) (dep_length (definitions 0 b.items) b.items)
 
-  notes_here : notes_in (b ∷ bs) ≡ note_total b.items + notes_in bs
-  notes_here = sum_by-cons (λ (c : Block). length (plan_said c.items).notes) b bs ∙ ap (λ (n : ℕ). n + notes_in bs) (note_length (definitions 0 b.items) b.items)
+  notes_in_cons : notes_in (b ∷ bs) ≡ note_total b.items + notes_in bs
+  notes_in_cons = sum_by-cons (λ (c : Block). length (plan_said c.items).notes) b bs ∙ ap (λ (n : ℕ). n + notes_in bs) (note_length (definitions 0 b.items) b.items)
 
   module _ (s : Seen) (ranks : ℕ) (fits : FitBlocks s ranks (b ∷ bs)) where
     rank_new : list_any (nat_eq b.rank) s.blocks ≡ false
     rank_new =
         let here = count-cons (λ (c : Block). b.rank == c.rank) b bs in
         let same : ◌≡◌ {A = ℕ} (cond (b.rank == b.rank) 1 0) 1 = ap (λ (x : Bool). cond x 1 0) (eq-eqb b.rank b.rank refl) in
-        none_any b.rank s.blocks (omega (arith, here, same, fits.once b.rank))
+        uncounted_rank_is_absent b.rank s.blocks (omega (arith, here, same, fits.once b.rank))
 
-    blocks_behind : (t : Seen) → BehindBlock s t b → FitBlocks t ranks bs
+    blocks_behind : (t : Seen) → IsAfterBlock s t b → FitBlocks t ranks bs
     blocks_behind t behind = record {
       top = behind.top;
       ranks_are = behind.ranks ∙ fits.ranks_are;
@@ -744,9 +744,9 @@ module _ (b : Block) (bs : List Block) where
           let one = count-cons (λ (r : ℕ). rank == r) b.rank [] in
           let here = count-cons (λ (c : Block). rank == c.rank) b bs in
           omega (arith, now, one, here, fits.once rank);
-      ops = let most = fits.ops in let more = behind.op_count in omega (arith, ops_here);
-      deps = let most = fits.deps in let more = behind.dep_count in omega (arith, deps_here);
-      notes = let most = fits.notes in let more = behind.note_count in omega (arith, notes_here);
+      ops = let most = fits.ops in let more = behind.op_count in omega (arith, ops_in_cons);
+      deps = let most = fits.deps in let more = behind.dep_count in omega (arith, deps_in_cons);
+      notes = let most = fits.notes in let more = behind.note_count in omega (arith, notes_in_cons);
     }
 
 blocks_pass : (bs : List Block) (s : Seen) (ranks : ℕ) → FitBlocks s ranks bs → AllByRecursion (λ (b : Block). b.rank < ranks) bs → AllByRecursion KeepsRules bs
@@ -756,7 +756,7 @@ blocks_pass (b ∷ bs) s ranks fits below rules within =
     let low = below.0 in
     let few = fits.few in
     block_passes s b fits.top rules.0
-    (let most = fits.ops in omega (arith, ops_here b bs)) (let most = fits.deps in omega (arith, deps_here b bs)) (let most = fits.notes in omega (arith, notes_here b bs))
+    (let most = fits.ops in omega (arith, ops_in_cons b bs)) (let most = fits.deps in omega (arith, deps_in_cons b bs)) (let most = fits.notes in omega (arith, notes_in_cons b bs))
     (flat_map block_tokens bs) (omega (arith, low, fits.ranks_are)) (omega (arith, low, few)) (rank_new b bs s ranks fits) within.0 (λ t behind.
     blocks_pass bs t ranks (blocks_behind b bs s ranks fits t behind) below.1 rules.1 within.1)
 

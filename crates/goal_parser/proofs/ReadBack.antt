@@ -1,4 +1,4 @@
--- Sentences that keep the rules and the limits are read as the plans that they say.
+-- Sentences that obey the rules and the limits are read as their plans.
 use Rattle.std.proofs.Common.{◌≡◌, ℕ, ◌<◌, List, [], length, reverse, Option, None, refl, sym, ap, subst, ◌∙◌, arith}
 use Rattle.std.specs.Option.{option_or}
 use Rattle.std.proofs.lemmas.List.{append-nil, ext_get_or}
@@ -30,7 +30,7 @@ written_has_no_fault text w whole spelled right within =
     ∙ ap (λ (o : Option ℕ). last_fault o (state_of (reverse tokens)) (length text)) whole
     ∙ ap (λ (s : State). last_fault None s (length text)) top
 
--- plans that are said by the same sentences are the same
+-- the same sentences give the same plans
 said_plans_unique : (w : Written) (ps qs : List Plan) → AreSaid w ps → AreSaid w qs → ps ≡ qs
 said_plans_unique w ps qs one other =
     let long = one.ranks in

@@ -39,7 +39,7 @@ first_fault-append before (x ∷ xs) ys =
     ∙ or_assoc (token_fault before x) (first_fault (x ∷ before) xs) (first_fault (reverse xs ++ x ∷ before) ys)
     ∙ ap (λ l. option_or (option_or (token_fault before x) (first_fault (x ∷ before) xs)) (first_fault l ys)) (sym turned)
 
--- another token, behind tokens that pass
+-- another token, after tokens that pass
 pub first_fault-more : (hs : List Token) (t : Token) → first_fault [] hs ≡ None → first_fault [] (hs ++ t ∷ []) ≡ token_fault (reverse hs) t
 unfolding first_fault
 first_fault-more hs t passed =
@@ -54,7 +54,7 @@ reverse-more hs t = sym (reverse-append hs (t ∷ []))
 pub first_fault-front : (hs ys : List Token) (f : TextFault) → first_fault [] hs ≡ Some f → first_fault [] (hs ++ ys) ≡ Some f
 first_fault-front hs ys f h = first_fault-append [] hs ys ∙ ap (λ o. option_or o (first_fault (reverse hs ++ []) ys)) h
 
--- the tokens that were returned are the first of each continued text
+-- the tokens that were returned are the first ones of each text that continues this one
 pub handed_front : (lexer : LexState) (text more : List ℕ) → Stands lexer text → (lexer.ends_run ≡ true → begins_run more ≡ false) → (tokens : List Token) × ((lexed (text ++ more)).0 ≡ handed lexer text ++ tokens)
 handed_front lexer text [] stands apart = (
   closing lexer.place lexer.mode,
@@ -99,7 +99,7 @@ taken_and_dropped_join text rest more n =
     sym (append_assoc (text ++ take n rest) (drop n rest) more)
     ∙ ap (λ l. l ++ more) (append_assoc text (take n rest) (drop n rest) ∙ ap (λ l. text ++ l) (take-append-drop n rest))
 
--- bytes are left, so what follows them says nothing of what begins
+-- if bytes are left, what follows them does not decide whether a run begins
 pub no_run_whatever_follows : (n : ℕ) (rest more : List ℕ) → n < length rest → begins_run (drop n rest) ≡ false → begins_run (drop n rest ++ more) ≡ false
 no_run_whatever_follows n rest more left apart = by (drop n rest) (omega (arith, length-drop n rest)) apart
   where

@@ -72,7 +72,7 @@ ops_now s = ended_ops s.state token.Close (op_of s.draft) s.ops
 abbrev pub plan_now : Seen → Plan
 plan_now s = record { ops = ops_now s; deps = map (dep_by s.defined) s.deps; notes = map (note_by s.defined) s.notes }
 
--- the same with one token more
+-- the same after another token
 unfoldable pub step : Token → Seen → Seen
 unfolding entry draft_with ranks_with blocks_with rank_with head_with ops_with ends_action defined_with deps_with notes_with used_with counts_with plans_with
 step t s = record {
@@ -113,8 +113,8 @@ pub passes_if_false : (b : Bool) (f : TextFault) → b ≡ false → option_or (
 passes_if_false b f h = ap (λ (c : Bool). option_or (fault_if c f) None) h
 
 -- there is room for one more
-pub room_for_next : (limit n : ℕ) → n < limit → nat_le limit n ≡ false
-room_for_next limit n h = grind (arith, nat_tests)
+pub limit_not_reached : (limit n : ℕ) → n < limit → nat_le limit n ≡ false
+limit_not_reached limit n h = grind (arith, nat_tests)
 
 -- the number of a rank
 pub passes_rank : (n ranks : ℕ) (blocks : List ℕ) (at : ℕ) → n < ranks → n < 2 ^ 32 → list_any (nat_eq n) blocks ≡ false
@@ -137,6 +137,6 @@ BeginsItem _ = ⊥
 abbrev pub at_word : Seen → List ℕ → ℕ → Seen
 at_word s label at = record s { state = state.Word; ops = ops_now s; head = record s.head { subject = Some (record { label = label; at = at }) } }
 
--- the state behind the end of a block
+-- the state after the end of a block
 abbrev pub at_close : Seen → Seen
 at_close s = record s { state = state.Top; ops = []; defined = []; deps = []; notes = []; used = []; plans = slice_set s.plans s.rank (plan_now s) }

@@ -1,4 +1,4 @@
--- Labels that are defined and used, one more at a time.
+-- Labels that are defined and used, one after another.
 use Rattle.std.proofs.Common.{◌≡◌, ℕ, ◌+◌, ◌<◌, ◌≤◌, Bool, true, false, cond, List, [], ◌∷◌, ◌++◌, Option, Some, None, length, get_or, slice_get, take, zero, suc, rules, refl, sym, ap, subst, ◌∙◌, arith, bytes_eq, is_some, if◌then◌else◌, length-append}
 use Rattle.std.specs.Option.{option_or}
 use Rattle.std.specs.Map.{lookup, keys_of}
@@ -18,7 +18,7 @@ pub option_or-none : {A : Type 0} (a : Option A) → option_or a None ≡ a
 option_or-none None = refl
 option_or-none (Some x) = refl
 
--- one more at the end
+-- another element at the end
 
 first_by-append : (test : List ℕ → Bool) (es : Entries) (e : List ℕ × LabelInfo) → first_by test (es ++ e ∷ []) ≡ option_or (first_by test es) (if test e.0 then None else Some e.1.at)
 unfolding first_by
@@ -62,7 +62,7 @@ module _ (x : List ℕ) (v : LabelInfo) where
       by true h rest = cc
       by false h rest = ap (λ l. e ∷ l) (rest h)
 
-  -- a label that passes the test counts for nothing
+  -- a label that passes the test does not change the first one that fails it
   first_by-present : (test : List ℕ → Bool) (es : Entries) (s : LabelInfo) → ((q : List ℕ) → bytes_eq x q ≡ true → q ≡ x) → lookup (bytes_eq x) es ≡ Some s → test x ≡ true
       → first_by test (put es x v) ≡ first_by test es
   unfolding first_by
@@ -127,7 +127,7 @@ keys_put (e ∷ es) x v = by (bytes_eq x e.0) (keys_put es x v)
 pub Grows-put : (es fs : Entries) (x : List ℕ) (v : LabelInfo) → fs ≡ put es x v → Grows es fs
 Grows-put es fs x v same = Grows-by_keys es fs (keys_put es x v).0 (ap keys_of same ∙ (keys_put es x v).1)
 
--- what a lookup finds then
+-- what a lookup finds after that
 pub lookup-put : (es : Entries) (x : List ℕ) (v : LabelInfo) (q : List ℕ) → lookup (bytes_eq q) (put es x v) ≡ cond (bytes_eq x q) (Some v) (lookup (bytes_eq q) es)
 lookup-put [] x v q = ap (λ b. cond b (Some v) None) (nat_list_eq_equiv.symm q x)
 lookup-put (e ∷ es) x v q = by (bytes_eq x e.0) refl (lookup-put es x v q)
@@ -167,7 +167,7 @@ Keeps-empty es none = record {
   firsts = λ test all. ap (first_by test) none;
 }
 
--- a label that stood before is used again
+-- a known label is used again
 pub Keeps-again : (es : Entries) (ds : List Definition) (us : List Mention) (u : Mention) (s : LabelInfo) → lookup (bytes_eq u.label) es ≡ Some s → Keeps es ds us → Keeps es ds (us ++ u ∷ [])
 Keeps-again es ds us u s there k = record { numbers = k.numbers; firsts = λ test all. by test (test u.label) refl (k.firsts test all) ∙ sym (first_outside-append test us u) }
   where
@@ -184,7 +184,7 @@ undefined_has_none ds x h = by (defined_as ds x) h
     by None h = refl
     by (Some n) h = cc
 
--- a label stands for the first time, and is used
+-- a new label is used
 pub Keeps-used : (es fs : Entries) (ds : List Definition) (us : List Mention) (u : Mention) → lookup (bytes_eq u.label) es ≡ None
     → fs ≡ put es u.label (record { op = None; at = u.at }) → ((q : List ℕ) → lookup (bytes_eq q) fs ≡ cond (bytes_eq u.label q) (Some (record { op = None; at = u.at })) (lookup (bytes_eq q) es))
     → Keeps es ds us → Keeps fs ds (us ++ u ∷ [])
@@ -247,10 +247,10 @@ Keeps-defined es fs ds us x op place is_put updated k fresh = record {
     firsts test (Some s) h passes =
         first_by-present x (record { op = Some op; at = place }) test es s (bytes_eq_exact x) h passes
 
--- what was known of a label that is defined now
-pub defined_before : (es : Entries) (ds : List Definition) (us : List Mention) (x : List ℕ) (o : Option LabelInfo) → Keeps es ds us → o ≡ lookup (bytes_eq x) es → is_defined ds x ≡ is_some (op_in o)
+-- whether a label was defined, by its lookup
+pub lookup_says_defined : (es : Entries) (ds : List Definition) (us : List Mention) (x : List ℕ) (o : Option LabelInfo) → Keeps es ds us → o ≡ lookup (bytes_eq x) es → is_defined ds x ≡ is_some (op_in o)
 unfolding op_by
-defined_before es ds us x o keeps was = ap is_some (sym (keeps.numbers x) ∙ ap op_in (sym was))
+lookup_says_defined es ds us x o keeps was = ap is_some (sym (keeps.numbers x) ∙ ap op_in (sym was))
 
 -- the first label that isn't defined
 
@@ -283,22 +283,22 @@ slot_says_defined es ds us k s keeps h = ap is_some (sym (keeps.numbers k) ∙ a
 pub IsFrontDefined : Entries → ℕ → Type 0
 IsFrontDefined es i = (ds : List Definition) (us : List Mention) → Keeps es ds us → first_by (is_defined ds) (take i es) ≡ None
 
-pub front_none : (es : Entries) → IsFrontDefined es 0
+pub empty_front_is_defined : (es : Entries) → IsFrontDefined es 0
 unfolding first_by IsFrontDefined
-front_none es ds us k = refl
+empty_front_is_defined es ds us k = refl
 
-pub front_more : (es : Entries) (i : ℕ) (k : List ℕ) (s : LabelInfo) → IsFrontDefined es i → slice_get es i ≡ Some (k, s) → lookup (bytes_eq k) es ≡ Some s → is_some s.op ≡ true → IsFrontDefined es (i + 1)
+pub longer_front_is_defined : (es : Entries) (i : ℕ) (k : List ℕ) (s : LabelInfo) → IsFrontDefined es i → slice_get es i ≡ Some (k, s) → lookup (bytes_eq k) es ≡ Some s → is_some s.op ≡ true → IsFrontDefined es (i + 1)
 unfolding IsFrontDefined
-front_more es i k s front at found defined =
+longer_front_is_defined es i k s front at found defined =
     λ ds us keeps. first_by-more (is_defined ds) es i (k, s) (front ds us keeps) at (slot_says_defined es ds us k s keeps found ∙ defined)
 
-pub front_found : (es : Entries) (i : ℕ) (k : List ℕ) (s : LabelInfo) → IsFrontDefined es i → slice_get es i ≡ Some (k, s) → lookup (bytes_eq k) es ≡ Some s → is_some s.op ≡ false → (ds : List Definition) (us : List Mention) → Keeps es ds us → Some s.at ≡ first_unknown ds us
+pub first_unknown_after_defined_front : (es : Entries) (i : ℕ) (k : List ℕ) (s : LabelInfo) → IsFrontDefined es i → slice_get es i ≡ Some (k, s) → lookup (bytes_eq k) es ≡ Some s → is_some s.op ≡ false → (ds : List Definition) (us : List Mention) → Keeps es ds us → Some s.at ≡ first_unknown ds us
 unfolding IsFrontDefined
-front_found es i k s front at found undefined ds us keeps =
+first_unknown_after_defined_front es i k s front at found undefined ds us keeps =
     sym (first_by-found (is_defined ds) es i (k, s) (front ds us keeps) at (slot_says_defined es ds us k s keeps found ∙ undefined))
     ∙ keeps.firsts (is_defined ds) (λ q h. h)
 
-pub front_all : (es : Entries) (i : ℕ) → IsFrontDefined es i → length es ≤ i → (ds : List Definition) (us : List Mention) → Keeps es ds us → None ≡ first_unknown ds us
+pub no_unknown_if_all_defined : (es : Entries) (i : ℕ) → IsFrontDefined es i → length es ≤ i → (ds : List Definition) (us : List Mention) → Keeps es ds us → None ≡ first_unknown ds us
 unfolding IsFrontDefined
-front_all es i front all ds us keeps =
+no_unknown_if_all_defined es i front all ds us keeps =
     sym (front ds us keeps) ∙ ap (first_by (is_defined ds)) (take_all i es all) ∙ keeps.firsts (is_defined ds) (λ q h. h)

@@ -25,7 +25,7 @@ use Rattle.goal_print.proofs.Fits.{KindFits, OpFits, DepFits, NoteFits}
 use Rattle.goal_print.proofs.TextKinds.{op_kinds, ops_kinds, deps_kinds, note_kinds, notes_kinds}
 use Rattle.goal_print.proofs.Seen.{Seen, ops_now, Good, BeginsItem}
 use Rattle.goal_print.proofs.ItemsRead.{after_op, calc_draft, send_draft, recv_draft, calc_read, send_read, recv_read, after_dep, after_note, dep_read, moves_read, adds_read}
-use Rattle.goal_print.proofs.LabelLaws.{Knows, knows_with_next_label, used_more, used_none}
+use Rattle.goal_print.proofs.LabelLaws.{Knows, knows_with_next_label, no_outside_label_after_append, no_outside_label_in_empty}
 
 -- what a block leaves unchanged before its end
 pub record Frame : Type 0 where
@@ -130,7 +130,7 @@ items_begin s frame os ops deps notes h = record {
   knows = h.knows;
   deps_are = ap (map (dep_by s.defined)) h.no_deps;
   notes_are = ap (map (note_by s.defined)) h.no_notes;
-  known = ap (first_unknown s.defined) h.no_uses ∙ used_none (is_defined s.defined);
+  known = ap (first_unknown s.defined) h.no_uses ∙ no_outside_label_in_empty (is_defined s.defined);
   frame_is = h.frame_is;
   room = h.room;
 }
@@ -159,8 +159,8 @@ module _ (s : Seen) (frame : Frame) (os : List Op) (ds : List Dep) (ns : List No
             ∙ ap (λ (i : ℕ). ds ++ record { later = d.later; earlier = i; when = d.when } ∷ []) (label_number h.knows d.earlier fits.1);
         notes_are = h.notes_are;
         known =
-            used_more (is_defined s.defined) (s.used ++ record { label = label d.later; at = at } ∷ []) (record { label = label d.earlier; at = there })
-            (used_more (is_defined s.defined) s.used (record { label = label d.later; at = at }) h.known (label_known h.knows d.later fits.0))
+            no_outside_label_after_append (is_defined s.defined) (s.used ++ record { label = label d.later; at = at } ∷ []) (record { label = label d.earlier; at = there })
+            (no_outside_label_after_append (is_defined s.defined) s.used (record { label = label d.later; at = at }) h.known (label_known h.knows d.later fits.0))
             (label_known h.knows d.earlier fits.1);
         frame_is = h.frame_is;
         room = let fit = h.room.deps_fit in record { ops_fit = h.room.ops_fit; deps_fit = omega arith; notes_fit = h.room.notes_fit };
@@ -179,7 +179,7 @@ module _ (s : Seen) (frame : Frame) (os : List Op) (ds : List Dep) (ns : List No
         map-append (note_by s.defined) s.notes (record { subject = label op; verb = verb; first = first; second = second } ∷ [])
         ∙ ap (λ (l : List Note). l ++ note_as verb (op_number s.defined (label op)) first second ∷ []) h.notes_are
         ∙ ap (λ (i : ℕ). ns ++ note_as verb i first second ∷ []) (label_number h.knows op below);
-    known = used_more (is_defined s.defined) s.used (record { label = label op; at = at }) h.known (label_known h.knows op below);
+    known = no_outside_label_after_append (is_defined s.defined) s.used (record { label = label op; at = at }) h.known (label_known h.knows op below);
     frame_is = h.frame_is;
     room = let fit = h.room.notes_fit in record { ops_fit = h.room.ops_fit; deps_fit = h.room.deps_fit; notes_fit = omega arith };
   }

@@ -20,7 +20,7 @@ use Rattle.goal_parser.specs.Actions.{begun}
 use Rattle.goal_parser.specs.Items.{is_defined}
 use Rattle.goal_print.proofs.Fits.{WildFits}
 use Rattle.goal_print.proofs.TextKinds.{wild_kind, verb_kind, action_kinds}
-use Rattle.goal_print.proofs.Seen.{Seen, ops_now, step, fault_in, Good, next, passes_upto, passes_u32, BeginsItem, label_read, passes_if_false, room_for_next}
+use Rattle.goal_print.proofs.Seen.{Seen, ops_now, step, fault_in, Good, next, passes_upto, passes_u32, BeginsItem, label_read, passes_if_false, limit_not_reached}
 
 -- the verb of a dependency
 abbrev pub verb_of : When → Verb
@@ -110,7 +110,7 @@ module _ (s : Seen) (label : List ℕ) (kinds : List TokenKind) (plans : List Pl
   calc_read nanos cpu nic nanos_fit cpu_fits good =
       label_read s label (token.Colon ∷ action_kinds (Calc nanos) cpu nic kinds) plans begins (λ at.
       next (λ a b. passes_if_false (is_defined s.defined label) (fault.Repeat at) new) (λ a b.
-      next (λ a b. passes_if_false (nat_le MAX_OPS s.counts.ops) (fault.TooMany a) (room_for_next MAX_OPS s.counts.ops few)) (λ a b.
+      next (λ a b. passes_if_false (nat_le MAX_OPS s.counts.ops) (fault.TooMany a) (limit_not_reached MAX_OPS s.counts.ops few)) (λ a b.
       next (λ a b. passes_upto nanos MAX_NANOS (fault.Number a) nanos_fit) (λ a b.
       next (λ a b. refl) (λ a b.
       next (λ a b. passes_upto cpu 255 (fault.Number a) cpu_fits) (λ a b. good at))))))
@@ -122,7 +122,7 @@ module _ (s : Seen) (label : List ℕ) (kinds : List TokenKind) (plans : List Pl
   send_read bytes to tag cpu nic bytes_fit to_fits tag_fits cpu_fits nic_fits good =
       label_read s label (token.Colon ∷ action_kinds (Send bytes to tag) cpu nic kinds) plans begins (λ at.
       next (λ a b. passes_if_false (is_defined s.defined label) (fault.Repeat at) new) (λ a b.
-      next (λ a b. passes_if_false (nat_le MAX_OPS s.counts.ops) (fault.TooMany a) (room_for_next MAX_OPS s.counts.ops few)) (λ a b.
+      next (λ a b. passes_if_false (nat_le MAX_OPS s.counts.ops) (fault.TooMany a) (limit_not_reached MAX_OPS s.counts.ops few)) (λ a b.
       next (λ a b. passes_upto bytes MAX_BYTES (fault.Number a) bytes_fit) (λ a b.
       next (λ a b. refl) (λ a b.
       next (λ a b. passes_u32 to (fault.Number a) to_fits) (λ a b.
@@ -142,7 +142,7 @@ module _ (s : Seen) (label : List ℕ) (kinds : List TokenKind) (plans : List Pl
       let tail : List TokenKind = token.Cpu ∷ token.Number cpu ∷ token.Nic ∷ token.Number nic ∷ kinds in
       label_read s label (token.Colon ∷ action_kinds (Recv bytes from tag) cpu nic kinds) plans begins (λ at.
       next (λ a b. passes_if_false (is_defined s.defined label) (fault.Repeat at) new) (λ a b.
-      next (λ a b. passes_if_false (nat_le MAX_OPS s.counts.ops) (fault.TooMany a) (room_for_next MAX_OPS s.counts.ops few)) (λ a b.
+      next (λ a b. passes_if_false (nat_le MAX_OPS s.counts.ops) (fault.TooMany a) (limit_not_reached MAX_OPS s.counts.ops few)) (λ a b.
       next (λ a b. passes_upto bytes MAX_BYTES (fault.Number a) bytes_fit) (λ a b.
       next (λ a b. refl) (λ a b.
       source_read (after_op s label at state.Recv3 (record begun_draft { size = bytes })) from (token.Tag ∷ wild_kind tag ∷ tail) plans refl from_fits (
@@ -183,11 +183,11 @@ module _ (s : Seen) (kinds : List TokenKind) (plans : List Plan) (begins : Begin
   unfolding step fault_in
   dep_read later earlier AfterEnd few good =
       label_read s later (token.Requires ∷ token.Label earlier ∷ kinds) plans begins (λ at.
-      next (λ a b. passes_if_false (nat_le MAX_DEPS s.counts.deps) (fault.TooMany a) (room_for_next MAX_DEPS s.counts.deps few)) (λ a b.
+      next (λ a b. passes_if_false (nat_le MAX_DEPS s.counts.deps) (fault.TooMany a) (limit_not_reached MAX_DEPS s.counts.deps few)) (λ a b.
       next (λ a b. refl) (λ a b. good at a)))
   dep_read later earlier AfterStart few good =
       label_read s later (token.Irequires ∷ token.Label earlier ∷ kinds) plans begins (λ at.
-      next (λ a b. passes_if_false (nat_le MAX_DEPS s.counts.deps) (fault.TooMany a) (room_for_next MAX_DEPS s.counts.deps few)) (λ a b.
+      next (λ a b. passes_if_false (nat_le MAX_DEPS s.counts.deps) (fault.TooMany a) (limit_not_reached MAX_DEPS s.counts.deps few)) (λ a b.
       next (λ a b. refl) (λ a b. good at a)))
 
   pub moves_read : (subject : List ℕ) (lo hi : ℕ) → s.counts.notes < MAX_NOTES → lo < 2 ^ 32 → hi < 2 ^ 32
@@ -196,7 +196,7 @@ module _ (s : Seen) (kinds : List TokenKind) (plans : List Plan) (begins : Begin
   unfolding step fault_in
   moves_read subject lo hi few lo_fits hi_fits good =
       label_read s subject (token.Moves ∷ token.Number lo ∷ token.To ∷ token.Number hi ∷ kinds) plans begins (λ at.
-      next (λ a b. passes_if_false (nat_le MAX_NOTES s.counts.notes) (fault.TooMany a) (room_for_next MAX_NOTES s.counts.notes few)) (λ a b.
+      next (λ a b. passes_if_false (nat_le MAX_NOTES s.counts.notes) (fault.TooMany a) (limit_not_reached MAX_NOTES s.counts.notes few)) (λ a b.
       next (λ a b. passes_u32 lo (fault.Number a) lo_fits) (λ a b.
       next (λ a b. refl) (λ a b.
       next (λ a b. passes_u32 hi (fault.Number a) hi_fits) (λ a b. good at)))))
@@ -207,7 +207,7 @@ module _ (s : Seen) (kinds : List TokenKind) (plans : List Plan) (begins : Begin
   unfolding step fault_in
   adds_read subject from to few from_fits to_fits good =
       label_read s subject (token.Adds ∷ token.Number from ∷ token.To ∷ token.Number to ∷ kinds) plans begins (λ at.
-      next (λ a b. passes_if_false (nat_le MAX_NOTES s.counts.notes) (fault.TooMany a) (room_for_next MAX_NOTES s.counts.notes few)) (λ a b.
+      next (λ a b. passes_if_false (nat_le MAX_NOTES s.counts.notes) (fault.TooMany a) (limit_not_reached MAX_NOTES s.counts.notes few)) (λ a b.
       next (λ a b. passes_u32 from (fault.Number a) from_fits) (λ a b.
       next (λ a b. refl) (λ a b.
       next (λ a b. passes_u32 to (fault.Number a) to_fits) (λ a b. good at)))))

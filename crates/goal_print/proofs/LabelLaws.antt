@@ -57,16 +57,16 @@ knows_with_next_label ds n fits knows = record {
 
 -- another use of a label that passes a test
 
-pub used_more : (test : List ℕ → Bool) (us : List Mention) (u : Mention) → first_outside test us ≡ None → test u.label ≡ true → first_outside test (us ++ u ∷ []) ≡ None
+pub no_outside_label_after_append : (test : List ℕ → Bool) (us : List Mention) (u : Mention) → first_outside test us ≡ None → test u.label ≡ true → first_outside test (us ++ u ∷ []) ≡ None
 unfolding first_outside
-used_more test [] u none passes = ap (λ (b : Bool). if b then None else Some u.at) passes
-used_more test (f ∷ us) u none passes = by (test f.label) none (λ h. used_more test us u h passes)
+no_outside_label_after_append test [] u none passes = ap (λ (b : Bool). if b then None else Some u.at) passes
+no_outside_label_after_append test (f ∷ us) u none passes = by (test f.label) none (λ h. no_outside_label_after_append test us u h passes)
   where
     by : (b : Bool) → (if b then first_outside test us else Some f.at) ≡ None → (first_outside test us ≡ None → first_outside test (us ++ u ∷ []) ≡ None)
         → (if b then first_outside test (us ++ u ∷ []) else Some f.at) ≡ None
     by true h rest = rest h
     by false h rest = cc
 
-pub used_none : (test : List ℕ → Bool) → first_outside test [] ≡ None
+pub no_outside_label_in_empty : (test : List ℕ → Bool) → first_outside test [] ≡ None
 unfolding first_outside
-used_none test = refl
+no_outside_label_in_empty test = refl

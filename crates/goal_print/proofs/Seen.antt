@@ -17,7 +17,7 @@ use Rattle.goal_parser.specs.Items.{head_of, ops_of, defined_of, deps_of, notes_
 use Rattle.goal_parser.specs.Plans.{plans_of}
 use Rattle.goal_parser.specs.Faults.{token_fault}
 use Rattle.goal_parser.specs.Reads.{first_fault}
-pub use Rattle.goal_parser.proofs.ForCallers.{Seen, seen_of, ops_now, plan_now, passes_number, passes_upto, passes_u32, passes_if_false, passes_rank, room_for_next, BeginsItem, at_word, at_close}
+pub use Rattle.goal_parser.proofs.ForCallers.{Seen, seen_of, ops_now, plan_now, passes_number, passes_upto, passes_u32, passes_if_false, passes_rank, limit_not_reached, BeginsItem, at_word, at_close}
 unfoldable pub use Rattle.goal_parser.proofs.ForCallers.{step, fault_in}
 use Rattle.goal_parser.proofs.ForCallers.{kinds_of}
 

@@ -1,2 +1,2 @@
 -- The lemmas that upper crates may use: they import this file alone.
-pub use Rattle.goal_values.proofs.Growing.{grown_same, grown_more, payload_stays}
+pub use Rattle.goal_values.proofs.Growing.{has_grown_reflexive, has_grown_transitive, payload_stays}

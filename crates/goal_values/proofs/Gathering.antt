@@ -15,7 +15,7 @@ use Rattle.goal_values.specs.declared.sums.Term.TheVariants.{Nothing, Made}
 use Rattle.goal_values.specs.declared.sums.Sum.{Sum}
 use Rattle.goal_values.specs.Sums.{meaning, IsBelow}
 use Rattle.goal_values.specs.Parts.{values_of_sums, IsSum, AreSums}
-use Rattle.goal_values.proofs.SumValues.{below_more}
+use Rattle.goal_values.proofs.SumValues.{is_below_larger_bound}
 
 -- how much remains to be done for a part: it falls when the part is opened
 abbrev pub weight : List Value → Term → ℕ
@@ -38,8 +38,8 @@ abbrev pub weights : List Sum → List ℕ → ℕ
 weights sums numbers = sum_by (λ n. weight (values_of_sums [] sums) (left_of sums n)) numbers
 
 -- another contribution
-pub with_one : (f : Contribution → ℕ) (v : Value) (c : Contribution) → sum_by f (v ++ c ∷ []) ≡ sum_by f v + sum_by f (c ∷ [])
-with_one f v c = sum_by-append f v (c ∷ [])
+pub sum_by_append_one : (f : Contribution → ℕ) (v : Value) (c : Contribution) → sum_by f (v ++ c ∷ []) ≡ sum_by f v + sum_by f (c ∷ [])
+sum_by_append_one f v c = sum_by-append f v (c ∷ [])
 
 insert_sum : (f : Contribution → ℕ) (c : Contribution) (v : Value) → sum_by f (insert_one c v) ≡ f c + sum_by f v
 unfolding insert_one
@@ -50,7 +50,7 @@ insert_sum f c (d ∷ v) = go (is_lower c d) (insert_sum f c v)
     go true rest = sum_by-cons f c (d ∷ v)
     go false rest = omega (arith, sum_by-cons f d (insert_one c v), rest, sum_by-cons f d v)
 
--- a contribution in both parts is in the sum as often
+-- a sum has each contribution as often as its two parts together
 pub merge_sum : (f : Contribution → ℕ) (v w : Value) → sum_by f (merge v w) ≡ sum_by f v + sum_by f w
 unfolding merge
 merge_sum f [] w = omega arith
@@ -69,12 +69,12 @@ module _ (sums : List Sum) (are : AreSums sums) (i : ℕ) (inside : i < length (
   is = are.each i s (slice_get-get_or sums i none (omega (arith, inside, are.many)))
 
   pub left_below : IsBelow (length known) s.left
-  left_below = below_more i (length known) s.left (omega (arith, inside)) is.left
+  left_below = is_below_larger_bound i (length known) s.left (omega (arith, inside)) is.left
 
   pub right_below : IsBelow (length known) s.right
-  right_below = below_more i (length known) s.right (omega (arith, inside)) is.right
+  right_below = is_below_larger_bound i (length known) s.right (omega (arith, inside)) is.right
 
-  -- a contribution of its parts is in it as often
+  -- the value of a sum has each contribution as often as the values of its two parts together
   pub opened_parts : (f : Contribution → ℕ) (part : Term) → part ≡ Made i → sum_by f (meaning known part) ≡ sum_by f (meaning known s.left) + sum_by f (meaning known s.right)
   opened_parts f part e =
       ap (λ t. sum_by f (meaning known t)) e ∙ ap (sum_by f) is.value ∙ merge_sum f (meaning known s.left) (meaning known s.right)

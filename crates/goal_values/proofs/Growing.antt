@@ -6,13 +6,13 @@ use Rattle.goal_values.specs.declared.sums.Term.{Term}
 use Rattle.goal_values.specs.declared.values.TermPayload.{TermPayload}
 use Rattle.goal_values.specs.Sums.{meaning, IsBelow, HasGrown}
 use Rattle.goal_values.specs.Summed.{payload_values, IsPayload}
-use Rattle.goal_values.proofs.SumValues.{meaning_stays, below_more}
+use Rattle.goal_values.proofs.SumValues.{meaning_stays, is_below_larger_bound}
 
-pub grown_same : (sums : List Value) → HasGrown sums sums
-grown_same sums = ([], sym (append-nil sums))
+pub has_grown_reflexive : (sums : List Value) → HasGrown sums sums
+has_grown_reflexive sums = ([], sym (append-nil sums))
 
-pub grown_more : (old now new : List Value) → HasGrown old now → HasGrown now new → HasGrown old new
-grown_more old now new a b =
+pub has_grown_transitive : (old now new : List Value) → HasGrown old now → HasGrown now new → HasGrown old new
+has_grown_transitive old now new a b =
     (a.0 ++ b.0, b.1 ∙ ap (λ (vs : List Value). vs ++ b.0) a.1 ∙ append_assoc old a.0 b.0)
 
 meanings_stay : (sums more : List Value) (ts : List Term) → All (IsBelow (length sums)) ts → map (meaning (sums ++ more)) ts ≡ map (meaning sums) ts
@@ -23,4 +23,4 @@ meanings_stay sums more (t ∷ ts) below =
 -- a value of a payload has the same meaning, and still refers to existing sums
 pub payload_stays : (old new : List Value) → HasGrown old new → (l : TermPayload) → IsPayload old l → (payload_values new l ≡ payload_values old l) × IsPayload new l
 payload_stays old new grown l payload =
-    (ap (λ (vs : List Value). map (meaning vs) l.terms.items) grown.1 ∙ meanings_stay old grown.0 l.terms.items payload, λ k d inside. below_more (length old) (length new) _ (omega (arith, ap length grown.1, length-append old grown.0)) (payload k d inside))
+    (ap (λ (vs : List Value). map (meaning vs) l.terms.items) grown.1 ∙ meanings_stay old grown.0 l.terms.items payload, λ k d inside. is_below_larger_bound (length old) (length new) _ (omega (arith, ap length grown.1, length-append old grown.0)) (payload k d inside))

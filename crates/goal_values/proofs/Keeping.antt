@@ -13,12 +13,12 @@ use Rattle.goal_blocks.specs.Collectives.{initial}
 use Rattle.goal_blocks.specs.Segments.{initial_in}
 use Rattle.goal_values.specs.Kept.{values, first_values}
 use Rattle.goal_blocks.specs.Weight.{stored}
-use Rattle.goal_blocks.proofs.ForCallers.{stored_set, stored_most, stored_exchanged}
+use Rattle.goal_blocks.proofs.ForCallers.{stored_set, slot_length_at_most_stored, stored_exchanged}
 use Rattle.goal_values.specs.declared.sums.Term.{Term}
 use Rattle.goal_values.specs.Sums.{meaning, IsBelow, HasGrown}
 use Rattle.goal_values.specs.Rows.{found_in, HasSameSlots, HasSet}
 use Rattle.goal_values.specs.Summed.{Summed, kept_in, IsSound}
-use Rattle.goal_values.proofs.SumValues.{meaning_stays, below_more}
+use Rattle.goal_values.proofs.SumValues.{meaning_stays, is_below_larger_bound}
 
 abbrev pub Terms : Type 0
 Terms = List (List (ℕ × Term))
@@ -64,7 +64,7 @@ module _ (what : Collective) (ranks : ℕ) (segment : Segment) (sums : List Valu
   pub values_after : values (kept_in what ranks segment sums n) ≡ set_slot rank slot (meaning sums t) (values (kept_in what ranks segment sums m))
   values_after = λ i r k. value_after r k i
 
--- if each slot has the same, all values are unchanged
+-- if each slot has the same term as before, all values are unchanged
 pub values_same : (what : Collective) (ranks : ℕ) (segment : Segment) (sums : List Value) (m n : Terms) → HasSameSlots m n → values (kept_in what ranks segment sums n) ≡ values (kept_in what ranks segment sums m)
 values_same what ranks segment sums m n same = λ i r k. at r k i
   where
@@ -89,9 +89,9 @@ module _ (what : Collective) (ranks : ℕ) (segment : Segment) (sums more : List
       at r k =
           value_from_terms what ranks segment (sums ++ more) m r k ∙ go r k (found_in m r k) refl ∙ sym (value_from_terms what ranks segment sums m r k)
 
-  pub stay_below : AreBelow (length (sums ++ more)) m
-  stay_below r k t e =
-      below_more (length sums) (length (sums ++ more)) t (omega (arith, length-append sums more)) (below r k t e)
+  pub below_after_appended_sums : AreBelow (length (sums ++ more)) m
+  below_after_appended_sums r k t e =
+      is_below_larger_bound (length sums) (length (sums ++ more)) t (omega (arith, length-append sums more)) (below r k t e)
 
 pub below_after : (n : ℕ) (m after : Terms) (rank slot : ℕ) (t : Term) → HasSet rank slot t m after → AreBelow n m → IsBelow n t → AreBelow n after
 below_after n m after rank slot t updates below new r k u e =
@@ -106,21 +106,21 @@ none_is_not_some e = cc
 
 -- the values at the start
 module _ (what : Collective) (ranks : ℕ) (segment : Segment) (m : Terms) (empty : m ≡ []) (sums : List Value) where
-  none_there : (r k : ℕ) → found_in m r k ≡ None
-  none_there r k = ap (λ (ms : Terms). found_in ms r k) empty
+  none_found_in_empty_terms : (r k : ℕ) → found_in m r k ≡ None
+  none_found_in_empty_terms r k = ap (λ (ms : Terms). found_in ms r k) empty
 
   pub values_empty : values (kept_in what ranks segment sums m) ≡ initial_in what segment.width segment.block ranks
   values_empty = λ i r k. at r k i
     where
       at : (r k : ℕ) → values (kept_in what ranks segment sums m) r k ≡ initial_in what segment.width segment.block ranks r k
       at r k =
-          value_from_terms what ranks segment sums m r k ∙ ap (λ (o : Option Term). unwrap_or (option_map (meaning sums) o) (initial_in what segment.width segment.block ranks r k)) (none_there r k)
+          value_from_terms what ranks segment sums m r k ∙ ap (λ (o : Option Term). unwrap_or (option_map (meaning sums) o) (initial_in what segment.width segment.block ranks r k)) (none_found_in_empty_terms r k)
 
   pub sound_empty : (held : ℕ) → ranks ≤ rank_limit → segment.block * segment.width + segment.width ≤ 2 ^ 32 → held ≡ stored ranks (initial what ranks) → IsSound (record { kept = kept_in what ranks segment sums m; sums = sums }) m held
   sound_empty held few fits is = record {
     ranks = few;
     fits = fits;
-    below = λ r k t e. absurd (none_is_not_some (sym (none_there r k) ∙ e));
+    below = λ r k t e. absurd (none_is_not_some (sym (none_found_in_empty_terms r k) ∙ e));
     held_is = is ∙ sym (stored_exchanged segment.width segment.block what ranks fits) ∙ ap (stored ranks) (sym values_empty);
   }
 
@@ -134,11 +134,11 @@ module _ (what : Collective) (ranks : ℕ) (segment : Segment) (sums : List Valu
     held_is =
         let kept_before = stored_set ranks rank slot (meaning sums t) (values (kept_in what ranks segment sums m)) low small in
         let now : stored ranks (values (kept_in what ranks segment sums after)) ≡ stored ranks (set_slot rank slot (meaning sums t) (values (kept_in what ranks segment sums m))) = ap (stored ranks) (values_after what ranks segment sums m after rank slot t updates) in
-        let most = stored_most ranks rank slot (values (kept_in what ranks segment sums m)) low small in
+        let most = slot_length_at_most_stored ranks rank slot (values (kept_in what ranks segment sums m)) low small in
         omega (arith, kept_before, now, most, is, sound.held_is);
   }
 
--- each slot has the same
+-- the invariant still holds if each slot has the same term as before
 pub sound_same : (what : Collective) (ranks : ℕ) (segment : Segment) (sums : List Value) (m n : Terms) (held : ℕ) → HasSameSlots m n → IsSound (record { kept = kept_in what ranks segment sums m; sums = sums }) m held → IsSound (record { kept = kept_in what ranks segment sums n; sums = sums }) n held
 sound_same what ranks segment sums m n held same sound = record {
   ranks = sound.ranks;
@@ -149,30 +149,30 @@ sound_same what ranks segment sums m n held same sound = record {
 
 -- the value is that in the map, or else the first value
 module _ (what : Collective) (ranks : ℕ) (segment : Segment) (sums : List Value) (m : Terms) (s : Summed) (is : record { kept = kept_in what ranks segment sums m; sums = sums } ≡ s) where
-  pub value_there : (r k : ℕ) (t : Term) → Some t ≡ found_in m r k → meaning s.sums t ≡ values s.kept r k
-  value_there r k t e =
+  pub value_of_found_term : (r k : ℕ) (t : Term) → Some t ≡ found_in m r k → meaning s.sums t ≡ values s.kept r k
+  value_of_found_term r k t e =
       subst (λ (u : Summed). meaning u.sums t ≡ values u.kept r k) is (sym (value_from_terms what ranks segment sums m r k ∙ ap (λ (o : Option Term). unwrap_or (option_map (meaning sums) o) (initial_in what segment.width segment.block ranks r k)) (sym e)))
 
-  pub first_there : (r k : ℕ) (v : Value) → None ≡ found_in m r k → v ≡ first_values s.kept r k → v ≡ values s.kept r k
-  first_there r k v e first =
+  pub first_value_without_term : (r k : ℕ) (v : Value) → None ≡ found_in m r k → v ≡ first_values s.kept r k → v ≡ values s.kept r k
+  first_value_without_term r k v e first =
       first ∙ subst (λ (u : Summed). first_values u.kept r k ≡ values u.kept r k) is (sym (value_from_terms what ranks segment sums m r k ∙ ap (λ (o : Option Term). unwrap_or (option_map (meaning sums) o) (initial_in what segment.width segment.block ranks r k)) (sym e)))
 
-  pub below_there : (held : ℕ) → IsSound (record { kept = kept_in what ranks segment sums m; sums = sums }) m held → (r k : ℕ) (t : Term) → Some t ≡ found_in m r k → IsBelow (length s.sums) t
-  below_there held sound r k t e =
+  pub found_term_is_below : (held : ℕ) → IsSound (record { kept = kept_in what ranks segment sums m; sums = sums }) m held → (r k : ℕ) (t : Term) → Some t ≡ found_in m r k → IsBelow (length s.sums) t
+  found_term_is_below held sound r k t e =
       subst (λ (u : Summed). IsBelow (length u.sums) t) is (sound.below r k t (sym e))
 
 -- the term in the map of a slot, or else a term of its first value
 module _ (what : Collective) (ranks : ℕ) (segment : Segment) (sums : List Value) (m : Terms) (r k : ℕ) (old : Option Term) (first : Term) (there : old ≡ found_in m r k) where
-  pub old_size : meaning sums first ≡ initial_in what segment.width segment.block ranks r k → length (meaning sums (unwrap_or old first)) ≡ length (values (kept_in what ranks segment sums m) r k)
-  old_size is =
+  pub size_of_old_or_first_term : meaning sums first ≡ initial_in what segment.width segment.block ranks r k → length (meaning sums (unwrap_or old first)) ≡ length (values (kept_in what ranks segment sums m) r k)
+  size_of_old_or_first_term is =
       ap length (go old ∙ sym (value_from_terms what ranks segment sums m r k ∙ ap (λ (o : Option Term). unwrap_or (option_map (meaning sums) o) (initial_in what segment.width segment.block ranks r k)) (sym there)))
     where
       go : (o : Option Term) → meaning sums (unwrap_or o first) ≡ unwrap_or (option_map (meaning sums) o) (initial_in what segment.width segment.block ranks r k)
       go None = is
       go (Some t) = refl
 
-  pub old_below : IsBelow (length sums) first → AreBelow (length sums) m → IsBelow (length sums) (unwrap_or old first)
-  old_below small below = go old (sym there)
+  pub old_or_first_term_is_below : IsBelow (length sums) first → AreBelow (length sums) m → IsBelow (length sums) (unwrap_or old first)
+  old_or_first_term_is_below small below = go old (sym there)
     where
       go : (o : Option Term) → found_in m r k ≡ o → IsBelow (length sums) (unwrap_or o first)
       go None e = small
@@ -188,6 +188,6 @@ module _ (what : Collective) (ranks : ℕ) (segment : Segment) (sums new : List 
   sound_grown = record {
     ranks = sound.ranks;
     fits = sound.fits;
-    below = subst (λ (ns : List Value). AreBelow (length ns) m) (sym grown.1) (stay_below what ranks segment sums grown.0 m sound.below);
+    below = subst (λ (ns : List Value). AreBelow (length ns) m) (sym grown.1) (below_after_appended_sums what ranks segment sums grown.0 m sound.below);
     held_is = sound.held_is ∙ ap (stored ranks) (sym values_grown);
   }

@@ -30,19 +30,19 @@ meaning_stays known more Nothing below = refl
 meaning_stays known more (One c) below = refl
 meaning_stays known more (Made i) below = get_or-append known more [] i below
 
-pub below_more : (n m : ℕ) (t : Term) → n ≤ m → IsBelow n t → IsBelow m t
-below_more n m Nothing few below = tt
-below_more n m (One c) few below = tt
-below_more n m (Made i) few below = omega (arith, below)
+pub is_below_larger_bound : (n m : ℕ) (t : Term) → n ≤ m → IsBelow n t → IsBelow m t
+is_below_larger_bound n m Nothing few below = tt
+is_below_larger_bound n m (One c) few below = tt
+is_below_larger_bound n m (Made i) few below = omega (arith, below)
 
 pub meaning_sorted : (sums : List Value) (t : Term) → ((i : ℕ) → IsSorted (get_or sums i [])) → IsSorted (meaning sums t)
 meaning_sorted sums Nothing sorted = tt
 meaning_sorted sums (One c) sorted = (tt, tt)
 meaning_sorted sums (Made i) sorted = sorted i
 
-pub no_sums : AreSums []
+pub are_sums_of_empty : AreSums []
 unfolding values_of_sums
-no_sums = record {
+are_sums_of_empty = record {
   each = λ i s at. absurd (omega (arith, slice_get_within {A = Sum} [] i s at));
   sorted = λ i. subst IsSorted (sym (get_or_past [] i [] (omega arith))) tt;
   many = refl;
@@ -60,8 +60,8 @@ module _ (sums : List Sum) (are : AreSums sums) (s : Sum) where
   earlier_sum_stays i t at =
       let is = are.each i t at in
       let inside : i < length values = omega (arith, slice_get_within sums i t at, are.many) in
-      let left : meaning after t.left ≡ meaning values t.left = meaning_stays values _ t.left (below_more i (length values) t.left (omega arith) is.left) in
-      let right : meaning after t.right ≡ meaning values t.right = meaning_stays values _ t.right (below_more i (length values) t.right (omega arith) is.right) in
+      let left : meaning after t.left ≡ meaning values t.left = meaning_stays values _ t.left (is_below_larger_bound i (length values) t.left (omega arith) is.left) in
+      let right : meaning after t.right ≡ meaning values t.right = meaning_stays values _ t.right (is_below_larger_bound i (length values) t.right (omega arith) is.right) in
       let here : get_or after i [] ≡ get_or values i [] = get_or-append values (sum_in values s ∷ []) [] i inside in
       record {
         left = is.left;
@@ -125,9 +125,9 @@ size_of_value sums are values is i s read inside =
     let few : i < length sums = omega (arith, inside, are.many, ap length is) in
     (are.each i s (slice_get_read sums (length sums) i s refl few read)).size ∙ ap (λ (vs : List Value). length (get_or vs i [])) is
 
-pub none_of_length : (v : Value) → length v ≡ 0 → v ≡ []
-none_of_length [] e = refl
-none_of_length (c ∷ v) e = absurd (omega (arith, e))
+pub empty_of_length_zero : (v : Value) → length v ≡ 0 → v ≡ []
+empty_of_length_zero [] e = refl
+empty_of_length_zero (c ∷ v) e = absurd (omega (arith, e))
 
 -- a sum is appended to those of some values
 module _ (sums : List Sum) (are : AreSums sums) (known : List Value) (is : values_of_sums [] sums ≡ known) (s : Sum) (more : List Sum) (put : more ≡ sums ++ s ∷ []) where
@@ -137,14 +137,14 @@ module _ (sums : List Sum) (are : AreSums sums) (known : List Value) (is : value
       let all : P (values_of_sums [] sums) = subst P (sym is) (left, right, some_left, some_right, size) in
       subst AreSums (sym put) (sums_more sums are s all.0 all.1 all.2 all.3 all.4)
 
-  pub put_told : values_of_sums [] more ≡ known ++ sum_in known s ∷ []
-  put_told =
+  pub values_with_put_sum : values_of_sums [] more ≡ known ++ sum_in known s ∷ []
+  values_with_put_sum =
       ap (values_of_sums []) put ∙ values_of_one_more [] sums s ∙ ap (λ (vs : List Value). vs ++ sum_in vs s ∷ []) is
 
   pub put_value : (i : ℕ) → i ≡ length sums → (get_or (values_of_sums [] more) i [] ≡ sum_in known s) × (i < length (values_of_sums [] more))
   put_value i last =
       let place : i ≡ length known = omega (arith, last, are.many, ap length is) in
-      (ap₂ (λ (vs : List Value) (k : ℕ). get_or vs k []) put_told place ∙ get_or-append_seam known (sum_in known s) [] [], omega (arith, place, ap length put_told, length-append known (sum_in known s ∷ [])))
+      (ap₂ (λ (vs : List Value) (k : ℕ). get_or vs k []) values_with_put_sum place ∙ get_or-append_seam known (sum_in known s) [] [], omega (arith, place, ap length values_with_put_sum, length-append known (sum_in known s ∷ [])))
 
-pub sorted_as : (sums : List Sum) → AreSums sums → (known : List Value) → values_of_sums [] sums ≡ known → (i : ℕ) → IsSorted (get_or known i [])
-sorted_as sums are known is i = subst (λ (vs : List Value). IsSorted (get_or vs i [])) is (are.sorted i)
+pub values_of_sums_are_sorted : (sums : List Sum) → AreSums sums → (known : List Value) → values_of_sums [] sums ≡ known → (i : ℕ) → IsSorted (get_or known i [])
+values_of_sums_are_sorted sums are known is i = subst (λ (vs : List Value). IsSorted (get_or vs i [])) is (are.sorted i)

@@ -43,8 +43,8 @@ module _ (s t : Summed) (is : s ≡ t) (terms : List Term) (i : ℕ) (d : Term) 
   one_size = here ∙ ap (λ (u : Summed). length (meaning u.sums (get_or terms i d))) is
 
   -- with the next one
-  pub size_more : size + more ≡ first_sizes t.sums terms (i + 1)
-  size_more =
+  pub size_with_next_term : size + more ≡ first_sizes t.sums terms (i + 1)
+  size_with_next_term =
       omega (arith, so_far, one_size, sum_by_more (λ x. length (meaning t.sums x)) terms i d inside)
 
   pub size_within : size + more ≤ sum_by (λ (v : Value). length v) (map (meaning t.sums) terms)
@@ -52,6 +52,6 @@ module _ (s t : Summed) (is : s ≡ t) (terms : List Term) (i : ℕ) (d : Term) 
       omega (arith, so_far, one_size, sum_by_more_le (λ x. length (meaning t.sums x)) terms i d inside, sizes_mapped t.sums terms)
 
 -- with all of them
-pub size_all : (sums : List Value) (terms : List Term) (i size : ℕ) → length terms ≤ i → size ≡ first_sizes sums terms i → size ≡ sum_by (λ (v : Value). length v) (map (meaning sums) terms)
-size_all sums terms i size all so_far =
+pub size_of_all_terms : (sums : List Value) (terms : List Term) (i size : ℕ) → length terms ≤ i → size ≡ first_sizes sums terms i → size ≡ sum_by (λ (v : Value). length v) (map (meaning sums) terms)
+size_of_all_terms sums terms i size all so_far =
     so_far ∙ ap (sum_by (λ t. length (meaning sums t))) (take_all i terms all) ∙ sym (sizes_mapped sums terms)

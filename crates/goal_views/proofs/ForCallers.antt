@@ -10,17 +10,17 @@ use Rattle.goal_words.specs.declared.request.RunView.TheVariants as view
 use Rattle.goal_views.specs.Views.{Shows, IsShownRun}
 
 -- of one run
-one_text : (how : RunView) (sched : List Plan) (costs : CostModel) (h : List Timed) (one other : List ℕ) → Shows how sched costs h one
+shown_text_is_unique : (how : RunView) (sched : List Plan) (costs : CostModel) (h : List Timed) (one other : List ℕ) → Shows how sched costs h one
     → Shows how sched costs h other → one ≡ other
-one_text view.Printed sched costs h one other a b = a ∙ sym b
-one_text view.Waits sched costs h one other a b = report_unique sched costs h one other a b
-one_text view.Knots sched costs h one other a b = a ∙ sym b
-one_text view.Sum sched costs h one other a b = a ∙ sym b
+shown_text_is_unique view.Printed sched costs h one other a b = a ∙ sym b
+shown_text_is_unique view.Waits sched costs h one other a b = report_unique sched costs h one other a b
+shown_text_is_unique view.Knots sched costs h one other a b = a ∙ sym b
+shown_text_is_unique view.Sum sched costs h one other a b = a ∙ sym b
 
-pub one_shown : (how : RunView) (costs : CostModel) (sched : List Plan) (one other : List ℕ) (stuck waits : Bool)
+pub shown_run_is_unique : (how : RunView) (costs : CostModel) (sched : List Plan) (one other : List ℕ) (stuck waits : Bool)
     → IsShownRun how costs sched one stuck → IsShownRun how costs sched other waits → (one ≡ other) × (stuck ≡ waits)
-one_shown how costs sched one other stuck waits a b =
+shown_run_is_unique how costs sched one other stuck waits a b =
     let same = b.only a.history a.complete in (
-      one_text how sched costs b.history one other (subst (λ (h : List Timed). Shows how sched costs h one) same a.shown) b.shown,
+      shown_text_is_unique how sched costs b.history one other (subst (λ (h : List Timed). Shows how sched costs h one) same a.shown) b.shown,
       a.stuck_is ∙ ap (is_stuck sched costs) same ∙ sym b.stuck_is,
     )

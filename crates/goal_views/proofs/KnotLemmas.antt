@@ -35,7 +35,7 @@ unfolding stuck_text
 no_line [] is = refl
 no_line (s ∷ list) is = absurd (omega (arith, is))
 
--- if each operation has an end, there is no line of a stuck one
+-- if each operation has an end, the text of stuck operations is empty
 pub no_stuck_line : (plans : List Plan) (costs : CostModel) (h : List Timed) → count_by (lacks_end plans costs h) (operations plans) ≡ 0
     → [] ≡ stuck_text (stuck_list plans costs h)
 no_stuck_line plans costs h none = no_line (stuck_list plans costs h) (count_stuck plans costs h ∙ none)

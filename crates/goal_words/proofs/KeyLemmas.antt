@@ -22,7 +22,7 @@ word_of_key OverheadPicos = codes "--Op"
 word_of_key Sync = codes "--S"
 word_of_key Root = codes "--root"
 
--- what is found of a word, by a test of it
+-- the option found for a word agrees with a test of the word
 abbrev pub IsKeyOf : Option OptionKey → Bool → List ℕ → Type 0
 IsKeyOf None test w = test ≡ false
 IsKeyOf (Some key) test w = (test ≡ true) × (w ≡ word_of_key key)
@@ -61,27 +61,27 @@ key_found taken w key h = subst (λ o. IsKeyOf o (is_option (words_of taken) w) 
 pub key_none : (taken : AllowedOptions) (w : List ℕ) → key_of taken w ≡ None → is_option (words_of taken) w ≡ false
 key_none taken w h = subst (λ o. IsKeyOf o (is_option (words_of taken) w) w) h (known taken w)
 
-option_word : (o : Option OptionKey) (test : Bool) (w : List ℕ) → IsKeyOf o test w → test ≡ true → (key : OptionKey) × (w ≡ word_of_key key)
-option_word None test w k t = absurd (both_ways test k t)
-option_word (Some key) test w k t = (key, k.1)
+passed_test_finds_key : (o : Option OptionKey) (test : Bool) (w : List ℕ) → IsKeyOf o test w → test ≡ true → (key : OptionKey) × (w ≡ word_of_key key)
+passed_test_finds_key None test w k t = absurd (both_ways test k t)
+passed_test_finds_key (Some key) test w k t = (key, k.1)
 
-pub option_key : (taken : AllowedOptions) (w : List ℕ) → is_option (words_of taken) w ≡ true → (key : OptionKey) × (w ≡ word_of_key key)
-option_key taken w h = option_word (key_of taken w) (is_option (words_of taken) w) w (known taken w) h
+pub option_word_has_key : (taken : AllowedOptions) (w : List ℕ) → is_option (words_of taken) w ≡ true → (key : OptionKey) × (w ≡ word_of_key key)
+option_word_has_key taken w h = passed_test_finds_key (key_of taken w) (is_option (words_of taken) w) w (known taken w) h
 
-pub no_option_by : (test : Bool) → (test ≡ true → ⊥) → test ≡ false
-no_option_by true h = absurd (h refl)
-no_option_by false h = refl
+pub false_unless_true : (test : Bool) → (test ≡ true → ⊥) → test ≡ false
+false_unless_true true h = absurd (h refl)
+false_unless_true false h = refl
 
-pub word_named : (key : OptionKey) → key_named (word_of_key key) ≡ Some key
-word_named Latency = refl
-word_named Overhead = refl
-word_named Gap = refl
-word_named GapPerByte = refl
-word_named GapPicos = refl
-word_named OverheadPerByte = refl
-word_named OverheadPicos = refl
-word_named Sync = refl
-word_named Root = refl
+pub key_named_by_own_word : (key : OptionKey) → key_named (word_of_key key) ≡ Some key
+key_named_by_own_word Latency = refl
+key_named_by_own_word Overhead = refl
+key_named_by_own_word Gap = refl
+key_named_by_own_word GapPerByte = refl
+key_named_by_own_word GapPicos = refl
+key_named_by_own_word OverheadPerByte = refl
+key_named_by_own_word OverheadPicos = refl
+key_named_by_own_word Sync = refl
+key_named_by_own_word Root = refl
 
 word_is_option : (key : OptionKey) → is_option all_options (word_of_key key) ≡ true
 word_is_option Latency = refl
@@ -117,26 +117,26 @@ word_no_number Sync = refl
 word_no_number Root = refl
 
 -- a word that is no option word
-pub not_named : (w : List ℕ) (key : OptionKey) → is_option all_options w ≡ false → bytes_eq w (word_of_key key) ≡ false
-not_named w key none =
-    no_option_by (bytes_eq w (word_of_key key))
+pub non_option_differs_from_key_word : (w : List ℕ) (key : OptionKey) → is_option all_options w ≡ false → bytes_eq w (word_of_key key) ≡ false
+non_option_differs_from_key_word w key none =
+    false_unless_true (bytes_eq w (word_of_key key))
     (λ same. both_ways (is_option all_options w) none (ap (is_option all_options) ((bytes_eq-Decides w (word_of_key key)).0 same) ∙ word_is_option key))
 
 pub option_dash : (taken : AllowedOptions) (w : List ℕ) → is_option (words_of taken) w ≡ true → begins_dash w ≡ true
 option_dash taken w h =
-    let found = option_key taken w h in ap begins_dash found.1 ∙ word_dash found.0
+    let found = option_word_has_key taken w h in ap begins_dash found.1 ∙ word_dash found.0
 
 pub plain_no_option : (taken : AllowedOptions) (w : List ℕ) → begins_dash w ≡ false → is_option (words_of taken) w ≡ false
-plain_no_option taken w plain = no_option_by (is_option (words_of taken) w) (λ h. both_ways (begins_dash w) plain (option_dash taken w h))
+plain_no_option taken w plain = false_unless_true (is_option (words_of taken) w) (λ h. both_ways (begins_dash w) plain (option_dash taken w h))
 
 none_is_not_some : (n : ℕ) → None ≡ Some n → ⊥
 none_is_not_some n h = cc
 
 pub number_no_option : (taken : AllowedOptions) (w : List ℕ) (n : ℕ) → value_of w ≡ Some n → is_option (words_of taken) w ≡ false
 number_no_option taken w n number =
-    no_option_by (is_option (words_of taken) w)
+    false_unless_true (is_option (words_of taken) w)
     (λ h.
-    let found = option_key taken w h in
+    let found = option_word_has_key taken w h in
     none_is_not_some n (sym (word_no_number found.0) ∙ (sym (ap value_of found.1) ∙ number)))
 
 pub empty_no_option : (taken : AllowedOptions) → is_option (words_of taken) [] ≡ false
@@ -145,23 +145,23 @@ empty_no_option taken_by.Root = refl
 empty_no_option taken_by.Nothing = refl
 
 -- no command's word is one of its options
-word_takes_none : (key : OptionKey) → is_option (options_of (word_of_key key)) (word_of_key key) ≡ false
-word_takes_none Latency = refl
-word_takes_none Overhead = refl
-word_takes_none Gap = refl
-word_takes_none GapPerByte = refl
-word_takes_none GapPicos = refl
-word_takes_none OverheadPerByte = refl
-word_takes_none OverheadPicos = refl
-word_takes_none Sync = refl
-word_takes_none Root = refl
+key_word_is_no_own_option : (key : OptionKey) → is_option (options_of (word_of_key key)) (word_of_key key) ≡ false
+key_word_is_no_own_option Latency = refl
+key_word_is_no_own_option Overhead = refl
+key_word_is_no_own_option Gap = refl
+key_word_is_no_own_option GapPerByte = refl
+key_word_is_no_own_option GapPicos = refl
+key_word_is_no_own_option OverheadPerByte = refl
+key_word_is_no_own_option OverheadPicos = refl
+key_word_is_no_own_option Sync = refl
+key_word_is_no_own_option Root = refl
 
 pub first_no_option : (taken : AllowedOptions) (first : List ℕ) → words_of taken ≡ options_of first → is_option (options_of first) first ≡ false
 first_no_option taken first same =
-    no_option_by (is_option (options_of first) first)
+    false_unless_true (is_option (options_of first) first)
     (λ h.
-    let found = option_key taken first (ap (λ o. is_option o first) same ∙ h) in
-    both_ways (is_option (options_of first) first) (ap (λ w. is_option (options_of w) w) found.1 ∙ word_takes_none found.0) h)
+    let found = option_word_has_key taken first (ap (λ o. is_option o first) same ∙ h) in
+    both_ways (is_option (options_of first) first) (ap (λ w. is_option (options_of w) w) found.1 ∙ key_word_is_no_own_option found.0) h)
 
 pub bytes_eq_of_different : (w x : List ℕ) → (w ≡ x → ⊥) → bytes_eq w x ≡ false
-bytes_eq_of_different w x differs = no_option_by (bytes_eq w x) (λ same. differs ((bytes_eq-Decides w x).0 same))
+bytes_eq_of_different w x differs = false_unless_true (bytes_eq w x) (λ same. differs ((bytes_eq-Decides w x).0 same))

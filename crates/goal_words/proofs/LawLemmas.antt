@@ -12,13 +12,13 @@ use Rattle.goal_words.specs.Options.{Role, Plain, Named, Set, Wrong, run_options
 use Rattle.goal_words.specs.Words.{Command, options_of, line_roles, command_by, command_of}
 use Rattle.goal_words.specs.Laws.{Group, Word, Apart, Joined, spelt, IsSetting, IsGroup, ends_whole}
 use Rattle.goal_words.specs.Reading.{numbers_given, words_of}
-use Rattle.goal_words.proofs.KeyLemmas.{word_of_key, option_key, no_option_by, plain_no_option, empty_no_option, first_no_option, option_dash}
+use Rattle.goal_words.proofs.KeyLemmas.{word_of_key, option_word_has_key, false_unless_true, plain_no_option, empty_no_option, first_no_option, option_dash}
 use Rattle.goal_words.proofs.RoleLemmas.{roles_without_before}
-use Rattle.goal_words.proofs.PartsLemmas.{all_keys, of_keys, same_all, same_given, one_false}
+use Rattle.goal_words.proofs.PartsLemmas.{all_keys, of_keys, all_keys_of_equal_tests, of_keys_of_equal_values, all_keys_false_if_one_false}
 
 -- the options that the first word allows
-taken_for : (first : List ℕ) → (taken : AllowedOptions) × (words_of taken ≡ options_of first)
-taken_for first =
+allowed_options_of_command : (first : List ℕ) → (taken : AllowedOptions) × (words_of taken ≡ options_of first)
+allowed_options_of_command first =
     by (bytes_eq first (codes "sim") || bytes_eq first (codes "waits") || bytes_eq first (codes "knots") || bytes_eq first (codes "probe")) (bytes_eq first (codes "gen") || bytes_eq first (codes "certify"))
   where
     by : (run gen : Bool) → (taken : AllowedOptions) × (words_of taken ≡ (if run then run_options else (if gen then root_option else [])))
@@ -46,51 +46,51 @@ roles_of_group (Joined option value) = set_to option (value_of value) ∷ []
 has_equals : List ℕ → Bool
 has_equals w = list_any (λ b. b == 61) w
 
-word_has_none : (key : OptionKey) → has_equals (word_of_key key) ≡ false
+key_word_has_no_equals : (key : OptionKey) → has_equals (word_of_key key) ≡ false
 unfolding has_equals
-word_has_none Latency = refl
-word_has_none Overhead = refl
-word_has_none Gap = refl
-word_has_none GapPerByte = refl
-word_has_none GapPicos = refl
-word_has_none OverheadPerByte = refl
-word_has_none OverheadPicos = refl
-word_has_none Sync = refl
-word_has_none Root = refl
+key_word_has_no_equals Latency = refl
+key_word_has_no_equals Overhead = refl
+key_word_has_no_equals Gap = refl
+key_word_has_no_equals GapPerByte = refl
+key_word_has_no_equals GapPicos = refl
+key_word_has_no_equals OverheadPerByte = refl
+key_word_has_no_equals OverheadPicos = refl
+key_word_has_no_equals Sync = refl
+key_word_has_no_equals Root = refl
 
-joined_has_one : (key : OptionKey) (v : List ℕ) → has_equals (word_of_key key ++ (61 ∷ v)) ≡ true
+joined_option_has_equals : (key : OptionKey) (v : List ℕ) → has_equals (word_of_key key ++ (61 ∷ v)) ≡ true
 unfolding has_equals
-joined_has_one Latency v = refl
-joined_has_one Overhead v = refl
-joined_has_one Gap v = refl
-joined_has_one GapPerByte v = refl
-joined_has_one GapPicos v = refl
-joined_has_one OverheadPerByte v = refl
-joined_has_one OverheadPicos v = refl
-joined_has_one Sync v = refl
-joined_has_one Root v = refl
+joined_option_has_equals Latency v = refl
+joined_option_has_equals Overhead v = refl
+joined_option_has_equals Gap v = refl
+joined_option_has_equals GapPerByte v = refl
+joined_option_has_equals GapPicos v = refl
+joined_option_has_equals OverheadPerByte v = refl
+joined_option_has_equals OverheadPicos v = refl
+joined_option_has_equals Sync v = refl
+joined_option_has_equals Root v = refl
 
-joined_before : (key : OptionKey) (v : List ℕ) → before_first (λ b. b == 61) (word_of_key key ++ (61 ∷ v)) ≡ word_of_key key
-joined_before Latency v = refl
-joined_before Overhead v = refl
-joined_before Gap v = refl
-joined_before GapPerByte v = refl
-joined_before GapPicos v = refl
-joined_before OverheadPerByte v = refl
-joined_before OverheadPicos v = refl
-joined_before Sync v = refl
-joined_before Root v = refl
+name_before_equals : (key : OptionKey) (v : List ℕ) → before_first (λ b. b == 61) (word_of_key key ++ (61 ∷ v)) ≡ word_of_key key
+name_before_equals Latency v = refl
+name_before_equals Overhead v = refl
+name_before_equals Gap v = refl
+name_before_equals GapPerByte v = refl
+name_before_equals GapPicos v = refl
+name_before_equals OverheadPerByte v = refl
+name_before_equals OverheadPicos v = refl
+name_before_equals Sync v = refl
+name_before_equals Root v = refl
 
-joined_after : (key : OptionKey) (v : List ℕ) → after_first (λ b. b == 61) (word_of_key key ++ (61 ∷ v)) ≡ v
-joined_after Latency v = refl
-joined_after Overhead v = refl
-joined_after Gap v = refl
-joined_after GapPerByte v = refl
-joined_after GapPicos v = refl
-joined_after OverheadPerByte v = refl
-joined_after OverheadPicos v = refl
-joined_after Sync v = refl
-joined_after Root v = refl
+value_after_equals : (key : OptionKey) (v : List ℕ) → after_first (λ b. b == 61) (word_of_key key ++ (61 ∷ v)) ≡ v
+value_after_equals Latency v = refl
+value_after_equals Overhead v = refl
+value_after_equals Gap v = refl
+value_after_equals GapPerByte v = refl
+value_after_equals GapPicos v = refl
+value_after_equals OverheadPerByte v = refl
+value_after_equals OverheadPicos v = refl
+value_after_equals Sync v = refl
+value_after_equals Root v = refl
 
 joined_dash : (key : OptionKey) (v : List ℕ) → begins_dash (word_of_key key ++ (61 ∷ v)) ≡ true
 joined_dash Latency v = refl
@@ -105,39 +105,39 @@ joined_dash Root v = refl
 
 joined_no_option : (taken : AllowedOptions) (key : OptionKey) (v : List ℕ) → is_option (words_of taken) (word_of_key key ++ (61 ∷ v)) ≡ false
 joined_no_option taken key v =
-    no_option_by (is_option (words_of taken) (word_of_key key ++ (61 ∷ v)))
+    false_unless_true (is_option (words_of taken) (word_of_key key ++ (61 ∷ v)))
     (λ h.
-    let found = option_key taken (word_of_key key ++ (61 ∷ v)) h in
-    both_ways (has_equals (word_of_key found.0)) (word_has_none found.0) (ap has_equals (sym found.1) ∙ joined_has_one key v))
+    let found = option_word_has_key taken (word_of_key key ++ (61 ∷ v)) h in
+    both_ways (has_equals (word_of_key found.0)) (key_word_has_no_equals found.0) (ap has_equals (sym found.1) ∙ joined_option_has_equals key v))
 
-joined_placed : (taken : AllowedOptions) (option v : List ℕ) (words : List (List ℕ)) (key : OptionKey) → option ≡ word_of_key key → is_option (words_of taken) (word_of_key key) ≡ true
+roles_of_joined_option : (taken : AllowedOptions) (option v : List ℕ) (words : List (List ℕ)) (key : OptionKey) → option ≡ word_of_key key → is_option (words_of taken) (word_of_key key) ≡ true
     → roles (words_of taken) [] ((option ++ (61 ∷ v)) ∷ words) ≡ set_to option (value_of v) ∷ roles (words_of taken) [] words
 unfolding roles
-joined_placed taken option v words key e is =
+roles_of_joined_option taken option v words key e is =
     rw e
-    (rw (empty_no_option taken, joined_dash key v, joined_no_option taken key v, joined_before key v, joined_after key v, is, roles_without_before (words_of taken) (word_of_key key ++ (61 ∷ v)) words (joined_no_option taken key v) (empty_no_option taken))
+    (rw (empty_no_option taken, joined_dash key v, joined_no_option taken key v, name_before_equals key v, value_after_equals key v, is, roles_without_before (words_of taken) (word_of_key key ++ (61 ∷ v)) words (joined_no_option taken key v) (empty_no_option taken))
     refl)
 
-apart_placed : (taken : AllowedOptions) (option v : List ℕ) (words : List (List ℕ)) → is_option (words_of taken) option ≡ true → begins_dash v ≡ false
+roles_of_apart_option : (taken : AllowedOptions) (option v : List ℕ) (words : List (List ℕ)) → is_option (words_of taken) option ≡ true → begins_dash v ≡ false
     → roles (words_of taken) [] (option ∷ v ∷ words) ≡ Named ∷ set_to option (value_of v) ∷ roles (words_of taken) [] words
 unfolding roles
-apart_placed taken option v words is plain =
+roles_of_apart_option taken option v words is plain =
     rw (empty_no_option taken, option_dash taken option is, is, roles_without_before (words_of taken) v words (plain_no_option taken v plain) (empty_no_option taken)) refl
 
-word_placed : (taken : AllowedOptions) (w : List ℕ) (words : List (List ℕ)) → begins_dash w ≡ false
+roles_of_plain_word : (taken : AllowedOptions) (w : List ℕ) (words : List (List ℕ)) → begins_dash w ≡ false
     → roles (words_of taken) [] (w ∷ words) ≡ Plain w ∷ roles (words_of taken) [] words
 unfolding roles
-word_placed taken w words plain =
+roles_of_plain_word taken w words plain =
     rw (empty_no_option taken, plain, roles_without_before (words_of taken) w words (plain_no_option taken w plain) (empty_no_option taken)) refl
 
-group_placed : (taken : AllowedOptions) (g : Group) (words : List (List ℕ)) → IsGroup (words_of taken) g
+roles_of_group_before_words : (taken : AllowedOptions) (g : Group) (words : List (List ℕ)) → IsGroup (words_of taken) g
     → roles (words_of taken) [] (spelt g ++ words) ≡ roles_of_group g ++ roles (words_of taken) [] words
 unfolding roles_of_group
-group_placed taken (Word w) words plain = word_placed taken w words plain
-group_placed taken (Apart option v) words is = apart_placed taken option v words is.0 is.1
-group_placed taken (Joined option v) words is =
-    let found = option_key taken option is.0 in
-    joined_placed taken option v words found.0 found.1 (ap (is_option (words_of taken)) (sym found.1) ∙ is.0)
+roles_of_group_before_words taken (Word w) words plain = roles_of_plain_word taken w words plain
+roles_of_group_before_words taken (Apart option v) words is = roles_of_apart_option taken option v words is.0 is.1
+roles_of_group_before_words taken (Joined option v) words is =
+    let found = option_word_has_key taken option is.0 in
+    roles_of_joined_option taken option v words found.0 found.1 (ap (is_option (words_of taken)) (sym found.1) ∙ is.0)
 
 setting_group : (options : List (List ℕ)) (g : Group) → IsSetting options g → IsGroup options g
 setting_group options (Word w) is = absurd is
@@ -145,18 +145,18 @@ setting_group options (Apart option v) is = is
 setting_group options (Joined option v) is = is
 
 -- two groups after some words
-two_placed : (taken : AllowedOptions) (before : List ℕ) (xs : List (List ℕ)) (g h : Group) (ys : List (List ℕ)) → ends_whole (words_of taken) (before ∷ xs) ≡ true
+roles_of_two_groups_after_words : (taken : AllowedOptions) (before : List ℕ) (xs : List (List ℕ)) (g h : Group) (ys : List (List ℕ)) → ends_whole (words_of taken) (before ∷ xs) ≡ true
     → IsGroup (words_of taken) g → IsGroup (words_of taken) h
     → roles (words_of taken) before (xs ++ (spelt g ++ (spelt h ++ ys))) ≡ roles_inside (words_of taken) before xs ++ (roles_of_group g ++ (roles_of_group h ++ roles (words_of taken) [] ys))
-two_placed taken before xs g h ys whole one other =
+roles_of_two_groups_after_words taken before xs g h ys whole one other =
     roles_append (words_of taken) before xs (spelt g ++ (spelt h ++ ys)) (empty_no_option taken) whole
-    ∙ ap (λ ps. roles_inside (words_of taken) before xs ++ ps) (group_placed taken g (spelt h ++ ys) one ∙ ap (λ ps. roles_of_group g ++ ps) (group_placed taken h ys other))
+    ∙ ap (λ ps. roles_inside (words_of taken) before xs ++ ps) (roles_of_group_before_words taken g (spelt h ++ ys) one ∙ ap (λ ps. roles_of_group g ++ ps) (roles_of_group_before_words taken h ys other))
 
-one_placed : (taken : AllowedOptions) (before : List ℕ) (xs : List (List ℕ)) (g : Group) (ys : List (List ℕ)) → ends_whole (words_of taken) (before ∷ xs) ≡ true
+roles_of_one_group_after_words : (taken : AllowedOptions) (before : List ℕ) (xs : List (List ℕ)) (g : Group) (ys : List (List ℕ)) → ends_whole (words_of taken) (before ∷ xs) ≡ true
     → IsGroup (words_of taken) g → roles (words_of taken) before (xs ++ (spelt g ++ ys)) ≡ roles_inside (words_of taken) before xs ++ (roles_of_group g ++ roles (words_of taken) [] ys)
-one_placed taken before xs g ys whole one =
+roles_of_one_group_after_words taken before xs g ys whole one =
     roles_append (words_of taken) before xs (spelt g ++ ys) (empty_no_option taken) whole
-    ∙ ap (λ ps. roles_inside (words_of taken) before xs ++ ps) (group_placed taken g ys one)
+    ∙ ap (λ ps. roles_inside (words_of taken) before xs ++ ps) (roles_of_group_before_words taken g ys one)
 
 plain-append : (ps qs : List Role) → plain_words (ps ++ qs) ≡ plain_words ps ++ plain_words qs
 unfolding plain_words
@@ -204,7 +204,7 @@ exchanged_length a b c d =
     omega (arith, length-append a (b ++ (c ++ d)), length-append b (c ++ d), length-append c d, length-append a (c ++ (b ++ d)), length-append c (b ++ d), length-append b d)
 
 -- roles with the same content
-record IsAlike (ps qs : List Role) : Type 0 where
+record HaveSameContent (ps qs : List Role) : Type 0 where
   known : list_all is_known ps ≡ list_all is_known qs
   plain : plain_words ps ≡ plain_words qs
   once : (key : OptionKey) → at_most_one (values_of (word_of_key key) ps) ≡ at_most_one (values_of (word_of_key key) qs)
@@ -215,22 +215,22 @@ abbrev command_at : List ℕ → List Role → Option Command
 command_at first ps =
     if are_right ps then command_by first (plain_words ps) (numbers_given (of_keys (λ k. value_at (word_of_key k) ps))) (value_at (word_of_key Root) ps) else None
 
-true_or : (b : Bool) → (b ≡ false → ⊥) → b ≡ true
-true_or true h = refl
-true_or false h = absurd (h refl)
+true_unless_false : (b : Bool) → (b ≡ false → ⊥) → b ≡ true
+true_unless_false true h = refl
+true_unless_false false h = absurd (h refl)
 
 right_once : (ps : List Role) → are_right ps ≡ true → (key : OptionKey) → at_most_one (values_of (word_of_key key) ps) ≡ true
 right_once ps right key =
     let every = (and_parts (list_all is_known ps) (all_keys (λ k. at_most_one (values_of (word_of_key k) ps))) right).1 in
-    true_or (at_most_one (values_of (word_of_key key) ps))
-    (λ h. both_ways (all_keys (λ k. at_most_one (values_of (word_of_key k) ps))) (one_false (λ k. at_most_one (values_of (word_of_key k) ps)) key h) every)
+    true_unless_false (at_most_one (values_of (word_of_key key) ps))
+    (λ h. both_ways (all_keys (λ k. at_most_one (values_of (word_of_key k) ps))) (all_keys_false_if_one_false (λ k. at_most_one (values_of (word_of_key k) ps)) key h) every)
 
-same_right : (ps qs : List Role) → IsAlike ps qs → are_right ps ≡ are_right qs
+same_right : (ps qs : List Role) → HaveSameContent ps qs → are_right ps ≡ are_right qs
 same_right ps qs alike =
     ap (λ b. b && all_keys (λ k. at_most_one (values_of (word_of_key k) ps))) alike.known
-    ∙ ap (λ b. list_all is_known qs && b) (same_all (λ k. at_most_one (values_of (word_of_key k) ps)) (λ k. at_most_one (values_of (word_of_key k) qs)) alike.once)
+    ∙ ap (λ b. list_all is_known qs && b) (all_keys_of_equal_tests (λ k. at_most_one (values_of (word_of_key k) ps)) (λ k. at_most_one (values_of (word_of_key k) qs)) alike.once)
 
-same_command : (first : List ℕ) (ps qs : List Role) → IsAlike ps qs → command_at first ps ≡ command_at first qs
+same_command : (first : List ℕ) (ps qs : List Role) → HaveSameContent ps qs → command_at first ps ≡ command_at first qs
 same_command first ps qs alike = by (are_right ps) refl
   where
     value : are_right ps ≡ true → (key : OptionKey) → value_at (word_of_key key) ps ≡ value_at (word_of_key key) qs
@@ -240,18 +240,18 @@ same_command first ps qs alike = by (are_right ps) refl
     by true right =
         rw (right, sym (same_right ps qs alike) ∙ right)
         (ap (λ plain. command_by first plain (numbers_given (of_keys (λ k. value_at (word_of_key k) ps))) (value_at (word_of_key Root) ps)) alike.plain
-        ∙ (ap (λ given. command_by first (plain_words qs) (numbers_given given) (value_at (word_of_key Root) ps)) (same_given (λ k. value_at (word_of_key k) ps) (λ k. value_at (word_of_key k) qs) (value right))
+        ∙ (ap (λ given. command_by first (plain_words qs) (numbers_given given) (value_at (word_of_key Root) ps)) (of_keys_of_equal_values (λ k. value_at (word_of_key k) ps) (λ k. value_at (word_of_key k) qs) (value right))
         ∙ ap (λ root. command_by first (plain_words qs) (numbers_given (of_keys (λ k. value_at (word_of_key k) qs))) root) (value right Root)))
     by false wrong = rw (wrong, sym (same_right ps qs alike) ∙ wrong) refl
 
 -- the command of a line, from its roles
-of_places : (first : List ℕ) (words : List (List ℕ)) → command_of (first ∷ words) ≡ command_at first (line_roles first words)
-of_places first words = refl
+command_of_line_by_roles : (first : List ℕ) (words : List (List ℕ)) → command_of (first ∷ words) ≡ command_at first (line_roles first words)
+command_of_line_by_roles first words = refl
 
-whole_line : (options : List (List ℕ)) (first : List ℕ) (before : List (List ℕ)) → is_option options first ≡ false → ends_whole options before ≡ true
+command_word_keeps_ends_whole : (options : List (List ℕ)) (first : List ℕ) (before : List (List ℕ)) → is_option options first ≡ false → ends_whole options before ≡ true
     → ends_whole options (first ∷ before) ≡ true
-whole_line options first [] none whole = ap not none
-whole_line options first (w ∷ before) none whole = whole
+command_word_keeps_ends_whole options first [] none whole = ap not none
+command_word_keeps_ends_whole options first (w ∷ before) none whole = whole
 
 known_four : (i g h a : List Role) → list_all is_known (i ++ (g ++ (h ++ a))) ≡ (list_all is_known i && (list_all is_known g && (list_all is_known h && list_all is_known a)))
 known_four i g h a =
@@ -274,7 +274,7 @@ exchange_middle_tests p true false s = refl
 exchange_middle_tests p false true s = refl
 exchange_middle_tests p false false s = refl
 
-exchange_groups : (i g h a : List Role) → plain_words g ≡ [] → IsAlike (i ++ (g ++ (h ++ a))) (i ++ (h ++ (g ++ a)))
+exchange_groups : (i g h a : List Role) → plain_words g ≡ [] → HaveSameContent (i ++ (g ++ (h ++ a))) (i ++ (h ++ (g ++ a)))
 exchange_groups i g h a none = record {
   known =
       known_four i g h a
@@ -294,22 +294,22 @@ exchange_groups i g h a none = record {
 }
 
 -- the roles of two groups in a line
-line_two : (first : List ℕ) (before : List (List ℕ)) (g h : Group) (roles_without_before : List (List ℕ)) → ends_whole (options_of first) before ≡ true → IsGroup (options_of first) g
+line_roles_with_two_groups : (first : List ℕ) (before : List (List ℕ)) (g h : Group) (roles_without_before : List (List ℕ)) → ends_whole (options_of first) before ≡ true → IsGroup (options_of first) g
     → IsGroup (options_of first) h
     → line_roles first (before ++ (spelt g ++ (spelt h ++ roles_without_before))) ≡ roles_inside (options_of first) first before ++ (roles_of_group g ++ (roles_of_group h ++ roles (options_of first) [] roles_without_before))
-line_two first before g h roles_without_before whole one other =
-    let t = taken_for first in
+line_roles_with_two_groups first before g h roles_without_before whole one other =
+    let t = allowed_options_of_command first in
     let none = first_no_option t.0 first t.1 in
     subst (λ os. ends_whole os (first ∷ before) ≡ true → IsGroup os g → IsGroup os h → roles os first (before ++ (spelt g ++ (spelt h ++ roles_without_before))) ≡ roles_inside os first before ++ (roles_of_group g ++ (roles_of_group h ++ roles os [] roles_without_before))) t.1
-    (λ w p q. two_placed t.0 first before g h roles_without_before w p q) (whole_line (options_of first) first before none whole) one other
+    (λ w p q. roles_of_two_groups_after_words t.0 first before g h roles_without_before w p q) (command_word_keeps_ends_whole (options_of first) first before none whole) one other
 
-line_one : (first : List ℕ) (before : List (List ℕ)) (g : Group) (roles_without_before : List (List ℕ)) → ends_whole (options_of first) before ≡ true → IsGroup (options_of first) g
+line_roles_with_one_group : (first : List ℕ) (before : List (List ℕ)) (g : Group) (roles_without_before : List (List ℕ)) → ends_whole (options_of first) before ≡ true → IsGroup (options_of first) g
     → line_roles first (before ++ (spelt g ++ roles_without_before)) ≡ roles_inside (options_of first) first before ++ (roles_of_group g ++ roles (options_of first) [] roles_without_before)
-line_one first before g roles_without_before whole one =
-    let t = taken_for first in
+line_roles_with_one_group first before g roles_without_before whole one =
+    let t = allowed_options_of_command first in
     let none = first_no_option t.0 first t.1 in
     subst (λ os. ends_whole os (first ∷ before) ≡ true → IsGroup os g → roles os first (before ++ (spelt g ++ roles_without_before)) ≡ roles_inside os first before ++ (roles_of_group g ++ roles os [] roles_without_before)) t.1
-    (λ w p. one_placed t.0 first before g roles_without_before w p) (whole_line (options_of first) first before none whole) one
+    (λ w p. roles_of_one_group_after_words t.0 first before g roles_without_before w p) (command_word_keeps_ends_whole (options_of first) first before none whole) one
 
 set_plain : (option : List ℕ) (o : Option ℕ) → plain_words (set_to option o ∷ []) ≡ []
 unfolding plain_words
@@ -329,12 +329,12 @@ options_move first before roles_without_before g h whole setting group =
     let one = setting_group (options_of first) g setting in
     let a = roles (options_of first) [] roles_without_before in
     let i = roles_inside (options_of first) first before in
-    of_places first (before ++ (spelt g ++ (spelt h ++ roles_without_before)))
-    ∙ (ap (command_at first) (line_two first before g h roles_without_before whole one group)
+    command_of_line_by_roles first (before ++ (spelt g ++ (spelt h ++ roles_without_before)))
+    ∙ (ap (command_at first) (line_roles_with_two_groups first before g h roles_without_before whole one group)
     ∙ (same_command first (i ++ (roles_of_group g ++ (roles_of_group h ++ a))) (i ++ (roles_of_group h ++ (roles_of_group g ++ a))) (exchange_groups i (roles_of_group g) (roles_of_group h) a (setting_plain (options_of first) g setting))
-    ∙ (ap (command_at first) (sym (line_two first before h g roles_without_before whole group one)) ∙ sym (of_places first (before ++ (spelt h ++ (spelt g ++ roles_without_before)))))))
+    ∙ (ap (command_at first) (sym (line_roles_with_two_groups first before h g roles_without_before whole group one)) ∙ sym (command_of_line_by_roles first (before ++ (spelt h ++ (spelt g ++ roles_without_before)))))))
 
-without_name : (i a : List Role) → IsAlike (i ++ (Named ∷ a)) (i ++ a)
+without_name : (i a : List Role) → HaveSameContent (i ++ (Named ∷ a)) (i ++ a)
 unfolding plain_words values_of
 without_name i a =
     let values : (o : List ℕ) → values_of o (i ++ (Named ∷ a)) ≡ values_of o (i ++ a) =
@@ -353,7 +353,7 @@ unfolding roles_of_group
 options_join first option value before roles_without_before whole setting =
     let a = roles (options_of first) [] roles_without_before in
     let i = roles_inside (options_of first) first before in
-    of_places first (before ++ (option ∷ value ∷ roles_without_before))
-    ∙ (ap (command_at first) (line_one first before (Apart option value) roles_without_before whole setting)
+    command_of_line_by_roles first (before ++ (option ∷ value ∷ roles_without_before))
+    ∙ (ap (command_at first) (line_roles_with_one_group first before (Apart option value) roles_without_before whole setting)
     ∙ (same_command first (i ++ (Named ∷ set_to option (value_of value) ∷ a)) (i ++ (set_to option (value_of value) ∷ a)) (without_name i (set_to option (value_of value) ∷ a))
-    ∙ (ap (command_at first) (sym (line_one first before (Joined option value) roles_without_before whole setting)) ∙ sym (of_places first (before ++ ((option ++ (61 ∷ value)) ∷ roles_without_before))))))
+    ∙ (ap (command_at first) (sym (line_roles_with_one_group first before (Joined option value) roles_without_before whole setting)) ∙ sym (command_of_line_by_roles first (before ++ ((option ++ (61 ∷ value)) ∷ roles_without_before))))))

@@ -83,23 +83,23 @@ certify_sized (kind ∷ []) root = tt
 certify_sized (kind ∷ name ∷ []) root = map_is_sized (λ what. Certify what name) (collective_of kind root) (if_some_always (collective_of kind root))
 certify_sized (kind ∷ name ∷ other ∷ plain) root = tt
 
-with_seed : (seed : List ℕ) (params : Numbers) (n : ℕ) → n ≤ MAX_ROUNDS
+probe_with_seed_is_sized : (seed : List ℕ) (params : Numbers) (n : ℕ) → n ≤ MAX_ROUNDS
     → IfSome (option_and_then (λ (s : ℕ). option_map (Probe n s) (within_limits params)) (value_of seed)) IsSized
-with_seed seed params n few = and_then_is_sized _ (value_of seed) (λ s. by s (within_limits params))
+probe_with_seed_is_sized seed params n few = and_then_is_sized _ (value_of seed) (λ s. by s (within_limits params))
   where
     by : (s : ℕ) (o : Option Numbers) → IfSome (option_map (Probe n s) o) IsSized
     by s None = tt
     by s (Some p) = few
 
-with_rounds : (seed : List ℕ) (params : Numbers) (o : Option ℕ) → IfSome o (λ n. n ≤ MAX_ROUNDS)
+probe_with_rounds_is_sized : (seed : List ℕ) (params : Numbers) (o : Option ℕ) → IfSome o (λ n. n ≤ MAX_ROUNDS)
     → IfSome (option_and_then (λ (n : ℕ). option_and_then (λ (s : ℕ). option_map (Probe n s) (within_limits params)) (value_of seed)) o) IsSized
-with_rounds seed params None few = tt
-with_rounds seed params (Some n) few = with_seed seed params n few
+probe_with_rounds_is_sized seed params None few = tt
+probe_with_rounds_is_sized seed params (Some n) few = probe_with_seed_is_sized seed params n few
 
 probe_sized : (plain : List (List ℕ)) (params : Numbers) → IfSome (probe_of plain params) IsSized
 probe_sized [] params = tt
 probe_sized (rounds ∷ []) params = tt
-probe_sized (rounds ∷ seed ∷ []) params = with_rounds seed params (number_from 1 MAX_ROUNDS rounds) (number_from_at_most 1 MAX_ROUNDS rounds)
+probe_sized (rounds ∷ seed ∷ []) params = probe_with_rounds_is_sized seed params (number_from 1 MAX_ROUNDS rounds) (number_from_at_most 1 MAX_ROUNDS rounds)
 probe_sized (rounds ∷ seed ∷ other ∷ plain) params = tt
 
 command_sized : (first : List ℕ) (plain : List (List ℕ)) (params : Numbers) (root : Option ℕ) → IfSome (command_by first plain params root) IsSized

@@ -7,30 +7,30 @@ use Rattle.sim_params.specs.Costs.{Numbers}
 use Rattle.sim_params.specs.Numbers.{numbers, asked}
 
 -- the last numbers are the same, from this one on
-abbrev from_sync : Numbers → Numbers → Bool
-from_sync m n = m.sync == n.sync
+abbrev alike_from_sync : Numbers → Numbers → Bool
+alike_from_sync m n = m.sync == n.sync
 
-abbrev from_overhead_picos : Numbers → Numbers → Bool
-from_overhead_picos m n = m.overhead_picos == n.overhead_picos && from_sync m n
+abbrev alike_from_overhead_picos : Numbers → Numbers → Bool
+alike_from_overhead_picos m n = m.overhead_picos == n.overhead_picos && alike_from_sync m n
 
-abbrev from_overhead_per_byte : Numbers → Numbers → Bool
-from_overhead_per_byte m n = m.overhead_per_byte == n.overhead_per_byte && from_overhead_picos m n
+abbrev alike_from_overhead_per_byte : Numbers → Numbers → Bool
+alike_from_overhead_per_byte m n = m.overhead_per_byte == n.overhead_per_byte && alike_from_overhead_picos m n
 
-abbrev from_gap_picos : Numbers → Numbers → Bool
-from_gap_picos m n = m.gap_picos == n.gap_picos && from_overhead_per_byte m n
+abbrev alike_from_gap_picos : Numbers → Numbers → Bool
+alike_from_gap_picos m n = m.gap_picos == n.gap_picos && alike_from_overhead_per_byte m n
 
-abbrev from_gap_per_byte : Numbers → Numbers → Bool
-from_gap_per_byte m n = m.gap_per_byte == n.gap_per_byte && from_gap_picos m n
+abbrev alike_from_gap_per_byte : Numbers → Numbers → Bool
+alike_from_gap_per_byte m n = m.gap_per_byte == n.gap_per_byte && alike_from_gap_picos m n
 
-abbrev from_gap : Numbers → Numbers → Bool
-from_gap m n = m.gap == n.gap && from_gap_per_byte m n
+abbrev alike_from_gap : Numbers → Numbers → Bool
+alike_from_gap m n = m.gap == n.gap && alike_from_gap_per_byte m n
 
-abbrev from_overhead : Numbers → Numbers → Bool
-from_overhead m n = m.overhead == n.overhead && from_gap m n
+abbrev alike_from_overhead : Numbers → Numbers → Bool
+alike_from_overhead m n = m.overhead == n.overhead && alike_from_gap m n
 
 -- all numbers are the same
 abbrev pub alike : Numbers → Numbers → Bool
-alike m n = m.latency == n.latency && from_overhead m n
+alike m n = m.latency == n.latency && alike_from_overhead m n
 
 nat_eq_reflexive : (m : ℕ) → (m == m) ≡ true
 nat_eq_reflexive m = eq-eqb m m refl
@@ -41,13 +41,13 @@ alike_reflexive n =
 
 pub alike_same : (m n : Numbers) → alike m n ≡ true → m ≡ n
 alike_same m n e =
-    let p = and_parts (m.latency == n.latency) (from_overhead m n) e in
-    let q = and_parts (m.overhead == n.overhead) (from_gap m n) p.1 in
-    let r = and_parts (m.gap == n.gap) (from_gap_per_byte m n) q.1 in
-    let s = and_parts (m.gap_per_byte == n.gap_per_byte) (from_gap_picos m n) r.1 in
-    let t = and_parts (m.gap_picos == n.gap_picos) (from_overhead_per_byte m n) s.1 in
-    let u = and_parts (m.overhead_per_byte == n.overhead_per_byte) (from_overhead_picos m n) t.1 in
-    let v = and_parts (m.overhead_picos == n.overhead_picos) (from_sync m n) u.1 in
+    let p = and_parts (m.latency == n.latency) (alike_from_overhead m n) e in
+    let q = and_parts (m.overhead == n.overhead) (alike_from_gap m n) p.1 in
+    let r = and_parts (m.gap == n.gap) (alike_from_gap_per_byte m n) q.1 in
+    let s = and_parts (m.gap_per_byte == n.gap_per_byte) (alike_from_gap_picos m n) r.1 in
+    let t = and_parts (m.gap_picos == n.gap_picos) (alike_from_overhead_per_byte m n) s.1 in
+    let u = and_parts (m.overhead_per_byte == n.overhead_per_byte) (alike_from_overhead_picos m n) t.1 in
+    let v = and_parts (m.overhead_picos == n.overhead_picos) (alike_from_sync m n) u.1 in
     λ i. record {
       latency = eqb-true m.latency n.latency p.0 i;
       overhead = eqb-true m.overhead n.overhead q.0 i;
@@ -62,12 +62,12 @@ alike_same m n e =
 pub not_alike : (m n : Numbers) → alike m n ≡ false → m ≢ n
 not_alike m n e is = both_ways (alike m n) e (subst (λ (k : Numbers). alike m k ≡ true) is (alike_reflexive m))
 
-none_below : (i : ℕ) → i < 0 → ⊥
-none_below i low = omega (arith, low)
+nothing_is_below_zero : (i : ℕ) → i < 0 → ⊥
+nothing_is_below_zero i low = omega (arith, low)
 
 -- the numbers of a class of the code
 pub numbers_at : (ps : List Params) (i : ℕ) (d : Params) → i < length ps → unwrap_or (slice_get (map numbers ps) i) (asked 0 0 0 0 0 0 0 0) ≡ numbers (get_or ps i d)
-numbers_at [] i d low = absurd (none_below i low)
+numbers_at [] i d low = absurd (nothing_is_below_zero i low)
 numbers_at (p ∷ ps) zero d low = refl
 numbers_at (p ∷ ps) (suc i) d low = numbers_at ps i d (omega (arith, low))
 

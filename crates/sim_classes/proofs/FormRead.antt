@@ -44,9 +44,9 @@ pub end_other : (m : MachineModel) (place : ℕ) (w : List ℕ) (ws : List (List
 unfolding read_by_form
 end_other m place w ws = refl
 
-pub at_place : {a b : ℕ} → a ≡ b → ◌≡◌ {A = Result MachineModel MachineFault} (Err (Syntax a)) (Err (Syntax b))
-at_place e = ap (λ (place : ℕ). Err (Syntax place)) e
+pub syntax_faults_at_equal_places : {a b : ℕ} → a ≡ b → ◌≡◌ {A = Result MachineModel MachineFault} (Err (Syntax a)) (Err (Syntax b))
+syntax_faults_at_equal_places e = ap (λ (place : ℕ). Err (Syntax place)) e
 
-pub end_said : (m : MachineModel) (place : ℕ) → read_by_form (End m) place [] ≡ Ok m
+pub end_of_words_gives_machine : (m : MachineModel) (place : ℕ) → read_by_form (End m) place [] ≡ Ok m
 unfolding read_by_form
-end_said m place = refl
+end_of_words_gives_machine m place = refl

@@ -93,7 +93,7 @@ module _ (es : List (ℕ × ℕ)) (sorted : IsStrictlySortedBy nat_cmp (keys_of 
             let at = place_from_lookup (is_at (nat_cmp key)) es class e in
             absurd (nowhere at.0 (at.1, class) at.2 (sym (same_number key at.1 at.3)))
 
--- what a binary search found in the row of a node is the class given for it and another
+-- a binary search in the row of a node gives the class of the pair of this node and another
 pub pair_class_in_row : (es : List (ℕ × ℕ)) → IsStrictlySortedBy nat_cmp (keys_of es) → (a b : ℕ) → b < 4294967296 → (start end : ℕ) → IsRow es a start end
     → (r : Result ℕ ℕ) → IsSearchInRange r (length (take (end - start) (drop start es))) → IsBinarySearchResult (λ (e : ℕ × ℕ). nat_cmp e.0 (pair_key a b)) (take (end - start) (drop start es)) r
     → MatchResult r (λ i. pair_class_by es a b ≡ Some (get_or (take (end - start) (drop start es)) i (0, 0)).1) (λ i. pair_class_by es a b ≡ None)
@@ -101,7 +101,7 @@ pair_class_in_row es sorted a b low start end row r inside is =
     subst (λ (o : Option ℕ). MatchResult r (λ i. o ≡ Some (get_or (take (end - start) (drop start es)) i (0, 0)).1) (λ i. o ≡ None)) (sym (pair_class_at es a b low))
     (found es sorted (pair_key a b) start end (subst (λ (n : ℕ). IsRow es n start end) (sym (node_of_key a b low)) row) r inside is)
 
--- where the nodes are no longer less, those from the node begin
+-- the entries from a node start at the partition point of the entries with lesser nodes
 pub start_at : (es : List (ℕ × ℕ)) (node start : ℕ) → start ≤ length es → IsPartitionPoint (λ (e : ℕ × ℕ). nat_lt (node_of e.0) node ≡ true) (λ (e : ℕ × ℕ). nat_lt (node_of e.0) node ≡ false) es start → IsStart es node start
 start_at es node start within point = record {
   within = within;
@@ -142,8 +142,8 @@ row_of_all es node end all = record {
 }
 
 -- another start
-pub starts_more : (es : List (ℕ × ℕ)) (starts : List ℕ) (start : ℕ) → AreStarts es starts → IsStart es (length starts) start → AreStarts es (starts ++ start ∷ [])
-starts_more es starts start before new node s e =
+pub row_starts_with_next_start : (es : List (ℕ × ℕ)) (starts : List ℕ) (start : ℕ) → AreStarts es starts → IsStart es (length starts) start → AreStarts es (starts ++ start ∷ [])
+row_starts_with_next_start es starts start before new node s e =
     elim (cases_lt node (length starts)) [
       | inl l ↦ before node s (slice_get-get_or starts node s l ∙ ap (λ (n : ℕ). Some n) (sym (get_or_append_left starts (start ∷ []) s node l) ∙ get_or_from_slice_get (starts ++ start ∷ []) node s s e))
       | inr h ↦

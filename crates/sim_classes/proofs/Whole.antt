@@ -30,18 +30,18 @@ module _ (P : MachineModel → Type 0) (m : MachineModel) where
   value_step true (Some fault) place next step is = cc
   value_step false o place next step is = cc
 
-  said_ends : (form : Form) (place : ℕ) (ws : List (List ℕ)) → Ends P form → read_by_form form place ws ≡ Ok m → P m
+  read_machine_has_property : (form : Form) (place : ℕ) (ws : List (List ℕ)) → Ends P form → read_by_form form place ws ≡ Ok m → P m
   unfolding read_by_form
-  said_ends (Fixed word rest) place [] ends is = cc
-  said_ends (Fixed word rest) place (w ∷ ws) ends is =
-      fixed_step (bytes_eq w word) (read_by_form rest (place + 1) ws) (Syntax place) (said_ends rest (place + 1) ws ends) is
-  said_ends (Value test rest) place [] ends is = cc
-  said_ends (Value test rest) place (w ∷ ws) ends is =
+  read_machine_has_property (Fixed word rest) place [] ends is = cc
+  read_machine_has_property (Fixed word rest) place (w ∷ ws) ends is =
+      fixed_step (bytes_eq w word) (read_by_form rest (place + 1) ws) (Syntax place) (read_machine_has_property rest (place + 1) ws ends) is
+  read_machine_has_property (Value test rest) place [] ends is = cc
+  read_machine_has_property (Value test rest) place (w ∷ ws) ends is =
       let n = digits_value 10 w in
       value_step (is_numeral w) (test n) place (read_by_form (rest n) (place + 1) ws)
-      (λ class_exists. said_ends (rest n) (place + 1) ws (ends n class_exists)) is
-  said_ends (End known) place [] ends is = let same : known ≡ m = cc in subst P same ends
-  said_ends (End known) place (w ∷ ws) ends is = cc
+      (λ class_exists. read_machine_has_property (rest n) (place + 1) ws (ends n class_exists)) is
+  read_machine_has_property (End known) place [] ends is = let same : known ≡ m = cc in subst P same ends
+  read_machine_has_property (End known) place (w ∷ ws) ends is = cc
 
 -- a number that passes belongs to an existing class
 class_exists : (classes : List Numbers) (n : ℕ) → class_number classes n ≡ None → n < length classes
@@ -92,4 +92,4 @@ classes_whole (suc k) classes =
 
 pub machine_whole : (text : List ℕ) (m : MachineModel) → machine text ≡ Ok m → IsWhole m
 unfolding machine
-machine_whole text m is = said_ends IsWhole m machine_form 0 (words text) (λ k many. classes_whole k []) is
+machine_whole text m is = read_machine_has_property IsWhole m machine_form 0 (words text) (λ k many. classes_whole k []) is

@@ -26,10 +26,10 @@ no_blank b = not (is_blank b)
 abbrev first_len : List ℕ → ℕ
 first_len xs = prefix_len no_blank xs
 
-split_is : (xs : List ℕ) → slice_split is_blank xs ≡ take (first_len xs) xs ∷ rest_of (drop (first_len xs) xs)
+split_is_first_and_rest : (xs : List ℕ) → slice_split is_blank xs ≡ take (first_len xs) xs ∷ rest_of (drop (first_len xs) xs)
 unfolding rest_of
-split_is [] = refl
-split_is (x ∷ xs) = go (is_blank x) (split_is xs)
+split_is_first_and_rest [] = refl
+split_is_first_and_rest (x ∷ xs) = go (is_blank x) (split_is_first_and_rest xs)
   where
     go : (b : Bool) → slice_split is_blank xs ≡ take (first_len xs) xs ∷ rest_of (drop (first_len xs) xs) → cond b ([] ∷ slice_split is_blank xs) (onto_first x (slice_split is_blank xs)) ≡ take (cond (not b) (1 + first_len xs) 0) (x ∷ xs) ∷ rest_of (drop (cond (not b) (1 + first_len xs) 0) (x ∷ xs))
     go true e = refl
@@ -59,9 +59,9 @@ unfolding words
 no_words = refl
 
 -- what follows the blanks at the front is not a blank
-pub has_word : (xs : List ℕ) → 0 < length (drop (prefix_len is_blank xs) xs) → 0 < first_len (drop (prefix_len is_blank xs) xs)
-has_word [] some = omega (arith, some)
-has_word (x ∷ xs) some = go (is_blank x) refl some (has_word xs)
+pub word_after_blanks_is_nonempty : (xs : List ℕ) → 0 < length (drop (prefix_len is_blank xs) xs) → 0 < first_len (drop (prefix_len is_blank xs) xs)
+word_after_blanks_is_nonempty [] some = omega (arith, some)
+word_after_blanks_is_nonempty (x ∷ xs) some = go (is_blank x) refl some (word_after_blanks_is_nonempty xs)
   where
     go : (b : Bool) → is_blank x ≡ b → 0 < length (drop (cond b (1 + prefix_len is_blank xs) 0) (x ∷ xs)) → (0 < length (drop (prefix_len is_blank xs) xs) → 0 < first_len (drop (prefix_len is_blank xs) xs)) → 0 < first_len (drop (cond b (1 + prefix_len is_blank xs) 0) (x ∷ xs))
     go true e some h = rw (one_plus (prefix_len is_blank xs)) (h (rw (one_plus (prefix_len is_blank xs)) at some))
@@ -71,7 +71,7 @@ has_word (x ∷ xs) some = go (is_blank x) refl some (has_word xs)
 pub first_word : (xs : List ℕ) → 0 < first_len xs → words xs ≡ take (first_len xs) xs ∷ words (drop (first_len xs) xs)
 unfolding words
 first_word xs some =
-    ap (filter full) (split_is xs) ∙ kept (take (first_len xs) xs) (rest_of (drop (first_len xs) xs)) (lt-ltb 0 _ (omega (arith, length-prefix_len no_blank xs, some))) ∙ ap (λ (ws : List (List ℕ)). take (first_len xs) xs ∷ ws) (rest_words xs)
+    ap (filter full) (split_is_first_and_rest xs) ∙ kept (take (first_len xs) xs) (rest_of (drop (first_len xs) xs)) (lt-ltb 0 _ (omega (arith, length-prefix_len no_blank xs, some))) ∙ ap (λ (ws : List (List ℕ)). take (first_len xs) xs ∷ ws) (rest_words xs)
   where
     kept : (w : List ℕ) (ws : List (List ℕ)) → full w ≡ true → filter full (w ∷ ws) ≡ w ∷ filter full ws
     kept w ws e = rw e refl
@@ -81,16 +81,16 @@ module _ (xs : List ℕ) (n : ℕ) (front : n ≡ prefix_len is_blank xs) where
   abbrev tail : List ℕ
   tail = take (length xs - n) (drop n xs)
 
-  tail_is : tail ≡ drop (prefix_len is_blank xs) xs
-  tail_is = take_all (length xs - n) (drop n xs) (omega (arith, length-drop n xs)) ∙ ap (λ (k : ℕ). drop k xs) front
+  tail_is_after_blanks : tail ≡ drop (prefix_len is_blank xs) xs
+  tail_is_after_blanks = take_all (length xs - n) (drop n xs) (omega (arith, length-drop n xs)) ∙ ap (λ (k : ℕ). drop k xs) front
 
-  pub none_left : length tail ≡ 0 → words xs ≡ []
-  none_left none = words_after_blanks xs ∙ ap words (sym tail_is ∙ nil_from_length _ none) ∙ no_words
+  pub no_words_in_empty_tail : length tail ≡ 0 → words xs ≡ []
+  no_words_in_empty_tail none = words_after_blanks xs ∙ ap words (sym tail_is_after_blanks ∙ nil_from_length _ none) ∙ no_words
 
-  pub next_left : (k : ℕ) → k ≡ first_len tail → 0 < length tail → words xs ≡ take k tail ∷ words (drop k tail)
-  next_left k is some =
-      words_after_blanks xs ∙ ap words (sym tail_is)
-      ∙ first_word tail (subst (λ (ys : List ℕ). 0 < first_len ys) (sym tail_is) (has_word xs (omega (arith, ap length tail_is, some))))
+  pub next_word_of_tail : (k : ℕ) → k ≡ first_len tail → 0 < length tail → words xs ≡ take k tail ∷ words (drop k tail)
+  next_word_of_tail k is some =
+      words_after_blanks xs ∙ ap words (sym tail_is_after_blanks)
+      ∙ first_word tail (subst (λ (ys : List ℕ). 0 < first_len ys) (sym tail_is_after_blanks) (word_after_blanks_is_nonempty xs (omega (arith, ap length tail_is_after_blanks, some))))
       ∙ ap (λ (j : ℕ). take j tail ∷ words (drop j tail)) (sym is)
 
 pub not_zero_is_positive : (n : ℕ) → n ≢ 0 → 0 < n

@@ -13,8 +13,8 @@ use Rattle.sim_cycles.specs.Knots.{named, stuck_ops, next, step, way, comes_to, 
 use Rattle.sim_cycles.specs.Laws.{IsInOrder, NamesListed, follow, LeadsInto, HasKnot, OneKnotEach, BehindAddUp, RingsAreClosed, LoneAreAlone, NoneLeftOut}
 use Rattle.sim_cycles.specs.Walks.{after, Leads, ComesBack, IsHeadOf}
 use Rattle.sim_cycles.specs.Places.{op_at, IsTarget}
-use Rattle.sim_cycles.proofs.Walks.{leads_back, leads_on, head_from, one_head, has_head, head_below, head_of_round, after_below, after_first}
-use Rattle.sim_cycles.proofs.PlacesLemmas.{Tracks, none_op, none_stuck, long_ops, place_of, op_listed, one_place, target_named, target_alone, closed, follow_at, follow_next, follow_none, follow_first, leads_at, head_from_test, head_true, comes_from, comes_true}
+use Rattle.sim_cycles.proofs.Walks.{leads_back, leads_transitive, head_from, one_head, has_head, head_below, head_of_round, after_below, after_first}
+use Rattle.sim_cycles.proofs.PlacesLemmas.{Tracks, none_op, none_stuck, long_ops, place_of, op_listed, one_place, target_named, target_alone, closed, follow_at, follow_next, follow_zero, follow_first, leads_at, head_from_test, head_true, comes_from, comes_true}
 use Rattle.sim_cycles.proofs.Counting.{sum_map, count_both_ways, count_filter, count_one, sum_ones}
 use Rattle.sim_cycles.proofs.KnotLemmas.{before_first-stop, before_first-go}
 
@@ -87,20 +87,20 @@ module _ (list : List Stuck) (order : IsInOrder list) (listed : NamesListed list
 
 module _ (list : List Stuck) where
   -- a member is on the way from the first
-  member_on : (m : ℕ) (x y : OpId) → Contains (way list m x) y → (k : ℕ) × (follow list k x ≡ y)
+  way_member_is_followed : (m : ℕ) (x y : OpId) → Contains (way list m x) y → (k : ℕ) × (follow list k x ≡ y)
   unfolding way follow
-  member_on zero x y (k, inside, e) = absurd (omega (arith, inside))
-  member_on (suc m) x y (zero, inside, e) = (zero, e)
-  member_on (suc m) x y (suc k, inside, e) = let r = member_on m (step list x) y (k, omega (arith, inside), e) in (suc r.0, r.1)
+  way_member_is_followed zero x y (k, inside, e) = absurd (omega (arith, inside))
+  way_member_is_followed (suc m) x y (zero, inside, e) = (zero, e)
+  way_member_is_followed (suc m) x y (suc k, inside, e) = let r = way_member_is_followed m (step list x) y (k, omega (arith, inside), e) in (suc r.0, r.1)
 
   pub member_follows : (x y : OpId) → Contains (members list x) y → (k : ℕ) × (follow list k x ≡ y)
   unfolding members
-  member_follows x y (zero, inside, e) = (zero, follow_none list x ∙ e)
+  member_follows x y (zero, inside, e) = (zero, follow_zero list x ∙ e)
   member_follows x y (suc k, inside, e) =
       let p = λ (z : OpId). same_op z x in
       let w = way list (length list) (step list x) in
       let c : Contains (before_first p w) y = (k, omega (arith, inside), e) in
-      let r = member_on (length list) (step list x) y (contains_take (position_or_len p w) w y c) in
+      let r = way_member_is_followed (length list) (step list x) y (contains_take (position_or_len p w) w y c) in
       (suc r.0, follow_first list r.0 x ∙ r.1)
 
   first_member : (x : OpId) → Contains (members list x) x
@@ -108,10 +108,10 @@ module _ (list : List Stuck) where
   first_member x = contains_first x (before_first (λ (z : OpId). same_op z x) (way list (length list) (step list x))) x refl
 
   -- Where the way from y comes to x, the operations up to there are those that follow z, and then x.
-  round_way : (x : OpId) (m : ℕ) (z : OpId) → list_any (λ (w : OpId). same_op w x) (way list m (step list z)) ≡ true → map (step list) (z ∷ before_first (λ (w : OpId). same_op w x) (way list m (step list z))) ≡ before_first (λ (w : OpId). same_op w x) (way list m (step list z)) ++ x ∷ []
+  steps_of_way_end_at_reached_op : (x : OpId) (m : ℕ) (z : OpId) → list_any (λ (w : OpId). same_op w x) (way list m (step list z)) ≡ true → map (step list) (z ∷ before_first (λ (w : OpId). same_op w x) (way list m (step list z))) ≡ before_first (λ (w : OpId). same_op w x) (way list m (step list z)) ++ x ∷ []
   unfolding way
-  round_way x zero z e = absurd (cc)
-  round_way x (suc m) z e = go (cases_Bool (same_op (step list z) x)) (round_way x m (step list z))
+  steps_of_way_end_at_reached_op x zero z e = absurd (cc)
+  steps_of_way_end_at_reached_op x (suc m) z e = go (cases_Bool (same_op (step list z) x)) (steps_of_way_end_at_reached_op x m (step list z))
     where
       p : OpId → Bool
       p = λ (w : OpId). same_op w x
@@ -134,13 +134,13 @@ module _ (list : List Stuck) where
   -- the members of a ring, one step on
   pub ring_steps : (x : OpId) → is_head list x ≡ true → map (step list) (members list x) ≡ drop 1 (members list x) ++ take 1 (members list x)
   unfolding members is_head comes_to
-  ring_steps x head = round_way x (length list) x (and_first _ _ head)
+  ring_steps x head = steps_of_way_end_at_reached_op x (length list) x (and_first _ _ head)
     where
       and_first : (a b : Bool) → (a && b) ≡ true → a ≡ true
       and_first true b e = refl
       and_first false b e = e
 
-  -- a member's next is a member
+  -- a step from a member leads to a member
   member_next : (x y : OpId) → is_head list x ≡ true → Contains (members list x) y → Contains (members list x) (step list y)
   unfolding members
   member_next x y head c =
@@ -153,7 +153,7 @@ module _ (list : List Stuck) where
       only (suc k) inside e = absurd (omega (arith, inside))
 
   pub member_after : (x : OpId) (k : ℕ) → is_head list x ≡ true → Contains (members list x) (follow list k x)
-  member_after x zero head = let P : OpId → Type 0 = λ y. Contains (members list x) y in subst P (sym (follow_none list x)) (first_member x)
+  member_after x zero head = let P : OpId → Type 0 = λ y. Contains (members list x) y in subst P (sym (follow_zero list x)) (first_member x)
   member_after x (suc k) head =
       let P : OpId → Type 0 = λ y. Contains (members list x) y in
       subst P (sym (follow_first list k x ∙ follow_next list k x)) (member_next x (follow list k x) head (member_after x k head))
@@ -197,7 +197,7 @@ one_knot_each list x order listed c = go (targets_exist list order listed) (plac
             let b : ℕ = after t leads.steps i in
             let same : follow list r.0 (op_at list p.0) ≡ op_at list b = ap (follow list r.0) p.2 ∙ r.1 ∙ ap (follow list leads.steps) (sym at) ∙ follow_at list t tracks leads.steps i inside in
             let l : Leads t p.0 b = leads_at list t tracks order r.0 p.0 b p.1 (after_below t (length list) (closed list t tracks) leads.steps i inside) same in
-            let there : IsHeadOf t i p.0 = head_from t i p.0 p.0 (leads_on t i b p.0 (record { steps = leads.steps; there = refl }) (leads_back t p.0 b g.back l)) g in
+            let there : IsHeadOf t i p.0 = head_from t i p.0 p.0 (leads_transitive t i b p.0 (record { steps = leads.steps; there = refl }) (leads_back t p.0 b g.back l)) g in
             sym is ∙ ap (knot_at list) (sym p.2 ∙ ap (op_at list) (one_head t i p.0 h there a))
 
 is_none_means : (o : Option OpId) → is_none o ≡ true → o ≡ None
@@ -225,10 +225,10 @@ lone_are_alone list k c lone = go (knot_head list k c)
         (x, ap (λ (j : Knot). j.members) (sym is) ∙ alone_members list x none, none)
 
 -- following an operation that is alone stays there
-stays_there : (list : List Stuck) (y : OpId) → step list y ≡ y → (m : ℕ) → follow list m y ≡ y
+follow_stays_at_fixed_point : (list : List Stuck) (y : OpId) → step list y ≡ y → (m : ℕ) → follow list m y ≡ y
 unfolding follow
-stays_there list y e zero = refl
-stays_there list y e (suc m) = ap (follow list m) e ∙ stays_there list y e m
+follow_stays_at_fixed_point list y e zero = refl
+follow_stays_at_fixed_point list y e (suc m) = ap (follow list m) e ∙ follow_stays_at_fixed_point list y e m
 
 map_alike : {X Y : Type 0} (f g : X → Y) (xs : List X) → ((x : X) → Contains xs x → f x ≡ g x) → map f xs ≡ map g xs
 map_alike f g [] same = refl
@@ -243,8 +243,8 @@ abbrev some_op : OpId → Option OpId
 some_op x = Some x
 
 -- no member of a ring is alone
-member_waits : (list : List Stuck) (x y : OpId) → IsInOrder list → NamesListed list → Contains (stuck_ops list) x → is_head list x ≡ true → is_none (next list x) ≡ false → Contains (members list x) y → next list y ≡ Some (step list y)
-member_waits list x y order listed cx head ring c = go (next list y) refl (targets_exist list order listed) (place_of list x cx) (member_follows list x y c)
+ring_member_names_its_step : (list : List Stuck) (x y : OpId) → IsInOrder list → NamesListed list → Contains (stuck_ops list) x → is_head list x ≡ true → is_none (next list x) ≡ false → Contains (members list x) y → next list y ≡ Some (step list y)
+ring_member_names_its_step list x y order listed cx head ring c = go (next list y) refl (targets_exist list order listed) (place_of list x cx) (member_follows list x y c)
   where
     clash : next list y ≡ None → (t : ℕ → ℕ) → Tracks list t → (i : ℕ) → i < length list → op_at list i ≡ x → (k : ℕ) → follow list k x ≡ y → ⊥
     clash none t tracks i inside at k e =
@@ -254,7 +254,7 @@ member_waits list x y order listed cx head ring c = go (next list y) refl (targe
         let below : b < length list = after_below t (length list) (closed list t tracks) k i inside in
         let l = leads_back t i b g.back (record { steps = k; there = refl }) in
         let stays : step list y ≡ y = ap (λ (o : Option OpId). unwrap_or o y) none in
-        let same : y ≡ x = sym (stays_there list y stays l.steps) ∙ ap (follow list l.steps) (sym there) ∙ follow_at list t tracks l.steps b below ∙ ap (op_at list) l.there ∙ at in
+        let same : y ≡ x = sym (follow_stays_at_fixed_point list y stays l.steps) ∙ ap (follow list l.steps) (sym there) ∙ follow_at list t tracks l.steps b below ∙ ap (op_at list) l.there ∙ at in
         both_ways _ ring (ap (λ (z : OpId). is_none (next list z)) (sym same) ∙ ap is_none none)
 
     go : (o : Option OpId) → next list y ≡ o → (t : ℕ → ℕ) × Tracks list t → ((i : ℕ) × (i < length list) × (op_at list i ≡ x)) → ((k : ℕ) × (follow list k x ≡ y)) → next list y ≡ Some (step list y)
@@ -268,7 +268,7 @@ rings_are_closed list k order listed c ring = go (knot_head list k c)
     go (x, cx, head, is) =
         let P : Knot → Type 0 = λ j. map (next list) j.members ≡ map Some (drop 1 j.members ++ take 1 j.members) in
         let m = members list x in
-        subst P is (map_alike (next list) (λ (y : OpId). Some (step list y)) m (λ y cy. member_waits list x y order listed cx head (ap (λ (j : Knot). j.lone) is ∙ ring) cy) ∙ sym (map_twice Some (step list) m) ∙ ap (map Some) (ring_steps list x head))
+        subst P is (map_alike (next list) (λ (y : OpId). Some (step list y)) m (λ y cy. ring_member_names_its_step list x y order listed cx head (ap (λ (j : Knot). j.lone) is ∙ ring) cy) ∙ sym (map_twice Some (step list) m) ∙ ap (map Some) (ring_steps list x head))
 
 pub none_left_out : NoneLeftOut
 none_left_out list x n order listed c back = go (targets_exist list order listed) (place_of list x c)

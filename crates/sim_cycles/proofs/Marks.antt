@@ -1,4 +1,4 @@
--- Marks, and what one more mark changes.
+-- Marks, and what setting another mark changes.
 use Rattle.std.proofs.Common.{ℕ, suc, ◌+◌, ◌-◌, ◌<◌, ◌≤◌, ◌≡◌, ◌⊎◌, inl, inr, ⊎_elim, false, List, [], ◌∷◌, ◌++◌, length, get_or, replicate, set, drop, All, Contains, sym, ap, ◌∙◌, subst, arith}
 use Rattle.std.proofs.lemmas.Bool.{cases_eq, cases_lt}
 use Rattle.std.proofs.lemmas.List.{length-set, get_or-set_same, get_or-set_other, get_or_append_left, get_or_push, length_push, set_past, get_or-drop, length-drop, length-replicate, get_or-replicate, get_or_past, get_or_default}
@@ -6,7 +6,7 @@ use Rattle.sim_cycles.specs.Walks.{after, IsHeadOf}
 use Rattle.sim_cycles.specs.Places.{target_at, IsClosed, mark_at, is_unseen, AreMarks, AreSettled, StaySeen}
 use Rattle.sim_cycles.specs.declared.heads.Mark.{Mark}
 use Rattle.sim_cycles.specs.declared.heads.Mark.TheVariants.{Unseen, OnWay, Known}
-use Rattle.sim_cycles.proofs.Walks.{after_add, after_below, after_last, after_none, head_at, head_from, head_on}
+use Rattle.sim_cycles.proofs.Walks.{after_add, after_below, after_last, after_zero, head_at, head_from, head_on}
 
 pub mark_set_same : (marks : List Mark) (i : ℕ) (m : Mark) → i < length marks → mark_at (set marks i m) i ≡ m
 mark_set_same marks i m h = get_or-set_same marks i m Unseen h
@@ -15,19 +15,19 @@ pub mark_set_other : (marks : List Mark) (i j : ℕ) (m : Mark) → (j ≡ i →
 mark_set_other marks i j m apart = get_or-set_other marks i j m Unseen apart
 
 -- setting a mark leaves marked what was marked
-pub stay_set : (marks : List Mark) (i : ℕ) (m : Mark) → is_unseen m ≡ false → StaySeen marks (set marks i m)
-stay_set marks i m seen j was = go (cases_eq j i) (cases_lt i (length marks))
+pub seen_marks_stay_after_set : (marks : List Mark) (i : ℕ) (m : Mark) → is_unseen m ≡ false → StaySeen marks (set marks i m)
+seen_marks_stay_after_set marks i m seen j was = go (cases_eq j i) (cases_lt i (length marks))
   where
     go : ((j ≡ i) ⊎ (j ≡ i → ⊥)) → ((i < length marks) ⊎ (length marks ≤ i)) → is_unseen (mark_at (set marks i m) j) ≡ false
     go (inr apart) _ = ap is_unseen (mark_set_other marks i j m apart) ∙ was
     go (inl e) (inl inside) = ap (λ k. is_unseen (mark_at (set marks i m) k)) e ∙ ap is_unseen (mark_set_same marks i m inside) ∙ seen
     go (inl e) (inr past) = ap (λ (ms : List Mark). is_unseen (mark_at ms j)) (set_past marks i m past) ∙ was
 
-on_way_same : (j k : ℕ) → OnWay j ≡ OnWay k → j ≡ k
-on_way_same j k e = cc
+on_way_injective : (j k : ℕ) → OnWay j ≡ OnWay k → j ≡ k
+on_way_injective j k e = cc
 
-known_same : (j k : ℕ) → Known j ≡ Known k → j ≡ k
-known_same j k e = cc
+known_injective : (j k : ℕ) → Known j ≡ Known k → j ≡ k
+known_injective j k e = cc
 
 module _ (ts : List ℕ) where
   -- at first nothing is marked
@@ -58,7 +58,7 @@ module _ (ts : List ℕ) where
     long = length-set marks at (OnWay (length way)) ∙ a.long;
     walked = λ j h. ⊎_elim (λ below. get_or_append_left way (at ∷ []) 0 j below ∙ a.walked j below) (λ above. let e : j ≡ length way = omega (arith, above, h, length_push way at) in get_or_push way at 0 j (sym e) ∙ there ∙ ap (λ k. after (target_at ts) k start) (sym e)) (cases_lt j (length way));
     marked = λ j h. ⊎_elim (λ below. ap (mark_at new_marks) (get_or_append_left way (at ∷ []) 0 j below) ∙ mark_set_other marks at (get_or way j 0) (OnWay (length way)) (apart j below) ∙ a.marked j below) (λ above. let e : j ≡ length way = omega (arith, above, h, length_push way at) in ap (mark_at new_marks) (get_or_push way at 0 j (sym e)) ∙ here ∙ ap OnWay (sym e)) (cases_lt j (length way));
-    on_way = λ i j e. ⊎_elim (λ (same : i ≡ at). let k : j ≡ length way = on_way_same j (length way) (sym e ∙ ap (mark_at new_marks) same ∙ here) in (omega (arith, length_push way at, k), get_or_push way at 0 j (sym k) ∙ sym same)) (λ other. let r = a.on_way i j (sym (mark_set_other marks at i (OnWay (length way)) other) ∙ e) in (omega (arith, length_push way at, r.0), get_or_append_left way (at ∷ []) 0 j r.0 ∙ r.1)) (cases_eq i at);
+    on_way = λ i j e. ⊎_elim (λ (same : i ≡ at). let k : j ≡ length way = on_way_injective j (length way) (sym e ∙ ap (mark_at new_marks) same ∙ here) in (omega (arith, length_push way at, k), get_or_push way at 0 j (sym k) ∙ sym same)) (λ other. let r = a.on_way i j (sym (mark_set_other marks at i (OnWay (length way)) other) ∙ e) in (omega (arith, length_push way at, r.0), get_or_append_left way (at ∷ []) 0 j r.0 ∙ r.1)) (cases_eq i at);
     known = λ i h e. ⊎_elim (λ (same : i ≡ at). let clash : OnWay (length way) ≡ Known h = sym here ∙ ap (mark_at new_marks) (sym same) ∙ e in absurd (cc)) (λ other. a.known i h (sym (mark_set_other marks at i (OnWay (length way)) other) ∙ e)) (cases_eq i at);
   }
     where
@@ -110,15 +110,15 @@ module _ (ts : List ℕ) where
   start_seen marks start at way a there e = go (cases_lt 0 (length way))
     where
       go : (0 < length way) ⊎ (length way ≤ 0) → is_unseen (mark_at marks start) ≡ false
-      go (inl some) = ap (λ k. is_unseen (mark_at marks k)) (sym (a.walked 0 some ∙ after_none (target_at ts) start)) ∙ ap is_unseen (a.marked 0 some)
+      go (inl some) = ap (λ k. is_unseen (mark_at marks k)) (sym (a.walked 0 some ∙ after_zero (target_at ts) start)) ∙ ap is_unseen (a.marked 0 some)
       go (inr none) =
           let zero_long : length way ≡ 0 = omega arith in
-          let same : at ≡ start = there ∙ ap (λ k. after (target_at ts) k start) zero_long ∙ after_none (target_at ts) start in
+          let same : at ≡ start = there ∙ ap (λ k. after (target_at ts) k start) zero_long ∙ after_zero (target_at ts) start in
           ap (λ k. is_unseen (mark_at marks k)) (sym same) ∙ e
 
   -- where a step leads
-  pub step_there : (start at : ℕ) (way new : List ℕ) → at ≡ after (target_at ts) (length way) start → new ≡ way ++ at ∷ [] → target_at ts at ≡ after (target_at ts) (length new) start
-  step_there start at way new there e =
+  pub next_place_of_way : (start at : ℕ) (way new : List ℕ) → at ≡ after (target_at ts) (length way) start → new ≡ way ++ at ∷ [] → target_at ts at ≡ after (target_at ts) (length new) start
+  next_place_of_way start at way new there e =
       let n : length new ≡ suc (length way) = omega (arith, ap length e, length_push way at) in
       ap (target_at ts) there ∙ sym (after_last (target_at ts) (length way) start) ∙ ap (λ k. after (target_at ts) k start) (sym n)
 
@@ -136,7 +136,7 @@ module _ (ts : List ℕ) where
   pub settled_more : (old marks new : List Mark) (start head : ℕ) (way : List ℕ) → IsClosed ts → start < length ts → AreSettled ts old start → AreMarks ts marks start way → StaySeen old marks → is_unseen (mark_at marks start) ≡ false → IsHeadOf (target_at ts) start head → length new ≡ length marks → ((i : ℕ) → Contains way i → mark_at new i ≡ Known head) → ((i : ℕ) → (mark_at new i ≡ mark_at marks i) ⊎ (Contains way i × (mark_at new i ≡ Known head))) → AreSettled ts new (start + 1)
   settled_more old marks new start head way closed inside s a stay here h long set kept = record {
     long = long ∙ a.long;
-    known = λ i g e. ⊎_elim (λ same. a.known i g (sym same ∙ e)) (λ (c, k). let same : g ≡ head = known_same g head (sym e ∙ k) in subst (IsHeadOf (target_at ts) i) (sym same) (of_way i c)) (kept i);
+    known = λ i g e. ⊎_elim (λ same. a.known i g (sym same ∙ e)) (λ (c, k). let same : g ≡ head = known_injective g head (sym e ∙ k) in subst (IsHeadOf (target_at ts) i) (sym same) (of_way i c)) (kept i);
     off_way = λ i j e. ⊎_elim (λ same. let r = a.on_way i j (sym same ∙ e) in let clash : OnWay j ≡ Known head = sym e ∙ set i (j, r.0, in_way i j r.0 r.1) in absurd (cc)) (λ (c, k). let clash : OnWay j ≡ Known head = sym e ∙ k in absurd (cc)) (kept i);
     seen = λ i below. ⊎_elim (λ same. ap is_unseen same ∙ was i below) (λ (c, k). ap is_unseen k) (kept i);
   }

@@ -15,7 +15,7 @@ use Rattle.sim_cycles.specs.Knots.{named, is_before, stuck_ops, next, step, way,
 use Rattle.sim_cycles.specs.Laws.{IsInOrder, follow}
 use Rattle.sim_cycles.specs.Walks.{after, Leads, ComesBack, IsHeadOf}
 use Rattle.sim_cycles.specs.Places.{op_at, IsTarget}
-use Rattle.sim_cycles.proofs.Walks.{after_below, leads_itself, leads_soon}
+use Rattle.sim_cycles.proofs.Walks.{after_below, leads_reflexive, leads_soon}
 
 abbrev pub none_op : OpId
 none_op = record { rank = 0; op = 0 }
@@ -48,8 +48,8 @@ module _ (list : List Stuck) where
   pub long_ops : length (stuck_ops list) ≡ length list
   long_ops = length-map list (λ (s : Stuck). s.op)
 
-  pub op_read : (i : ℕ) (d : Stuck) → i < length list → op_at list i ≡ (get_or list i d).op
-  op_read i d inside = get_or-map (λ (s : Stuck). s.op) list i d (record { rank = 0; op = 0 }) inside
+  pub op_at_is_op_of_entry : (i : ℕ) (d : Stuck) → i < length list → op_at list i ≡ (get_or list i d).op
+  op_at_is_op_of_entry i d inside = get_or-map (λ (s : Stuck). s.op) list i d (record { rank = 0; op = 0 }) inside
 
   -- the place of a listed operation
   pub place_of : (x : OpId) → Contains (stuck_ops list) x → (i : ℕ) × (i < length list) × (op_at list i ≡ x)
@@ -94,14 +94,14 @@ find_at (s ∷ rest) (suc i) d x order inside e =
     apart t =
         let same : s.op ≡ x = same_op_true s.op x t in
         let first : IsBefore s.op (get_or (stuck_ops rest) i (record { rank = 0; op = 0 })) = order zero (suc i) (record { rank = 0; op = 0 }) (omega arith) (omega (arith, inside, long_ops rest)) in
-        let at : get_or (stuck_ops rest) i (record { rank = 0; op = 0 }) ≡ x = op_read rest i d (omega (arith, inside)) ∙ e in
+        let at : get_or (stuck_ops rest) i (record { rank = 0; op = 0 }) ≡ x = op_at_is_op_of_entry rest i d (omega (arith, inside)) ∙ e in
         not_before_itself x (let P : OpId → Type 0 = λ y. IsBefore y x in subst P same (let Q : OpId → Type 0 = λ y. IsBefore s.op y in subst Q at first))
 
 -- what the reason at a place names
 pub next_at : (list : List Stuck) (i : ℕ) (d : Stuck) → IsInOrder list → i < length list → next list (op_at list i) ≡ named (get_or list i d).why
 unfolding next
 next_at list i d order inside =
-    ap (option_and_then (λ (s : Stuck). named s.why)) (find_at list i d (op_at list i) order inside (sym (op_read list i d inside)))
+    ap (option_and_then (λ (s : Stuck). named s.why)) (find_at list i d (op_at list i) order inside (sym (op_at_is_op_of_entry list i d inside)))
 
 pub target_named : (list : List Stuck) (i j : ℕ) (d : Stuck) (y : OpId) → IsInOrder list → i < length list → j < length list → named (get_or list i d).why ≡ Some y → op_at list j ≡ y → IsTarget list i j
 target_named list i j d y order hi hj e there = record {
@@ -125,40 +125,40 @@ module _ (list : List Stuck) where
   follow_next zero x = refl
   follow_next (suc k) x = follow_next k (step list x)
 
-  pub follow_none : (x : OpId) → follow list 0 x ≡ x
+  pub follow_zero : (x : OpId) → follow list 0 x ≡ x
   unfolding follow
-  follow_none x = refl
+  follow_zero x = refl
 
   pub follow_first : (k : ℕ) (x : OpId) → follow list (suc k) x ≡ follow list k (step list x)
   unfolding follow
   follow_first k x = refl
 
   -- what is met on a way
-  pub way_any : (p : OpId → Bool) (m : ℕ) (x : OpId) → list_any p (way list m x) ≡ true → (k : ℕ) × (k < m) × (p (follow list k x) ≡ true)
+  pub step_from_any_on_way : (p : OpId → Bool) (m : ℕ) (x : OpId) → list_any p (way list m x) ≡ true → (k : ℕ) × (k < m) × (p (follow list k x) ≡ true)
   unfolding way follow
-  way_any p zero x e = absurd (cc)
-  way_any p (suc m) x e = go (or_cases (p x) (list_any p (way list m (step list x))) e) (way_any p m (step list x))
+  step_from_any_on_way p zero x e = absurd (cc)
+  step_from_any_on_way p (suc m) x e = go (or_cases (p x) (list_any p (way list m (step list x))) e) (step_from_any_on_way p m (step list x))
     where
       go : ((p x ≡ true) ⊎ (list_any p (way list m (step list x)) ≡ true)) → (list_any p (way list m (step list x)) ≡ true → (k : ℕ) × (k < m) × (p (follow list k (step list x)) ≡ true)) → (k : ℕ) × (k < suc m) × (p (follow list k x) ≡ true)
       go (inl here) rest = (zero, omega arith, here)
       go (inr later) rest = let r = rest later in (suc r.0, omega (arith, r.1), r.2)
 
-  pub any_way : (p : OpId → Bool) (m : ℕ) (x : OpId) (k : ℕ) → k < m → p (follow list k x) ≡ true → list_any p (way list m x) ≡ true
+  pub any_on_way_from_step : (p : OpId → Bool) (m : ℕ) (x : OpId) (k : ℕ) → k < m → p (follow list k x) ≡ true → list_any p (way list m x) ≡ true
   unfolding way follow
-  any_way p zero x k below e = absurd (omega (arith, below))
-  any_way p (suc m) x zero below e = or_left (p x) (list_any p (way list m (step list x))) e
-  any_way p (suc m) x (suc k) below e = or_right (p x) (list_any p (way list m (step list x))) (any_way p m (step list x) k (omega (arith, below)) e)
+  any_on_way_from_step p zero x k below e = absurd (omega (arith, below))
+  any_on_way_from_step p (suc m) x zero below e = or_left (p x) (list_any p (way list m (step list x))) e
+  any_on_way_from_step p (suc m) x (suc k) below e = or_right (p x) (list_any p (way list m (step list x))) (any_on_way_from_step p m (step list x) k (omega (arith, below)) e)
 
-  pub way_all : (p : OpId → Bool) (m : ℕ) (x : OpId) → list_all p (way list m x) ≡ true → (k : ℕ) → k < m → p (follow list k x) ≡ true
+  pub each_step_from_all_on_way : (p : OpId → Bool) (m : ℕ) (x : OpId) → list_all p (way list m x) ≡ true → (k : ℕ) → k < m → p (follow list k x) ≡ true
   unfolding way follow
-  way_all p zero x e k below = absurd (omega (arith, below))
-  way_all p (suc m) x e zero below = (and_parts (p x) (list_all p (way list m (step list x))) e).0
-  way_all p (suc m) x e (suc k) below = way_all p m (step list x) (and_parts (p x) (list_all p (way list m (step list x))) e).1 k (omega (arith, below))
+  each_step_from_all_on_way p zero x e k below = absurd (omega (arith, below))
+  each_step_from_all_on_way p (suc m) x e zero below = (and_parts (p x) (list_all p (way list m (step list x))) e).0
+  each_step_from_all_on_way p (suc m) x e (suc k) below = each_step_from_all_on_way p m (step list x) (and_parts (p x) (list_all p (way list m (step list x))) e).1 k (omega (arith, below))
 
-  pub all_way : (p : OpId → Bool) (m : ℕ) (x : OpId) → ((k : ℕ) → k < m → p (follow list k x) ≡ true) → list_all p (way list m x) ≡ true
+  pub all_on_way_from_each_step : (p : OpId → Bool) (m : ℕ) (x : OpId) → ((k : ℕ) → k < m → p (follow list k x) ≡ true) → list_all p (way list m x) ≡ true
   unfolding way follow
-  all_way p zero x each = refl
-  all_way p (suc m) x each = and_from (p x) (list_all p (way list m (step list x))) (each zero (omega arith)) (all_way p m (step list x) (λ k below. each (suc k) (omega (arith, below))))
+  all_on_way_from_each_step p zero x each = refl
+  all_on_way_from_each_step p (suc m) x each = and_from (p x) (list_all p (way list m (step list x))) (each zero (omega arith)) (all_on_way_from_each_step p m (step list x) (λ k below. each (suc k) (omega (arith, below))))
 
   module _ (t : ℕ → ℕ) (tracks : Tracks list t) where
     pub closed : (i : ℕ) → i < length list → t i < length list
@@ -183,19 +183,19 @@ module _ (list : List Stuck) where
       pub comes_from : (i j : ℕ) → i < length list → j < length list → comes_to list (op_at list i) (op_at list j) ≡ true → Leads t i j
       unfolding comes_to
       comes_from i j hi hj e =
-          let r = way_any (λ (z : OpId). same_op z (op_at list j)) (length list) (op_at list i) e in
+          let r = step_from_any_on_way (λ (z : OpId). same_op z (op_at list j)) (length list) (op_at list i) e in
           leads_at r.0 i j hi hj (same_op_true _ _ r.2)
 
       pub comes_true : (i j : ℕ) → i < length list → Leads t i j → comes_to list (op_at list i) (op_at list j) ≡ true
       unfolding comes_to
       comes_true i j hi l =
           let r = leads_soon t (length list) closed i j hi l in
-          any_way (λ (z : OpId). same_op z (op_at list j)) (length list) (op_at list i) r.0 r.1 (same_op_from _ _ (follow_at r.0 i hi ∙ ap (op_at list) r.2))
+          any_on_way_from_step (λ (z : OpId). same_op z (op_at list j)) (length list) (op_at list i) r.0 r.1 (same_op_from _ _ (follow_at r.0 i hi ∙ ap (op_at list) r.2))
 
       -- the head of a knot is its own head
       pub head_from_test : (i : ℕ) → i < length list → is_head list (op_at list i) ≡ true → IsHeadOf t i i
       unfolding is_head
-      head_from_test i hi e = record { comes = leads_itself t i; back = record { steps = back.steps; there = back.there }; least = least }
+      head_from_test i hi e = record { comes = leads_reflexive t i; back = record { steps = back.steps; there = back.there }; least = least }
         where
           parts : (comes_to list (step list (op_at list i)) (op_at list i) ≡ true) × (list_all (λ (y : OpId). not (is_before y (op_at list i))) (way list (length list) (op_at list i)) ≡ true)
           parts = and_parts _ _ e
@@ -204,7 +204,7 @@ module _ (list : List Stuck) where
           back = comes_from (t i) i (closed i hi) hi (ap (λ (x : OpId). comes_to list x (op_at list i)) (sym (step_at i hi)) ∙ parts.0)
 
           least_soon : (k : ℕ) → k < length list → i ≤ after t k i
-          least_soon k below = ⊎_elim (λ less. absurd (both_ways _ (not-true _ (way_all (λ (y : OpId). not (is_before y (op_at list i))) (length list) (op_at list i) parts.1 k below)) (ap (λ (y : OpId). is_before y (op_at list i)) (follow_at k i hi) ∙ is_before-true _ _ (before_at list order (after t k i) i less hi)))) (λ more. more) (cases_lt (after t k i) i)
+          least_soon k below = ⊎_elim (λ less. absurd (both_ways _ (not-true _ (each_step_from_all_on_way (λ (y : OpId). not (is_before y (op_at list i))) (length list) (op_at list i) parts.1 k below)) (ap (λ (y : OpId). is_before y (op_at list i)) (follow_at k i hi) ∙ is_before-true _ _ (before_at list order (after t k i) i less hi)))) (λ more. more) (cases_lt (after t k i) i)
 
           least : (k : ℕ) → i ≤ after t k i
           least k =
@@ -214,7 +214,7 @@ module _ (list : List Stuck) where
       pub head_true : (i : ℕ) → i < length list → ComesBack t i → ((k : ℕ) → i ≤ after t k i) → is_head list (op_at list i) ≡ true
       unfolding is_head
       head_true i hi back least =
-          and_from _ _ (ap (λ (x : OpId). comes_to list x (op_at list i)) (step_at i hi) ∙ comes_true (t i) i (closed i hi) (record { steps = back.steps; there = back.there })) (all_way (λ (y : OpId). not (is_before y (op_at list i))) (length list) (op_at list i) later)
+          and_from _ _ (ap (λ (x : OpId). comes_to list x (op_at list i)) (step_at i hi) ∙ comes_true (t i) i (closed i hi) (record { steps = back.steps; there = back.there })) (all_on_way_from_each_step (λ (y : OpId). not (is_before y (op_at list i))) (length list) (op_at list i) later)
         where
           later : (k : ℕ) → k < length list → not (is_before (follow list k (op_at list i)) (op_at list i)) ≡ true
           later k below = not_from_false _ (false_from_ne_true _ (λ e. let inside : after t k i < length list = after_below t (length list) closed k i hi in let less : after t k i < i = place_before list order (after t k i) i inside hi (before_from_test _ _ (ap (λ (y : OpId). is_before y (op_at list i)) (sym (follow_at k i hi)) ∙ e)) in omega (arith, less, least k)))

@@ -15,7 +15,7 @@ use Rattle.sim_cycles.specs.Laws.{IsInOrder}
 use Rattle.sim_cycles.specs.Walks.{IsHeadOf}
 use Rattle.sim_cycles.specs.Places.{op_at, IsTarget, target_at, AreTargets, AreHeads, AreCounts}
 use Rattle.sim_cycles.proofs.Walks.{head_below}
-use Rattle.sim_cycles.proofs.PlacesLemmas.{none_op, long_ops, op_read, one_place, next_at, closed}
+use Rattle.sim_cycles.proofs.PlacesLemmas.{none_op, long_ops, op_at_is_op_of_entry, one_place, next_at, closed}
 use Rattle.sim_cycles.proofs.KnotLemmas.{before_first-stop, before_first-go, head_test, comes_test, count_alike}
 
 -- another head is counted
@@ -36,7 +36,7 @@ pub members_begin : (list : List Stuck) (first j : ℕ) (d : Stuck) (none ops : 
 unfolding members
 members_begin list first j d none ops inside target blank is =
     let n : length list - 0 ≡ length list = omega arith in
-    let one : ops ≡ op_at list first ∷ [] = is ∙ ap₂ (λ (xs : List OpId) (x : OpId). xs ++ x ∷ []) blank (sym (op_read list first d inside)) in
+    let one : ops ≡ op_at list first ∷ [] = is ∙ ap₂ (λ (xs : List OpId) (x : OpId). xs ++ x ∷ []) blank (sym (op_at_is_op_of_entry list first d inside)) in
     ap (λ (xs : List OpId). xs ++ following list first (length list - 0) j) one ∙ ap (λ k. op_at list first ∷ following list first k j) n ∙ ap (λ (y : OpId). op_at list first ∷ before_first (λ (z : OpId). same_op z (op_at list first)) (way list (length list) y)) (sym target.names)
 
 pub members_more : (list : List Stuck) (first at j i : ℕ) (d : Stuck) (ops new all : List OpId) → IsInOrder list → first < length list → at < length list → i < length list → (at ≡ first → ⊥) → IsTarget list at j → new ≡ ops ++ (get_or list at d).op ∷ [] → ops ++ following list first (length list - i) at ≡ all → new ++ following list first (length list - (i + 1)) j ≡ all
@@ -46,7 +46,7 @@ members_more list first at j i d ops new all order hf ha hi apart target is rest
     let other : same_op (op_at list at) (op_at list first) ≡ false = false_from_ne_true _ (λ t. apart (one_place list order at first ha hf (same_op_true _ _ t))) in
     let m = following list first (length list - (i + 1)) j in
     let on : following list first (suc (length list - (i + 1))) at ≡ op_at list at ∷ m = before_first-go (λ (y : OpId). same_op y (op_at list first)) (op_at list at) (way list (length list - (i + 1)) (step list (op_at list at))) other ∙ ap (λ (y : OpId). op_at list at ∷ before_first (λ (z : OpId). same_op z (op_at list first)) (way list (length list - (i + 1)) y)) target.names in
-    ap (λ (xs : List OpId). xs ++ m) (is ∙ ap (λ (x : OpId). ops ++ x ∷ []) (sym (op_read list at d ha))) ∙ append_assoc ops (op_at list at ∷ []) m ∙ ap (λ (xs : List OpId). ops ++ xs) (sym on) ∙ ap (λ k. ops ++ following list first k at) (sym n) ∙ rest
+    ap (λ (xs : List OpId). xs ++ m) (is ∙ ap (λ (x : OpId). ops ++ x ∷ []) (sym (op_at_is_op_of_entry list at d ha))) ∙ append_assoc ops (op_at list at ∷ []) m ∙ ap (λ (xs : List OpId). ops ++ xs) (sym on) ∙ ap (λ k. ops ++ following list first k at) (sym n) ∙ rest
 
 pub members_all : (list : List Stuck) (first at i : ℕ) (ops all : List OpId) → length list ≤ i → ops ++ following list first (length list - i) at ≡ all → ops ≡ all
 unfolding way
@@ -54,9 +54,9 @@ members_all list first at i ops all past rest =
     let n : length list - i ≡ 0 = omega (arith, past) in
     sym (ap (λ k. ops ++ following list first k at) n ∙ append-nil ops) ∙ rest
 
-pub members_round : (list : List Stuck) (first at i : ℕ) (ops all : List OpId) → i < length list → at ≡ first → ops ++ following list first (length list - i) at ≡ all → ops ≡ all
+pub members_complete_at_first : (list : List Stuck) (first at i : ℕ) (ops all : List OpId) → i < length list → at ≡ first → ops ++ following list first (length list - i) at ≡ all → ops ≡ all
 unfolding way
-members_round list first at i ops all inside same rest =
+members_complete_at_first list first at i ops all inside same rest =
     let n : length list - i ≡ suc (length list - (i + 1)) = omega (arith, inside) in
     let stop : following list first (suc (length list - (i + 1))) at ≡ [] = before_first-stop (λ (y : OpId). same_op y (op_at list first)) (op_at list at) (way list (length list - (i + 1)) (step list (op_at list at))) (same_op_from _ _ (ap (op_at list) same)) in
     sym (ap (λ k. ops ++ following list first k at) n ∙ ap (λ (xs : List OpId). ops ++ xs) stop ∙ append-nil ops) ∙ rest
@@ -92,8 +92,8 @@ module _ (list : List Stuck) (ts hs : List ℕ) (order : IsInOrder list) (target
       omega (arith, n, head_below (target_at ts) (length list) (closed list (target_at ts) targets.each) i (get_or hs i 0) hi (each_head i hi))
 
   -- a place that is its own head
-  pub head_is : (at h : ℕ) → at < length list → h ≡ get_or hs at h → (h == at) ≡ is_head list (op_at list at)
-  head_is at h inside e =
+  pub own_head_is_head_in_list : (at h : ℕ) → at < length list → h ≡ get_or hs at h → (h == at) ≡ is_head list (op_at list at)
+  own_head_is_head_in_list at h inside e =
       let same : h ≡ get_or hs at 0 = e ∙ get_or_default hs at h 0 (omega (arith, inside, targets.long, heads.long)) in
       ap (λ k. k == at) same ∙ head_test list (target_at ts) targets.each order at (get_or hs at 0) inside (each_head at inside)
 

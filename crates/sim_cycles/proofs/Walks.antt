@@ -22,9 +22,9 @@ module _ (t : ℕ → ℕ) where
   after_next zero x = refl
   after_next (suc k) x = after_next k (t x)
 
-  pub after_none : (x : ℕ) → after t 0 x ≡ x
+  pub after_zero : (x : ℕ) → after t 0 x ≡ x
   unfolding after
-  after_none x = refl
+  after_zero x = refl
 
   pub after_first : (k x : ℕ) → after t (suc k) x ≡ after t k (t x)
   unfolding after
@@ -38,11 +38,11 @@ module _ (t : ℕ → ℕ) where
   after_add zero k x = rw (zero-add k) refl
   after_add (suc j) k x = let e : suc j + k ≡ suc (j + k) = omega arith in rw e (after_add j k (t x))
 
-  pub leads_itself : (x : ℕ) → Leads t x x
-  leads_itself x = record { steps = 0; there = after_none x }
+  pub leads_reflexive : (x : ℕ) → Leads t x x
+  leads_reflexive x = record { steps = 0; there = after_zero x }
 
-  pub leads_on : (x y z : ℕ) → Leads t x y → Leads t y z → Leads t x z
-  leads_on x y z a b = record {
+  pub leads_transitive : (x y z : ℕ) → Leads t x y → Leads t y z → Leads t x z
+  leads_transitive x y z a b = record {
     steps = a.steps + b.steps;
     there = after_add a.steps b.steps x ∙ ap (after t b.steps) a.there ∙ b.there;
   }
@@ -50,7 +50,7 @@ module _ (t : ℕ → ℕ) where
   -- a number of a ring leads back to each it leads to
   leads_back_from : (h : ℕ) → ComesBack t h → (k : ℕ) → Leads t (after t k h) h
   unfolding after
-  leads_back_from h back zero = leads_itself h
+  leads_back_from h back zero = leads_reflexive h
   leads_back_from h back (suc k) = go (leads_back_from h back k)
     where
       on : (m : ℕ) → after t m (after t k h) ≡ h → Leads t (after t k (t h)) h
@@ -92,7 +92,7 @@ module _ (t : ℕ → ℕ) where
 
   -- what leads to y has the head of y
   pub head_from : (x y h : ℕ) → Leads t x y → IsHeadOf t y h → IsHeadOf t x h
-  head_from x y h r a = record { comes = leads_on x y h r a.comes; back = a.back; least = a.least }
+  head_from x y h r a = record { comes = leads_transitive x y h r a.comes; back = a.back; least = a.least }
 
   -- a number that comes back after p + 1 steps leads only to those of the first steps
   multiples_of_a_round : (c p : ℕ) → after t (suc p) c ≡ c → (k : ℕ) → (j : ℕ) × (j ≤ p) × (after t k c ≡ after t j c)
@@ -107,7 +107,7 @@ module _ (t : ℕ → ℕ) where
 
           on : (j < p) ⊎ (p ≤ j) → (j : ℕ) × (j ≤ p) × (after t (suc k) c ≡ after t j c)
           on (inl less) = (suc j, omega arith, e')
-          on (inr more) = let same : j ≡ p = omega (arith, within) in (0, omega arith, e' ∙ ap (λ m. after t (suc m) c) same ∙ back ∙ sym (after_none c))
+          on (inr more) = let same : j ≡ p = omega (arith, within) in (0, omega arith, e' ∙ ap (λ m. after t (suc m) c) same ∙ back ∙ sym (after_zero c))
 
   -- of the numbers on a ring with c the least is their head
   pub head_at : (c p j h : ℕ) → after t (suc p) c ≡ c → h ≡ after t j c → ((i : ℕ) → i ≤ p → h ≤ after t i c) → IsHeadOf t c h

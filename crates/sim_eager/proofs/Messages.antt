@@ -5,7 +5,7 @@ use Rattle.goal_graph.specs.declared.plan.Kind.{Kind}
 use Rattle.goal_graph.specs.Schedule.{Plan, op_at, IsSend}
 use Rattle.goal_graph.specs.Fault.{IsAccepted, value_fits}
 use Rattle.goal_graph.specs.Laws.{ValuesAreWithin}
-use Rattle.goal_graph.proofs.ForCallers.{cases_some, kind_of_op, send_is_op}
+use Rattle.goal_graph.proofs.ForCallers.{value_of_is_some, kind_of_op, send_is_op}
 use Rattle.sim_eager.specs.Messages.{IsMessage}
 
 module _ (plans : List Plan) (m : OpId) (to bytes : ℕ) (message : IsMessage plans m to bytes) where
@@ -14,7 +14,7 @@ module _ (plans : List Plan) (m : OpId) (to bytes : ℕ) (message : IsMessage pl
 
   pub message_fits : ValuesAreWithin → IsAccepted plans → bytes < 2 ^ 40
   message_fits within accepted =
-      let found = cases_some (op_at plans m) (send_is_op plans m message_is_send) in
+      let found = value_of_is_some (op_at plans m) (send_is_op plans m message_is_send) in
       let kind = kind_of_op plans m found.0 _ found.1 message.kind in
       let fits = subst (λ (k : Kind). value_fits k found.0.nic ≡ true) kind (within plans m found.0 accepted found.1).0 in
       omega (arith, leb-true bytes _ fits)

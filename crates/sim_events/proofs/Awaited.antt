@@ -17,7 +17,7 @@ use Rattle.goal_graph.specs.Action.{Act, happened}
 use Rattle.goal_graph.specs.Matching.{Pair, new_pair, add_pair, pairs, partner, is_paired}
 use Rattle.goal_graph.specs.Allowed.{first_class, last_class, is_met, is_ready, is_served, may, allowed}
 use Rattle.goal_graph.specs.Interleaving.{IsInterleaving}
-use Rattle.goal_graph.proofs.ForCallers.{contains_first, contains_more, act_of, happened_before, happened_cases, is_act_class, is_act_op, is_some_from, partner_stays, allowed_fresh, allowed_from, allowed_may, IsListed, listed_partners, new_pair_is, newly_paired, partners_mutual, ready_need, unready_need, unread_after_next, nothing_after_end}
+use Rattle.goal_graph.proofs.ForCallers.{contains_first, contains_more, act_of, not_happened_before_newest, happened_cases, is_act_class, is_act_op, is_some_from, partner_stays, allowed_fresh, allowed_from, allowed_may, IsListed, listed_partners, new_pair_is_of_action, newly_paired, partners_mutual, ready_need, unready_need, unread_after_next, nothing_after_end}
 use Rattle.sim_events.specs.Queue.{IsAwaiting, Awaits}
 use Rattle.sim_state.specs.Awaited.{gives}
 
@@ -102,7 +102,7 @@ module _ (plans : List Plan) (eager : OpId → Bool) (a : Act) (h : List Act) (n
   newly_partner x free taken =
       let p = newly_paired plans a h x free taken in
       let both = listed_partners plans eager (a ∷ h) p.0 now (new_pair_is_listed p.0 p.1) in
-      go p.0 (new_pair_is plans a h p.0 p.1).by both p.2
+      go p.0 (new_pair_is_of_action plans a h p.0 p.1).by both p.2
     where
       go : (p : Pair) → ((a ≡ act_of Arrive p.send) × (is_paired (pairs plans h) p.recv ≡ false)) ⊎ ((a ≡ act_of Post p.recv) × (is_paired (pairs plans h) p.send ≡ false)) → (partner (pairs plans (a ∷ h)) p.send ≡ Some p.recv) × (partner (pairs plans (a ∷ h)) p.recv ≡ Some p.send) → ((p.send ≡ x) ⊎ (p.recv ≡ x)) → MayConcern x
       go p (inl (e, f)) both (inl s) = inl (sym s ∙ sym (ap (λ (b : Act). b.op) e))
@@ -140,7 +140,7 @@ module _ (plans : List Plan) (eager : OpId → Bool) (a : Act) (h : List Act) (n
   -- an action that a newly allows is one of an operation that it concerns
   pub newly_allowed : (c : Class) (x : OpId) → allowed plans eager (a ∷ h) c x ≡ true → (allowed plans eager h c x ≡ true) ⊎ MayConcern x
   newly_allowed c x e =
-      let before = happened_before c x a h (allowed_fresh plans eager (a ∷ h) c x e) in
+      let before = not_happened_before_newest c x a h (allowed_fresh plans eager (a ∷ h) c x e) in
       ⊎_elim (λ m. inl (allowed_from plans eager h c x before m)) (λ m. inr m) (newly_may c x (kind_at plans x) (allowed_may plans eager (a ∷ h) c x e))
 
 -- those of a list of needs that are not yet read

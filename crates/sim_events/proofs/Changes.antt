@@ -85,10 +85,10 @@ module _ (plans : List Plan) (h : List Timed) (a : Timed) where
   times_held_by_answer : (r : Station) (b : Bool) → holds_as r a (op_at plans a.op) ≡ b → times_held plans (a ∷ h) r ≡ cond b 1 0 + times_held plans h r
   times_held_by_answer r b e = times_held_after_action r ∙ ap (λ (c : Bool). cond c 1 0 + times_held plans h r) e
 
-  -- what waits for nothing holds nothing
-  holds_nothing : holds_cpu a.class ≡ false → (r : Station) (o : Option Op) → holds_as r a o ≡ false
-  holds_nothing w r None = refl
-  holds_nothing w r (Some o) =
+  -- an action that holds no cpu holds no resource
+  action_without_cpu_holds_nothing : holds_cpu a.class ≡ false → (r : Station) (o : Option Op) → holds_as r a o ≡ false
+  action_without_cpu_holds_nothing w r None = refl
+  action_without_cpu_holds_nothing w r (Some o) =
       ap (λ (b : Bool). b && (same_station (cpu_alone (station_of a.op o)) r || same_station (side_alone (station_of a.op o)) r)) w
 
   module _ (p : Op) (is_p : op_at plans a.op ≡ Some p) where
@@ -181,11 +181,11 @@ module _ (plans : List Plan) (costs : CostModel) (h : List Timed) (a : Timed) (q
       sides = λ i x o at is. held_number_after_action i x o at is true;
     }
 
-  -- what is held by an action that waits for nothing
-  held_at_once : holds_cpu a.class ≡ false → (holds : List ℕ) → AreHeld plans h queue holds → AreHeld plans (a ∷ h) queue holds
-  held_at_once w holds held = record {
-    cpus = λ i x o at is. omega (arith, held.cpus i x o at is, times_held_by_answer plans h a (cpu_alone (station_of x o)) false (holds_nothing plans h a w (cpu_alone (station_of x o)) (op_at plans a.op)));
-    sides = λ i x o at is. omega (arith, held.sides i x o at is, times_held_by_answer plans h a (side_alone (station_of x o)) false (holds_nothing plans h a w (side_alone (station_of x o)) (op_at plans a.op)));
+  -- an action that holds no cpu leaves the counts of holds unchanged
+  held_kept_by_action_without_cpu : holds_cpu a.class ≡ false → (holds : List ℕ) → AreHeld plans h queue holds → AreHeld plans (a ∷ h) queue holds
+  held_kept_by_action_without_cpu w holds held = record {
+    cpus = λ i x o at is. omega (arith, held.cpus i x o at is, times_held_by_answer plans h a (cpu_alone (station_of x o)) false (action_without_cpu_holds_nothing plans h a w (cpu_alone (station_of x o)) (op_at plans a.op)));
+    sides = λ i x o at is. omega (arith, held.sides i x o at is, times_held_by_answer plans h a (side_alone (station_of x o)) false (action_without_cpu_holds_nothing plans h a w (side_alone (station_of x o)) (op_at plans a.op)));
   }
 
   -- as an action has happened
@@ -210,7 +210,7 @@ module _ (plans : List Plan) (costs : CostModel) (h : List Timed) (a : Timed) (q
       at_once w = record {
         holds = changed.holds;
         returns = changed.returns;
-        held = held_in_equal_parts plans (a ∷ h) queue new changed.holds settled.stations settled.pairs (held_at_once w changed.holds changed.held);
+        held = held_in_equal_parts plans (a ∷ h) queue new changed.holds settled.stations settled.pairs (held_kept_by_action_without_cpu w changed.holds changed.held);
         returned = returned_in_equal_parts queue.pairs new.pairs queue.turned new.turned queue.free new.free changed.holds changed.returns settled.pairs settled.turned (settled.same_free w) changed.returned;
         counted = counted;
       }

@@ -198,41 +198,41 @@ module _ (plans : List Plan) (costs : CostModel) (a : Timed) (h : List Timed) wh
         go true (Recv n t u) nc ns = rx_stays ns
 
   -- what waits for nothing holds nothing
-  pub cpu_at_once : (x : OpId) → holds_cpu a.class ≡ false → cpu plans costs (a ∷ h) x ≡ cpu plans costs h x
+  pub cpu_kept_by_action_without_cpu : (x : OpId) → holds_cpu a.class ≡ false → cpu plans costs (a ∷ h) x ≡ cpu plans costs h x
   unfolding cpu
-  cpu_at_once x w = go a.class w
+  cpu_kept_by_action_without_cpu x w = go a.class w
     where
       go : (c : Class) → holds_cpu c ≡ false → max (cpu plans costs h x) (if holds_cpu c && same_place (λ (p : Op). p.cpu) x (op_at plans x) a.op (op_at plans a.op) then a.time + cpu_hold plans costs h c a.op (kind_at plans a.op) else 0) ≡ cpu plans costs h x
       go Arrive v = omega arith
       go Post v = omega arith
       go _ v = absurd (both_ways true v refl)
 
-  tx_at_once : (x : OpId) → holds_cpu a.class ≡ false → tx plans costs (a ∷ h) x ≡ tx plans costs h x
+  tx_kept_by_action_without_cpu : (x : OpId) → holds_cpu a.class ≡ false → tx plans costs (a ∷ h) x ≡ tx plans costs h x
   unfolding tx
-  tx_at_once x w = go a.class w
+  tx_kept_by_action_without_cpu x w = go a.class w
     where
       go : (c : Class) → holds_cpu c ≡ false → max (tx plans costs h x) (if holds_tx c (kind_at plans a.op) && same_place (λ (p : Op). p.nic) x (op_at plans x) a.op (op_at plans a.op) then a.time + tx_hold plans costs c a.op (kind_at plans a.op) else 0) ≡ tx plans costs h x
       go Arrive v = omega arith
       go Post v = omega arith
       go _ v = absurd (both_ways true v refl)
 
-  rx_at_once : (x : OpId) → holds_cpu a.class ≡ false → rx plans costs (a ∷ h) x ≡ rx plans costs h x
+  rx_kept_by_action_without_cpu : (x : OpId) → holds_cpu a.class ≡ false → rx plans costs (a ∷ h) x ≡ rx plans costs h x
   unfolding rx
-  rx_at_once x w = go a.class w
+  rx_kept_by_action_without_cpu x w = go a.class w
     where
       go : (c : Class) → holds_cpu c ≡ false → max (rx plans costs h x) (if holds_rx c && same_place (λ (p : Op). p.nic) x (op_at plans x) a.op (op_at plans a.op) then a.time + rx_hold plans costs h c a.op (kind_at plans a.op) else 0) ≡ rx plans costs h x
       go Arrive v = omega arith
       go Post v = omega arith
       go _ v = absurd (both_ways true v refl)
 
-  pub side_at_once : (x : OpId) → holds_cpu a.class ≡ false → side plans costs (a ∷ h) x ≡ side plans costs h x
-  side_at_once x w = go (kind_at plans x)
+  pub side_kept_by_action_without_cpu : (x : OpId) → holds_cpu a.class ≡ false → side plans costs (a ∷ h) x ≡ side plans costs h x
+  side_kept_by_action_without_cpu x w = go (kind_at plans x)
     where
       go : (k : Option Kind) → side_of plans costs (a ∷ h) x k ≡ side_of plans costs h x k
       go None = refl
-      go (Some (Calc n)) = cpu_at_once x w
-      go (Some (Send n t u)) = tx_at_once x w
-      go (Some (Recv n t u)) = rx_at_once x w
+      go (Some (Calc n)) = cpu_kept_by_action_without_cpu x w
+      go (Some (Send n t u)) = tx_kept_by_action_without_cpu x w
+      go (Some (Recv n t u)) = rx_kept_by_action_without_cpu x w
 
 -- what an operation waits for is free when both of its resources are
 pub free_is_later_of_both : (plans : List Plan) (costs : CostModel) (h : List Timed) (x : OpId) → (is_op : (k : Kind) × (kind_at plans x ≡ Some k)) → free plans costs h x ≡ max (cpu plans costs h x) (side plans costs h x)

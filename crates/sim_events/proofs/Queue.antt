@@ -16,7 +16,7 @@ use Rattle.goal_graph.specs.Action.{plain, plain_act}
 use Rattle.goal_graph.specs.Allowed.{allowed}
 use Rattle.goal_graph.specs.Fault.{IsOp}
 use Rattle.goal_graph.specs.Interleaving.{IsInterleaving}
-use Rattle.goal_graph.proofs.ForCallers.{cases_op, allowed_arrive, allowed_listed, allowed_stays, one_allowed, other_place, find_class, allowed_serve, listed_op, kind_from_op}
+use Rattle.goal_graph.proofs.ForCallers.{same_or_different_op, allowed_arrive, allowed_listed, allowed_stays, one_allowed, operations_at_two_places_differ, find_class, allowed_serve, listed_op, kind_from_op}
 use Rattle.sim_params.specs.Costs.{CostModel, is_eager}
 use Rattle.sim_params.specs.Times.{time, cpu, tx, rx, Possible}
 use Rattle.sim_params.specs.Run.{IsNext, IsRun, IsFinished}
@@ -29,7 +29,7 @@ use Rattle.sim_resources.specs.declared.pair.Pair.{Pair}
 use Rattle.sim_stations.specs.declared.key_place.KeyPlace.TheVariants.{Nowhere}
 use Rattle.sim_state.specs.Enabled.{IsIdle, IsEnabledActionOf}
 use Rattle.sim_state.specs.Free.{free, side, side_of}
-use Rattle.sim_state.proofs.ForCallers.{other_op, happened_this, listed_exists}
+use Rattle.sim_state.proofs.ForCallers.{newest_is_not_act_of_other_op, newest_action_has_happened, listed_exists}
 use Rattle.sim_resources.specs.Numbering.{AreStationed}
 use Rattle.sim_events.specs.Queue.{AreFree, IsOfSchedule, IsQueueBut, IsQueue, HasPossibleKeys, IsRefreshed, IsDueAfter}
 use Rattle.sim_events.proofs.Awaited.{IsConcerned, newly_allowed}
@@ -38,7 +38,7 @@ use Rattle.sim_state.specs.Tasks.{IsLast}
 use Rattle.sim_events.proofs.Keys.{less_is_event_before}
 use Rattle.sim_events.proofs.Stays.{time_after, free_before_possible}
 use Rattle.sim_events.proofs.FreeAfter.{free_is_later_of_both}
-use Rattle.sim_events.proofs.Held.{free_times_after_hold, free_at_once}
+use Rattle.sim_events.proofs.Held.{free_times_after_hold, free_kept_by_action_without_cpu}
 
 -- a slot that has no key
 pub not_some_is_none : (k : Option Timed) → is_some k ≡ false → k ≡ None
@@ -74,7 +74,7 @@ module _ (plans : List Plan) (costs : CostModel) where
     other_stays_allowed : (c : Class) (x : OpId) → ¬ (x ≡ a.op) → allowed plans (is_eager plans costs) (plain h) c x ≡ true → allowed plans (is_eager plans costs) (plain (a ∷ h)) c x ≡ true
     unfolding plain
     other_stays_allowed c x d e =
-        elim (cases_op a.op x) [ inl s ↦ absurd (d (sym s)) | inr o ↦ allowed_stays plans (is_eager plans costs) (plain_act a) (plain h) c x (other_op plans costs h a c x o) e ]
+        elim (same_or_different_op a.op x) [ inl s ↦ absurd (d (sym s)) | inr o ↦ allowed_stays plans (is_eager plans costs) (plain_act a) (plain h) c x (newest_is_not_act_of_other_op plans costs h a c x o) e ]
 
     -- its operation is done, where it is the last of that
     last_action_ends_own_op : (c : Class) (x : OpId) → x ≡ a.op → allowed plans (is_eager plans costs) (plain (a ∷ h)) c x ≡ true → IsLast plans costs a → ⊥
@@ -86,11 +86,11 @@ module _ (plans : List Plan) (costs : CostModel) where
 
         go : IsLast plans costs a → allowed plans (is_eager plans costs) (plain (a ∷ h)) c a.op ≡ true → ⊥
         go (inl (is, calc)) may =
-            begun_calc_is_done plans (is_eager plans costs) (plain (a ∷ h)) a.op calc (happened_this plans costs h a Begin is) c may
+            begun_calc_is_done plans (is_eager plans costs) (plain (a ∷ h)) a.op calc (newest_action_has_happened plans costs h a Begin is) c may
         go (inr (inl (is, whole))) may =
-            arrived_is_done plans (is_eager plans costs) (plain (a ∷ h)) a.op interleaving (allowed_arrive plans (is_eager plans costs) (plain h) a.op (was Arrive is)).0 whole (happened_this plans costs h a Arrive is) c may
+            arrived_is_done plans (is_eager plans costs) (plain (a ∷ h)) a.op interleaving (allowed_arrive plans (is_eager plans costs) (plain h) a.op (was Arrive is)).0 whole (newest_action_has_happened plans costs h a Arrive is) c may
         go (inr (inr is)) may =
-            received_is_done plans (is_eager plans costs) (plain (a ∷ h)) a.op interleaving (allowed_serve plans (is_eager plans costs) (plain h) a.op (was Serve is)).0 (happened_this plans costs h a Serve is) c may
+            received_is_done plans (is_eager plans costs) (plain (a ∷ h)) a.op interleaving (allowed_serve plans (is_eager plans costs) (plain h) a.op (was Serve is)).0 (newest_action_has_happened plans costs h a Serve is) c may
 
     -- what it concerns is due, but a send whose message is taken, which is done
     concerned_is_due : (c : Class) (x : OpId) → allowed plans (is_eager plans costs) (plain (a ∷ h)) c x ≡ true → IsConcerned plans (plain (a ∷ h)) (plain_act a) x → IsDueAfter plans costs (a ∷ h) a x
@@ -101,7 +101,7 @@ module _ (plans : List Plan) (costs : CostModel) where
         taken : a.class ≡ Serve → ⊥
         taken e =
             let serves : allowed plans (is_eager plans costs) (plain h) Serve a.op ≡ true = subst (λ (d : Class). allowed plans (is_eager plans costs) (plain h) d a.op ≡ true) e possible.allowed in
-            served_is_done plans (is_eager plans costs) (plain (a ∷ h)) a.op x interleaving (allowed_serve plans (is_eager plans costs) (plain h) a.op serves).0 (happened_this plans costs h a Serve e) p c t
+            served_is_done plans (is_eager plans costs) (plain (a ∷ h)) a.op x interleaving (allowed_serve plans (is_eager plans costs) (plain h) a.op serves).0 (newest_action_has_happened plans costs h a Serve e) p c t
 
     -- an idle operation stays so, or it is due
     idle_stays : (x : OpId) → IsIdle plans costs h x → IsIdle plans costs (a ∷ h) x ⊎ IsDueAfter plans costs (a ∷ h) a x
@@ -148,7 +148,7 @@ module _ (plans : List Plan) (costs : CostModel) where
         raised i x e (Some k) d at was is =
             let own = q.possible i x k at was in
             let same : at_time (time_then (free plans costs (a ∷ h) x) k) k ≡ e = same_Some _ e is in
-            subst (λ (b : Timed). (b.op ≡ x) × Possible plans costs (a ∷ h) b) same (own.0, possible_once_room_is_free x k (free plans costs (a ∷ h) x) (other_place plans i slot x a.op at here d) own.0 own.1 refl)
+            subst (λ (b : Timed). (b.op ≡ x) × Possible plans costs (a ∷ h) b) same (own.0, possible_once_room_is_free x k (free plans costs (a ∷ h) x) (operations_at_two_places_differ plans i slot x a.op at here d) own.0 own.1 refl)
 
         is_possible : (i : ℕ) (x : OpId) (e : Timed) → slice_get (operations plans) i ≡ Some x → key_at new.keys i ≡ Some e → (i ≡ slot) ⊎ (i ≢ slot) → (e.op ≡ x) × Possible plans costs (a ∷ h) e
         is_possible i x e at has (inl s) =
@@ -183,7 +183,7 @@ module _ (plans : List Plan) (costs : CostModel) where
         numbered = subst (λ (ps : List Pair). AreStationed plans new.stations ps) (sym pairs) (subst (λ (ns : List ℕ). AreStationed plans ns old.pairs) (sym stations) q.of_it.stationed)
 
         known : AreFree plans costs (a ∷ h) new
-        known = free_at_once plans costs h a old new w q.of_it.free stations pairs same
+        known = free_kept_by_action_without_cpu plans costs h a old new w q.of_it.free stations pairs same
 
         unmoved : (i : ℕ) (x : OpId) → slice_get (operations plans) i ≡ Some x → free plans costs (a ∷ h) x ≡ free plans costs h x
         unmoved i x at =
@@ -261,7 +261,7 @@ module _ (plans : List Plan) (costs : CostModel) where
         idle : (i : ℕ) (y : OpId) → slice_get (operations plans) i ≡ Some y → key_at (set old.keys r.slot r.key) i ≡ None → (i ≡ r.slot) ⊎ (i ≢ r.slot) → IsIdle plans costs h y ⊎ Later y
         idle i y at none (inl s) = inl (subst (λ (k : Option Timed). IsEnabledActionOf plans costs h y k) none (here i y at s))
         idle i y at none (inr d) =
-            elim (q.idle i y at (sym (get_or-set_other old.keys r.slot i r.key None d) ∙ none)) [ inl is ↦ inl is | inr due ↦ inr (still y (listed_exists plans i y at) due (other_place plans i r.slot y x at r.is_slot d)) ]
+            elim (q.idle i y at (sym (get_or-set_other old.keys r.slot i r.key None d) ∙ none)) [ inl is ↦ inl is | inr due ↦ inr (still y (listed_exists plans i y at) due (operations_at_two_places_differ plans i r.slot y x at r.is_slot d)) ]
 
     -- fewer are due
     pub fewer_due : (Due Later : OpId → Type 0) (queue : Stationed) → IsQueueBut plans costs h Due queue → ((y : OpId) → IsOp plans y → Due y → Later y) → IsQueueBut plans costs h Later queue

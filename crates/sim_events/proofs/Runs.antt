@@ -10,7 +10,7 @@ use Rattle.sim_state.specs.Engine.{RunSoFar}
 use Rattle.sim_events.specs.Pending.{IsStepped}
 
 module _ {C : Type 0} (model : C → CostModel) (old new : RunSoFar C) where
-  -- a step changes the history alone
+  -- a step changes only the history
   pub stepped_plans : (r : Option Timed) → IsStepped model old new r → new.plans ≡ old.plans
   stepped_plans None s = ap (λ (v : RunSoFar C). v.plans) s.1
   stepped_plans (Some a) s = ap (λ (v : RunSoFar C). v.plans) s.1
@@ -37,7 +37,7 @@ module _ {C : Type 0} (model : C → CostModel) (old new : RunSoFar C) where
   empty_step_is_finished (Some a) t s = absurd (cc)
   empty_step_is_finished None t s = subst (λ (v : RunSoFar C). IsFinished v.plans (model v.costs) v.history) (sym s.1) s.0
 
--- an answer that is none is no action
+-- a step that returns None counts no action
 pub no_action_counts_zero : (r : Option Timed) → is_some r ≡ false → count_of r ≡ 0
 no_action_counts_zero None t = refl
 no_action_counts_zero (Some a) t = absurd (cc)

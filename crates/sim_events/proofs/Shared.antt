@@ -25,7 +25,7 @@ use Rattle.sim_events.specs.Cost.{station_by, station_of, station_as, cpu_alone,
 use Rattle.sim_events.specs.Laws.{HasOneCpu, HasOneNic, IsOneWide, MovesAreFew, RunsAreCheap}
 use Rattle.sim_events.proofs.Changes.{listed_station_is_of_op}
 
--- no station stands twice
+-- each station is listed once
 with_station_stays_once : (stations : List Station) (s : Station) → AreOnce stations → AreOnce (with_station stations s)
 with_station_stays_once stations s once i j t = go (list_any (same_station s) stations) refl
   where
@@ -373,19 +373,19 @@ module _ (plans : List Plan) (wide : IsOneWide plans) where
   moves_at_most_twice_charged h (x ∷ xs) =
       omega (arith, moves_at_most_twice_charged h xs, lesser_times_at_most_charged plans wide h x, sum_by-cons (λ s. 1 + 2 * min (times_held plans h (cpu_alone s)) (times_held plans h (side_alone s))) x xs, sum_by-cons (λ s. times_held plans h (charged plans wide s)) x xs)
 
-  few_moves : (h : List Timed) → most_moves plans h ≤ length (operations plans) + 6 * length h
-  few_moves h =
+  most_moves_is_linear_in_actions : (h : List Timed) → most_moves plans h ≤ length (operations plans) + 6 * length h
+  most_moves_is_linear_in_actions h =
       omega (arith, moves_at_most_twice_charged h (stations_among plans (operations plans)), charges_at_most_three_per_action h, fold_adds_one_per_op_at_most plans (operations plans) [])
 
-  cheap_run : (costs : CostModel) (h : List Timed) (k : ℕ) → IsRun plans costs h → cost_of_start k plans + cost_of_run k plans h ≤ length (operations plans) * (216 * k + 388) + 3
-  cheap_run costs h k run =
-      let moves : most_moves plans h * (8 * k + 15) ≤ (length (operations plans) + 6 * length h) * (8 * k + 15) = mul-le-mul_right (8 * k + 15) (few_moves h) in
+  run_cost_is_linear_in_operations : (costs : CostModel) (h : List Timed) (k : ℕ) → IsRun plans costs h → cost_of_start k plans + cost_of_run k plans h ≤ length (operations plans) * (216 * k + 388) + 3
+  run_cost_is_linear_in_operations costs h k run =
+      let moves : most_moves plans h * (8 * k + 15) ≤ (length (operations plans) + 6 * length h) * (8 * k + 15) = mul-le-mul_right (8 * k + 15) (most_moves_is_linear_in_actions h) in
       let few : length h ≤ 3 * length (operations plans) = omega (arith, run_length plans costs h run) in
       let actions : length h * (66 * k + 119) ≤ 3 * length (operations plans) * (66 * k + 119) = mul-le-mul_right (66 * k + 119) few in
       omega (arith, moves, actions)
 
 pub moves_are_few : MovesAreFew
-moves_are_few plans h wide = few_moves plans wide h
+moves_are_few plans h wide = most_moves_is_linear_in_actions plans wide h
 
 pub runs_are_cheap : RunsAreCheap
-runs_are_cheap plans costs h k wide run = cheap_run plans wide costs h k run
+runs_are_cheap plans costs h k wide run = run_cost_is_linear_in_operations plans wide costs h k run

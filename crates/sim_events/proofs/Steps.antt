@@ -30,22 +30,22 @@ module _ {C : Type 0} (model : C → CostModel) where
   abbrev pub NextAt : RunSoFar C → Timed → Type 0
   NextAt v a = IsNext v.plans (model v.costs) v.history a
 
-  -- after an action those are due that it concerns
-  pub due_after : (old new : RunSoFar C) (a : Timed) (queued settled : Stationed) (slot : ℕ) → new ≡ record { plans = old.plans; costs = old.costs; history = a ∷ old.history } → RunAt old → NextAt old a → QueueAt old queued → slice_get (operations old.plans) slot ≡ Some a.op → IsSettledBy (cpu new.plans (model new.costs) new.history a.op) (side new.plans (model new.costs) new.history a.op) slot a queued settled → IsQueueBut new.plans (model new.costs) new.history (IsDueAfter new.plans (model new.costs) new.history a) settled
-  due_after old new a queued settled slot e run next q here by =
+  -- after an action, the operations that it concerns are due
+  pub concerned_are_due_after_action : (old new : RunSoFar C) (a : Timed) (queued settled : Stationed) (slot : ℕ) → new ≡ record { plans = old.plans; costs = old.costs; history = a ∷ old.history } → RunAt old → NextAt old a → QueueAt old queued → slice_get (operations old.plans) slot ≡ Some a.op → IsSettledBy (cpu new.plans (model new.costs) new.history a.op) (side new.plans (model new.costs) new.history a.op) slot a queued settled → IsQueueBut new.plans (model new.costs) new.history (IsDueAfter new.plans (model new.costs) new.history a) settled
+  concerned_are_due_after_action old new a queued settled slot e run next q here by =
       let then : RunSoFar C = record { plans = old.plans; costs = old.costs; history = a ∷ old.history } in
       let by_then : IsSettledBy (cpu old.plans (model old.costs) (a ∷ old.history) a.op) (side old.plans (model old.costs) (a ∷ old.history) a.op) slot a queued settled = subst (λ (v : RunSoFar C). IsSettledBy (cpu v.plans (model v.costs) v.history a.op) (side v.plans (model v.costs) v.history a.op) slot a queued settled) e by in
       subst (λ (v : RunSoFar C). IsQueueBut v.plans (model v.costs) v.history (IsDueAfter v.plans (model v.costs) v.history a) settled) (sym e) (due_after_settled old.plans (model old.costs) old.history a run next.possible queued settled slot q here by_then)
 
   -- what it holds is free later
-  pub later_after : (old new : RunSoFar C) (a : Timed) (queued : Stationed) (slot : ℕ) → new ≡ record { plans = old.plans; costs = old.costs; history = a ∷ old.history } → NextAt old a → QueueAt old queued → slice_get (operations old.plans) slot ≡ Some a.op → IsLater queued.free (pair_of queued slot) (cpu new.plans (model new.costs) new.history a.op) (side new.plans (model new.costs) new.history a.op)
-  later_after old new a queued slot e next q here =
+  pub held_resources_later_after_action : (old new : RunSoFar C) (a : Timed) (queued : Stationed) (slot : ℕ) → new ≡ record { plans = old.plans; costs = old.costs; history = a ∷ old.history } → NextAt old a → QueueAt old queued → slice_get (operations old.plans) slot ≡ Some a.op → IsLater queued.free (pair_of queued slot) (cpu new.plans (model new.costs) new.history a.op) (side new.plans (model new.costs) new.history a.op)
+  held_resources_later_after_action old new a queued slot e next q here =
       let o = listed_op_exists old.plans (model old.costs) slot a.op here in
       subst (λ (v : RunSoFar C). IsLater queued.free (pair_of queued slot) (cpu v.plans (model v.costs) v.history a.op) (side v.plans (model v.costs) v.history a.op)) (sym e) (held_times_are_later old.plans (model old.costs) old.history a next.possible queued q.of_it slot here o.0 o.1 _ _ refl refl)
 
-  -- how often stations have changed their places stays
-  pub changed_after : (old new : RunSoFar C) (a : Timed) (queued settled : Stationed) (slot : ℕ) → new ≡ record { plans = old.plans; costs = old.costs; history = a ∷ old.history } → QueueAt old queued → slice_get (operations old.plans) slot ≡ Some a.op → IsSettledBy (cpu new.plans (model new.costs) new.history a.op) (side new.plans (model new.costs) new.history a.op) slot a queued settled → (all : ℕ) → HaveChanged old.plans old.history queued all → HaveChanged new.plans new.history settled all
-  changed_after old new a queued settled slot e q here by all changed =
+  -- the count of the changes of stations is kept
+  pub changes_of_run_after_action : (old new : RunSoFar C) (a : Timed) (queued settled : Stationed) (slot : ℕ) → new ≡ record { plans = old.plans; costs = old.costs; history = a ∷ old.history } → QueueAt old queued → slice_get (operations old.plans) slot ≡ Some a.op → IsSettledBy (cpu new.plans (model new.costs) new.history a.op) (side new.plans (model new.costs) new.history a.op) slot a queued settled → (all : ℕ) → HaveChanged old.plans old.history queued all → HaveChanged new.plans new.history settled all
+  changes_of_run_after_action old new a queued settled slot e q here by all changed =
       subst (λ (v : RunSoFar C). HaveChanged v.plans v.history settled all) (sym e) (changed_after_action old.plans (model old.costs) old.history a queued q.of_it slot here _ _ settled by all changed)
 
   -- with one more action a look is counted at the needs whose moment it may give
@@ -54,15 +54,15 @@ module _ {C : Type 0} (model : C → CostModel) where
       subst (λ (v : RunSoFar C). reads_of_run v.plans v.history ≡ given_by old.plans a + reads_of_run old.plans old.history) (sym e) (sum_by-cons (given_by old.plans) a old.history)
 
   -- an action changes no plans
-  pub plans_after : (old new : RunSoFar C) (a : Timed) → new ≡ record { plans = old.plans; costs = old.costs; history = a ∷ old.history } → old.plans ≡ new.plans
-  plans_after old new a e = sym (ap (λ (v : RunSoFar C). v.plans) e)
+  pub plans_kept_by_action : (old new : RunSoFar C) (a : Timed) → new ≡ record { plans = old.plans; costs = old.costs; history = a ∷ old.history } → old.plans ≡ new.plans
+  plans_kept_by_action old new a e = sym (ap (λ (v : RunSoFar C). v.plans) e)
 
   -- what happens next is an action of an operation
   pub next_is_of_an_op : (state : RunSoFar C) (a : Timed) → NextAt state a → IsOp state.plans a.op
   next_is_of_an_op state a next = possible_exists state.plans (model state.costs) state.history a next.possible
 
-  pub op_after : (old new : RunSoFar C) (a : Timed) → new ≡ record { plans = old.plans; costs = old.costs; history = a ∷ old.history } → NextAt old a → IsOp new.plans a.op
-  op_after old new a e next =
+  pub op_exists_after_action : (old new : RunSoFar C) (a : Timed) → new ≡ record { plans = old.plans; costs = old.costs; history = a ∷ old.history } → NextAt old a → IsOp new.plans a.op
+  op_exists_after_action old new a e next =
       subst (λ (ps : List Plan). IsOp ps a.op) (sym (ap (λ (v : RunSoFar C). v.plans) e)) (next_is_of_an_op old a next)
 
   -- nothing is possible exactly where no operation has a key

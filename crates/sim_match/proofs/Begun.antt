@@ -19,21 +19,21 @@ use Rattle.sim_match.specs.Matcher.{PatternLists, side_by_side, IsMatchList, rec
 use Rattle.sim_match.proofs.Entries.{entries_none}
 use Rattle.sim_match.proofs.Marks.{no_marks}
 use Rattle.sim_match.proofs.Unmet.{unmet_none}
-use Rattle.sim_match.proofs.Sides.{sides_map}
+use Rattle.sim_match.proofs.Sides.{side_by_side_map}
 
-all_of_taken_none : {X : Type 0} (P : X → Type 0) (n : ℕ) → All P (take n [])
-all_of_taken_none P zero = All-nil P
-all_of_taken_none P (suc n) = All-nil P
+all_of_take_of_empty : {X : Type 0} (P : X → Type 0) (n : ℕ) → All P (take n [])
+all_of_take_of_empty P zero = All-nil P
+all_of_take_of_empty P (suc n) = All-nil P
 
-none_paired : (plans : List Plan) (x : OpId) → is_paired (pairs plans []) x ≡ false
+none_paired_before_actions : (plans : List Plan) (x : OpId) → is_paired (pairs plans []) x ≡ false
 unfolding pairs partner
-none_paired plans x = refl
+none_paired_before_actions plans x = refl
 
-begun_match_list : (es : List MatchEntry) (paired : OpId → Bool) (count room : ℕ) → es ≡ [] → count ≤ room → IsMatchList es paired count (record { entries = []; head = 0; room = room })
-begun_match_list es paired count room none roomy = record {
+match_list_without_entries : (es : List MatchEntry) (paired : OpId → Bool) (count room : ℕ) → es ≡ [] → count ≤ room → IsMatchList es paired count (record { entries = []; head = 0; room = room })
+match_list_without_entries es paired count room none roomy = record {
   entries = sym none;
   within = omega arith;
-  skipped = subst (λ (xs : List MatchEntry). All (λ (e : MatchEntry). paired e.op ≡ true) (take 0 xs)) (sym none) (all_of_taken_none (λ (e : MatchEntry). paired e.op ≡ true) 0);
+  skipped = subst (λ (xs : List MatchEntry). All (λ (e : MatchEntry). paired e.op ≡ true) (take 0 xs)) (sym none) (all_of_take_of_empty (λ (e : MatchEntry). paired e.op ≡ true) 0);
   room = roomy;
 }
 
@@ -42,13 +42,13 @@ empty_lists c = record { receives = empty_list Receives c; sends = empty_list Se
 
 -- what a new match table keeps
 pub new_table_mirrors : (plans : List Plan) (keys : List Pattern) (capacities : List Capacity) (marks : List Bool) → IsAccepted plans → AreListed plans keys → AreCapacities plans keys (operations plans) capacities → marks ≡ replicate (length (operations plans)) false → Mirrors plans keys (side_by_side (map (empty_list Receives) capacities) (map (empty_list Sends) capacities)) marks []
-new_table_mirrors plans keys capacities marks accepted listed counted unmarked = subst (λ (ws : List PatternLists). Mirrors plans keys ws marks []) (sym (sides_map (empty_list Receives) (empty_list Sends) capacities)) (record {
+new_table_mirrors plans keys capacities marks accepted listed counted unmarked = subst (λ (ws : List PatternLists). Mirrors plans keys ws marks []) (sym (side_by_side_map (empty_list Receives) (empty_list Sends) capacities)) (record {
   accepted = accepted;
   actions = tt;
   listed = listed;
   one_each = length-map capacities empty_lists ∙ counted.one_each;
   each = λ list w e. let at = source capacities list w e in subst (AreLists plans keys (is_paired (pairs plans [])) list (receives_of plans keys [] list) (sends_of plans keys [] list)) at.2 (begun list at.0 (counted.each list at.0 at.1));
-  marked = λ x. ap (λ (bs : List Bool). is_marked (operations plans) bs x) unmarked ∙ no_marks (operations plans) (length (operations plans)) x ∙ sym (none_paired plans x);
+  marked = λ x. ap (λ (bs : List Bool). is_marked (operations plans) bs x) unmarked ∙ no_marks (operations plans) (length (operations plans)) x ∙ sym (none_paired_before_actions plans x);
   all_marks = let long = ap length unmarked ∙ length-replicate (length (operations plans)) false in omega (arith, long);
 })
   where
@@ -59,6 +59,6 @@ new_table_mirrors plans keys capacities marks accepted listed counted unmarked =
 
     begun : (list : ℕ) (c : Capacity) → IsCapacity plans keys (operations plans) list c → AreLists plans keys (is_paired (pairs plans [])) list (receives_of plans keys [] list) (sends_of plans keys [] list) (empty_lists c)
     begun list c is = record {
-      receives = begun_match_list _ _ _ c.receives (ap (filter (λ (e : MatchEntry). in_list plans keys list e.op)) (entries_none Post)) (omega (arith, is.receives));
-      sends = begun_match_list _ _ _ c.sends (ap (filter (λ (e : MatchEntry). for_list plans keys list e.op)) (unmet_none plans)) (omega (arith, is.sends));
+      receives = match_list_without_entries _ _ _ c.receives (ap (filter (λ (e : MatchEntry). in_list plans keys list e.op)) (entries_none Post)) (omega (arith, is.receives));
+      sends = match_list_without_entries _ _ _ c.sends (ap (filter (λ (e : MatchEntry). for_list plans keys list e.op)) (unmet_none plans)) (omega (arith, is.sends));
     }

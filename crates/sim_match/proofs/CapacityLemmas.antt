@@ -21,14 +21,14 @@ use Rattle.goal_graph.proofs.ForCallers.{kind_of_found_op}
 abbrev one_if : Bool → ℕ
 one_if b = cond b 1 0
 
-plus_no_count : (n : ℕ) → n ≡ n + cond false 1 0
-plus_no_count n = omega arith
+plus_one_if_false : (n : ℕ) → n ≡ n + cond false 1 0
+plus_one_if_false n = omega arith
 
 -- a send is counted in the first k of its lists
-pub counted_none : (capacities : List Capacity) → AreCounted [] capacities capacities
-counted_none capacities = record {
+pub counted_for_no_numbers : (capacities : List Capacity) → AreCounted [] capacities capacities
+counted_for_no_numbers capacities = record {
   one_each = refl;
-  each = λ l capacity e. record { before = capacity; was = e; receives = refl; sends = plus_no_count capacity.sends };
+  each = λ l capacity e. record { before = capacity; was = e; receives = refl; sends = plus_one_if_false capacity.sends };
 }
 
 module _ (numbers : List (Option ℕ)) (old now : List Capacity) (k : ℕ) (d : Option ℕ) (inside : k < length numbers) (c : AreCounted (take k numbers) old now) where
@@ -47,9 +47,9 @@ module _ (numbers : List (Option ℕ)) (old now : List Capacity) (k : ℕ) (d : 
     sends = is.sends ∙ ap (λ (b : Bool). is.before.sends + (if b then 1 else 0)) (sym (list_any_next_number (same_number (Some l)) ∙ ap (λ (b : Bool). list_any (same_number (Some l)) (take k numbers) || b) other ∙ or_false (list_any (same_number (Some l)) (take k numbers))));
   }
 
-  -- no list
-  pub counted_without : get_or numbers k d ≡ None → AreCounted (take (k + 1) numbers) old now
-  counted_without absent = record {
+  -- number k is `None`: it counts the send in no list
+  pub counted_unchanged_by_no_number : get_or numbers k d ≡ None → AreCounted (take (k + 1) numbers) old now
+  counted_unchanged_by_no_number absent = record {
     one_each = c.one_each;
     each = λ l capacity e. unlisted_stays_counted l capacity (ap (same_number (Some l)) absent) (c.each l capacity e);
   }
@@ -153,8 +153,8 @@ module _ (plans : List Plan) (keys : List Pattern) (ops : List OpId) (i : ℕ) (
       capacities_after_receive = record {
         one_each = length-set capacities list (record capacity { receives = capacity.receives + 1 }) ∙ before.one_each;
         each = λ l u f. elim (cases_eq l list) [
-          | inl same ↦ subst (λ (n : ℕ). IsCapacity plans keys (take (i + 1) ops) n u) (sym same) (subst (IsCapacity plans keys (take (i + 1) ops) list) (slice_get_written capacities list (record capacity { receives = capacity.receives + 1 }) u (subst (λ (n : ℕ). slice_get (slice_set capacities list (record capacity { receives = capacity.receives + 1 })) n ≡ Some u) same f)) (capacity_after_op list capacity (record capacity { receives = capacity.receives + 1 }) capacity_before true false in_own_list (receive_for_no_list list) refl (plus_no_count capacity.sends)))
-          | inr n ↦ capacity_after_op l u u (before.each l u (sym (slice_get_elsewhere capacities list l (record capacity { receives = capacity.receives + 1 }) n) ∙ f)) false false (in_no_other_list l n) (receive_for_no_list l) (plus_no_count u.receives) (plus_no_count u.sends)
+          | inl same ↦ subst (λ (n : ℕ). IsCapacity plans keys (take (i + 1) ops) n u) (sym same) (subst (IsCapacity plans keys (take (i + 1) ops) list) (slice_get_written capacities list (record capacity { receives = capacity.receives + 1 }) u (subst (λ (n : ℕ). slice_get (slice_set capacities list (record capacity { receives = capacity.receives + 1 })) n ≡ Some u) same f)) (capacity_after_op list capacity (record capacity { receives = capacity.receives + 1 }) capacity_before true false in_own_list (receive_for_no_list list) refl (plus_one_if_false capacity.sends)))
+          | inr n ↦ capacity_after_op l u u (before.each l u (sym (slice_get_elsewhere capacities list l (record capacity { receives = capacity.receives + 1 }) n) ∙ f)) false false (in_no_other_list l n) (receive_for_no_list l) (plus_one_if_false u.receives) (plus_one_if_false u.sends)
         ];
       }
 
@@ -179,7 +179,7 @@ module _ (plans : List Plan) (keys : List Pattern) (ops : List OpId) (i : ℕ) (
     pub capacities_after_send : (new : List Capacity) → AreCounted (numbers_for keys (get_or ops i d) (Some (Send bytes to tag))) capacities new → AreCapacities plans keys (take (i + 1) ops) new
     capacities_after_send new c = record {
       one_each = c.one_each ∙ before.one_each;
-      each = λ l u f. let was = c.each l u f in capacity_after_op l was.before u (before.each l was.before was.was) false (list_any (same_number (Some l)) (numbers_for keys op_read (Some (Send bytes to tag)))) (send_in_no_list l) (send_for_list l) (was.receives ∙ plus_no_count was.before.receives) was.sends;
+      each = λ l u f. let was = c.each l u f in capacity_after_op l was.before u (before.each l was.before was.was) false (list_any (same_number (Some l)) (numbers_for keys op_read (Some (Send bytes to tag)))) (send_in_no_list l) (send_for_list l) (was.receives ∙ plus_one_if_false was.before.receives) was.sends;
     }
 
   -- a calc
@@ -195,5 +195,5 @@ module _ (plans : List Plan) (keys : List Pattern) (ops : List OpId) (i : ℕ) (
     pub capacities_after_calc : AreCapacities plans keys (take (i + 1) ops) capacities
     capacities_after_calc = record {
       one_each = before.one_each;
-      each = λ l u f. capacity_after_op l u u (before.each l u f) false false (calc_in_no_list l) (calc_for_no_list l) (plus_no_count u.receives) (plus_no_count u.sends);
+      each = λ l u f. capacity_after_op l u u (before.each l u f) false false (calc_in_no_list l) (calc_for_no_list l) (plus_one_if_false u.receives) (plus_one_if_false u.sends);
     }

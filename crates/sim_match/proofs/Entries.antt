@@ -17,7 +17,7 @@ use Rattle.sim_match.specs.declared.match_list.MatchEntry.{MatchEntry}
 use Rattle.sim_match.specs.MatchLists.{entries_of}
 use Rattle.sim_match.specs.Waiting.{ops_of}
 use Rattle.sim_match.specs.Matcher.{ArePostsAndArrivals}
-use Rattle.sim_match.proofs.Ops.{oldest_found, ops_happened, action_suits, suited_receive, suited_send, ops_fewer}
+use Rattle.sim_match.proofs.Ops.{oldest_found, ops_happened, action_suits, suited_receive, suited_send, past_ops_leave_room_for_new_op}
 use Rattle.sim_match.proofs.Finding.{find_map, InOrder}
 use Rattle.goal_graph.proofs.ForCallers.{op_of_kind}
 
@@ -104,8 +104,8 @@ module _ (plans : List Plan) (h : List Act) (i : ArePostsAndArrivals plans h) wh
   arrived_exist = All-weaker (λ (e : MatchEntry). IsSend plans e.op) (λ (e : MatchEntry). IsOp plans e.op) (λ e s. op_of_kind plans e.op _ s.kind) (entries_of Arrive h) arrived_sends
 
   -- an operation that is still to come finds room
-  pub entries_fewer : (test : OpId → Bool) (class : Class) (x : OpId) → has_class (kind_at plans x) class ≡ true → happened class x h ≡ false → test x ≡ true → length (filter (λ (e : MatchEntry). test e.op) (entries_of class h)) < count_by test (operations plans)
-  entries_fewer test class x suited fresh pass =
-      let fewer = ops_fewer plans test class h x i suited fresh pass in
+  pub entries_leave_room_for_new_op : (test : OpId → Bool) (class : Class) (x : OpId) → has_class (kind_at plans x) class ≡ true → happened class x h ≡ false → test x ≡ true → length (filter (λ (e : MatchEntry). test e.op) (entries_of class h)) < count_by test (operations plans)
+  entries_leave_room_for_new_op test class x suited fresh pass =
+      let fewer = past_ops_leave_room_for_new_op plans test class h x i suited fresh pass in
       let same = sym (length_map_filter (λ (e : MatchEntry). e.op) test (entries_of class h)) ∙ length-filter test (map (λ (e : MatchEntry). e.op) (entries_of class h)) ∙ ap (λ (xs : List OpId). count_by test xs) (entries_ops class h) in
       omega (arith, fewer, same)

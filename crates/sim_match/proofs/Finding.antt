@@ -5,7 +5,7 @@ use Rattle.std.proofs.lemmas.Bool.{cond-true, cond-false, lt-ltb, le-ltb}
 use Rattle.std.proofs.lemmas.List.Elements.{All-head, All-tail, filter-append}
 use Rattle.sim_match.specs.declared.match_list.MatchEntry.{MatchEntry}
 use Rattle.sim_match.specs.MatchLists.{earlier}
-use Rattle.goal_graph.proofs.ForCallers.{find_all}
+use Rattle.goal_graph.proofs.ForCallers.{found_item_has_property}
 
 module _ {X : Type 0} (p : X → Bool) where
   pub find_at_place : (xs : List X) (i : ℕ) (d : X) → i < length xs → p (get_or xs i d) ≡ true → ((k : ℕ) → k < i → p (get_or xs k d) ≡ false) → find p xs ≡ Some (get_or xs i d)
@@ -25,7 +25,7 @@ find_by_equal_tests p q [] agree = refl
 find_by_equal_tests {X} p q (y ∷ ys) agree =
     ap (λ (b : Bool). cond b (Some y) (find p ys)) (All-head (λ x. p x ≡ q x) y ys agree) ∙ ap (λ (o : Option X). cond (q y) (Some y) o) (find_by_equal_tests p q ys (All-tail (λ x. p x ≡ q x) y ys agree))
 
--- what is found among those that pass another test
+-- finding in a filtered list is finding with both tests
 pub find_filter : {X : Type 0} (f g : X → Bool) (xs : List X) → find g (filter f xs) ≡ find (λ x. g x && f x) xs
 find_filter f g [] = refl
 find_filter {X} f g (x ∷ xs) = go (f x) (g x) refl (find_filter f g xs)
@@ -36,7 +36,7 @@ find_filter {X} f g (x ∷ xs) = go (f x) (g x) refl (find_filter f g xs)
     go false true e rest = rest
     go false false e rest = rest
 
--- what is found in a mapped list
+-- finding in a mapped list is finding by the composed test
 pub find_map : {X Y : Type 0} (f : X → Y) (p : Y → Bool) (xs : List X) → find p (map f xs) ≡ option_map f (find (λ x. p (f x)) xs)
 find_map f p [] = refl
 find_map {X} {Y} f p (x ∷ xs) = go (p (f x)) (find_map f p xs)
@@ -87,6 +87,6 @@ find_either p q (e ∷ es) order = go (p e) (q e) (find_either p q es (order_tai
 
     go : (s t : Bool) → find (λ (e : MatchEntry). p e || q e) es ≡ earlier (find p es) (find q es) → cond (s || t) (Some e) (find (λ (e : MatchEntry). p e || q e) es) ≡ earlier (cond s (Some e) (find p es)) (cond t (Some e) (find q es))
     go true true rest = sym (earlier_itself e)
-    go true false rest = here_first (find q es) (λ z f. find_all (λ (f : MatchEntry). e.at < f.at) q es z (order_head e es order) f)
-    go false true rest = here_second (find p es) (λ z f. find_all (λ (f : MatchEntry). e.at < f.at) p es z (order_head e es order) f)
+    go true false rest = here_first (find q es) (λ z f. found_item_has_property (λ (f : MatchEntry). e.at < f.at) q es z (order_head e es order) f)
+    go false true rest = here_second (find p es) (λ z f. found_item_has_property (λ (f : MatchEntry). e.at < f.at) p es z (order_head e es order) f)
     go false false rest = rest

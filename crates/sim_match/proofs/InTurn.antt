@@ -20,14 +20,14 @@ use Rattle.sim_match.specs.declared.pattern.Wild.{Wild}
 use Rattle.sim_match.specs.Patterns.{same_pattern, own_pattern, number, list_number, own_list, wild_pattern, wild_number, wild_list, IsListed, AreListed}
 use Rattle.sim_match.specs.ListNumbers.{coded, IsCodable}
 use Rattle.sim_match.specs.ListOrder.{AreGiven, Grows, HaveNumbers}
-use Rattle.sim_match.proofs.PatternLemmas.{same_pattern_true, same_pattern_itself, position_at, position_past, position_none, number_within, number_at, listed_pattern_has_number}
-use Rattle.sim_match.proofs.Numbering.{codable, own_of_receive, own_within}
+use Rattle.sim_match.proofs.PatternLemmas.{same_pattern_true, same_pattern_itself, position_at, position_none_if_all_fail, position_or_len_if_none, number_within, number_at, listed_pattern_has_number}
+use Rattle.sim_match.proofs.Numbering.{number_is_codable, own_of_receive, own_list_within_keys}
 use Rattle.sim_match.proofs.Written.{slice_get_written_place, slice_get_elsewhere}
 
 -- a pattern without a number is not one of the keys
 unnumbered_matches_no_key : (keys : List Pattern) (p : Pattern) → number keys p ≡ None → (k : ℕ) → k < length keys → same_pattern p (get_or keys k p) ≡ false
 unnumbered_matches_no_key keys p none k below =
-    let far = position_none (same_pattern p) keys none in
+    let far = position_or_len_if_none (same_pattern p) keys none in
     fails_before_first (same_pattern p) keys k p (omega (arith, far, below))
 
 module _ (keys : List Pattern) (q : Pattern) where
@@ -37,27 +37,27 @@ module _ (keys : List Pattern) (q : Pattern) where
   keys_with_new_length : length (keys ++ q ∷ []) ≡ length keys + 1
   keys_with_new_length = length-append keys (q ∷ [])
 
-  -- a number stays where another pattern comes behind
+  -- a pattern keeps its number when another pattern is appended
   pub number_stays : (p : Pattern) (list : ℕ) → number keys p ≡ Some list → number (keys ++ q ∷ []) p ≡ Some list
   number_stays p list its =
       let at = position-Some (same_pattern p) keys list p its in
       position_at (same_pattern p) (keys ++ q ∷ []) list p (omega (arith, at.0, keys_with_new_length)) (ap (same_pattern p) (key_before_new p list at.0) ∙ at.1) (λ k b. ap (same_pattern p) (key_before_new p k (omega (arith, b, at.0))) ∙ at.2 k b)
 
-  -- the one that comes has the next
+  -- the appended pattern gets the next number
   pub number_of_new_key : (p : Pattern) → p ≡ q → number keys p ≡ None → number (keys ++ q ∷ []) p ≡ Some (length keys)
   number_of_new_key p same none =
       position_at (same_pattern p) (keys ++ q ∷ []) (length keys) p (omega (arith, keys_with_new_length)) (ap (same_pattern p) (get_or_at keys q [] p (length keys) refl ∙ sym same) ∙ same_pattern_itself p) (λ k b. ap (same_pattern p) (key_before_new p k b) ∙ unnumbered_matches_no_key keys p none k b)
 
-  -- and another none still
+  -- any other pattern without a number still has none
   pub number_of_other_stays_none : (p : Pattern) → same_pattern p q ≡ false → number keys p ≡ None → number (keys ++ q ∷ []) p ≡ None
-  number_of_other_stays_none p other none = position_past (same_pattern p) (keys ++ q ∷ []) p (λ k l. elim (cases_lt k (length keys)) [
+  number_of_other_stays_none p other none = position_none_if_all_fail (same_pattern p) (keys ++ q ∷ []) p (λ k l. elim (cases_lt k (length keys)) [
     | inl b ↦ ap (same_pattern p) (key_before_new p k b) ∙ unnumbered_matches_no_key keys p none k b
     | inr h ↦
         let last : k ≡ length keys = omega (arith, keys_with_new_length, l, h) in
         ap (same_pattern p) (get_or_at keys q [] p k (sym last)) ∙ other
   ])
 
--- what is kept of a number that can be kept
+-- the code 2^32 - 1 means `None`; any other code means a number
 coded_none_is_none : (o : Option ℕ) → IsCodable o → coded o ≡ 2 ^ 32 - 1 → o ≡ None
 coded_none_is_none None fits e = refl
 coded_none_is_none (Some list) fits e = let less = fits list refl in absurd (omega (arith, less, e))
@@ -74,7 +74,7 @@ module _ (patterns : List Pattern) (old : ListOrder) (given : AreGiven patterns 
   -- a pattern without a number gets the next one
   module _ (place : ℕ) (q : Pattern) (its : number patterns q ≡ Some place) (few : old.count + 1 < 2 ^ 32 - 1) (none : slice_get old.numbers.items place ≡ Some (2 ^ 32 - 1)) where
     pattern_had_no_number : (p : Pattern) → number patterns p ≡ Some place → number old.keys.items p ≡ None
-    pattern_had_no_number p at = coded_none_is_none (number old.keys.items p) (codable old.keys.items p (omega (arith, few, given.count))) (sym (kept_is_coded_number p place (2 ^ 32 - 1) at none))
+    pattern_had_no_number p at = coded_none_is_none (number old.keys.items p) (number_is_codable old.keys.items p (omega (arith, few, given.count))) (sym (kept_is_coded_number p place (2 ^ 32 - 1) at none))
 
     pattern_at_place : (p : Pattern) → number patterns p ≡ Some place → p ≡ q
     pattern_at_place p at =
@@ -120,15 +120,15 @@ module _ (patterns : List Pattern) (old : ListOrder) (given : AreGiven patterns 
     }
 
   -- what is kept at a pattern's place, where it is a number
-  pub has_number : (place kept : ℕ) → slice_get old.numbers.items place ≡ Some kept → (kept ≡ 2 ^ 32 - 1 → ⊥) → (p : Option Pattern) → list_number patterns p ≡ Some place → is_some (list_number old.keys.items p) ≡ true
-  has_number place kept at other None e = absurd (none-some place e)
-  has_number place kept at other (Some p) e = coded_number_is_some (number old.keys.items p) (λ is. other (kept_is_coded_number p place kept e at ∙ is))
+  pub has_list_number_if_kept : (place kept : ℕ) → slice_get old.numbers.items place ≡ Some kept → (kept ≡ 2 ^ 32 - 1 → ⊥) → (p : Option Pattern) → list_number patterns p ≡ Some place → is_some (list_number old.keys.items p) ≡ true
+  has_list_number_if_kept place kept at other None e = absurd (none-some place e)
+  has_list_number_if_kept place kept at other (Some p) e = coded_number_is_some (number old.keys.items p) (λ is. other (kept_is_coded_number p place kept e at ∙ is))
 
-  -- a place is one of those that are kept
-  pub place_within : (p : Option Pattern) (place : Option ℕ) → list_number patterns p ≡ place → IfSome place (λ (at : ℕ). at < length old.numbers.items)
-  place_within p None e = tt
-  place_within None (Some at) e = absurd (none-some at e)
-  place_within (Some p) (Some at) e =
+  -- the place of a pattern is an index of the kept numbers
+  pub pattern_place_within_numbers : (p : Option Pattern) (place : Option ℕ) → list_number patterns p ≡ place → IfSome place (λ (at : ℕ). at < length old.numbers.items)
+  pattern_place_within_numbers p None e = tt
+  pattern_place_within_numbers None (Some at) e = absurd (none-some at e)
+  pattern_place_within_numbers (Some p) (Some at) e =
       let below = number_within patterns p at e in
       omega (arith, below, given.one_each)
 
@@ -139,7 +139,7 @@ map_by_equal_functions f g (x ∷ xs) agree =
     ap₂ (λ y ys. y ∷ ys) (All-head (λ x. f x ≡ g x) x xs agree) (map_by_equal_functions f g xs (All-tail (λ x. f x ≡ g x) x xs agree))
 
 module _ (patterns : List Pattern) (old new : ListOrder) (before : AreGiven patterns old) (now : AreGiven patterns new) (more : Grows old new) where
-  -- what had a number where its pattern is one of these has the same
+  -- growth changes no number of a pattern that has one exactly if it is among these
   number_unchanged_by_growth : (p : Option Pattern) → is_some (list_number old.keys.items p) ≡ is_some (list_number patterns p) → list_number new.keys.items p ≡ list_number old.keys.items p
   number_unchanged_by_growth None has = refl
   number_unchanged_by_growth (Some p) has = go (number old.keys.items p) (number patterns p) refl refl has
@@ -168,7 +168,7 @@ listed_by_given_numbers plans patterns keys each listed x r =
   where
     go : (o : Option ℕ) → own_list plans keys x ≡ o → is_some o ≡ true → IsListed plans keys x
     go None e has = absurd (both_ways false refl has)
-    go (Some list) e has = record { list = list; is = sym (own_of_receive plans keys x r) ∙ e; within = own_within plans keys x list e }
+    go (Some list) e has = record { list = list; is = sym (own_of_receive plans keys x r) ∙ e; within = own_list_within_keys plans keys x list e }
 
 -- the pattern of a kind that a send takes
 wild_pattern_asked : Wild → OpId → Option Kind → Option Pattern
@@ -177,23 +177,23 @@ wild_pattern_asked wild x (Some (Send bytes to tag)) = Some (wild_pattern wild x
 wild_pattern_asked wild x (Some (Recv room from tag)) = None
 wild_pattern_asked wild x None = None
 
-wild_asked : (keys : List Pattern) (wild : Wild) (x : OpId) (k : Option Kind) → wild_number keys wild x k ≡ list_number keys (wild_pattern_asked wild x k)
+wild_number_is_list_number : (keys : List Pattern) (wild : Wild) (x : OpId) (k : Option Kind) → wild_number keys wild x k ≡ list_number keys (wild_pattern_asked wild x k)
 unfolding wild_pattern_asked
-wild_asked keys wild x (Some (Calc nanos)) = refl
-wild_asked keys wild x (Some (Send bytes to tag)) = refl
-wild_asked keys wild x (Some (Recv room from tag)) = refl
-wild_asked keys wild x None = refl
+wild_number_is_list_number keys wild x (Some (Calc nanos)) = refl
+wild_number_is_list_number keys wild x (Some (Send bytes to tag)) = refl
+wild_number_is_list_number keys wild x (Some (Recv room from tag)) = refl
+wild_number_is_list_number keys wild x None = refl
 
 module _ (plans : List Plan) (patterns : List Pattern) (order : ListOrder) (given : AreGiven patterns order) (wild : Wild) (x : OpId) where
-  pub wild_place : (place : Option ℕ) → place ≡ wild_list plans patterns wild x → IfSome place (λ (at : ℕ). at < length order.numbers.items)
-  wild_place place is =
-      place_within patterns order given (wild_pattern_asked wild x (kind_at plans x)) place (sym (is ∙ wild_asked patterns wild x (kind_at plans x)))
+  pub wild_list_within_numbers : (place : Option ℕ) → place ≡ wild_list plans patterns wild x → IfSome place (λ (at : ℕ). at < length order.numbers.items)
+  wild_list_within_numbers place is =
+      pattern_place_within_numbers patterns order given (wild_pattern_asked wild x (kind_at plans x)) place (sym (is ∙ wild_number_is_list_number patterns wild x (kind_at plans x)))
 
-  pub wild_kept : (place : Option ℕ) (kept : ℕ) → place ≡ wild_list plans patterns wild x → ((ps : List Pattern) (p : Option Pattern) → AreGiven ps order → list_number ps p ≡ place → kept ≡ coded (list_number order.keys.items p)) → kept ≡ coded (wild_list plans order.keys.items wild x)
-  wild_kept place kept is reads =
-      reads patterns (wild_pattern_asked wild x (kind_at plans x)) given (sym (is ∙ wild_asked patterns wild x (kind_at plans x))) ∙ ap coded (sym (wild_asked order.keys.items wild x (kind_at plans x)))
+  pub kept_is_coded_wild_list : (place : Option ℕ) (kept : ℕ) → place ≡ wild_list plans patterns wild x → ((ps : List Pattern) (p : Option Pattern) → AreGiven ps order → list_number ps p ≡ place → kept ≡ coded (list_number order.keys.items p)) → kept ≡ coded (wild_list plans order.keys.items wild x)
+  kept_is_coded_wild_list place kept is reads =
+      reads patterns (wild_pattern_asked wild x (kind_at plans x)) given (sym (is ∙ wild_number_is_list_number patterns wild x (kind_at plans x))) ∙ ap coded (sym (wild_number_is_list_number order.keys.items wild x (kind_at plans x)))
 
--- what passes none of the patterns passes none that has a number
+-- a test that no pattern passes is passed by none that has a number
 pub none_given_passes : (patterns : List Pattern) (order : ListOrder) → AreGiven patterns order → (f : Pattern → Bool) → list_any f patterns ≡ false → list_any f order.keys.items ≡ false
 none_given_passes patterns order given f none =
     list_any_none f keys (λ k d below. false_from_ne_true (f (get_or keys k d)) (λ passes. there (get_or keys k d) passes (number patterns (get_or keys k d)) refl (listed_pattern_has_number keys (get_or keys k d) k (get_or keys k d) (slice_get-get_or keys k d below) (same_pattern_itself (get_or keys k d)))))
@@ -206,7 +206,7 @@ none_given_passes patterns order given f none =
     there q passes (Some i) e at =
         both_ways (list_any f patterns) none (list_any_at f patterns i q (number_within patterns q i e) (ap f (sym (number_at patterns q i e)) ∙ passes))
 
--- the place of an operation's own pattern is one of those of the patterns
-pub own_place : (plans : List Plan) (patterns : List Pattern) (x : OpId) (place : Option ℕ) → place ≡ own_list plans patterns x → IfSome place (λ (at : ℕ). at < length patterns)
-own_place plans patterns x None is = tt
-own_place plans patterns x (Some at) is = own_within plans patterns x at (sym is)
+-- the place of an operation's own pattern is an index of the patterns
+pub own_list_within_patterns : (plans : List Plan) (patterns : List Pattern) (x : OpId) (place : Option ℕ) → place ≡ own_list plans patterns x → IfSome place (λ (at : ℕ). at < length patterns)
+own_list_within_patterns plans patterns x None is = tt
+own_list_within_patterns plans patterns x (Some at) is = own_list_within_keys plans patterns x at (sym is)

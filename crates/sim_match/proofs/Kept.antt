@@ -15,7 +15,7 @@ use Rattle.goal_graph.specs.Schedule.{Plan, kind_at, operations, IsSend, IsRecei
 use Rattle.goal_graph.specs.Fault.{IsOp}
 use Rattle.goal_graph.specs.Action.{Act, same_op, happened}
 use Rattle.goal_graph.specs.Matching.{Pair, pair_of, fits, is_paired, new_pair, pairs}
-use Rattle.goal_graph.proofs.ForCallers.{pairs_same, paired_stays, find_agree, find_all, op_of_kind}
+use Rattle.goal_graph.proofs.ForCallers.{pairs_unchanged_without_new_pair, paired_stays, find_agree, found_item_has_property, op_of_kind}
 use Rattle.sim_match.specs.declared.pattern.Pattern.{Pattern}
 use Rattle.sim_match.specs.declared.match_list.MatchEntry.{MatchEntry}
 use Rattle.sim_match.specs.PostsAndArrivals.{send_for, receive_for}
@@ -23,13 +23,13 @@ use Rattle.sim_match.specs.Waiting.{is_message}
 use Rattle.sim_match.specs.Patterns.{same_number, list_of, lists_for, in_list, for_list, IsListed}
 use Rattle.sim_match.specs.MatchLists.{is_marked, entries_of, earlier, IsReady, IsFirst, pushed}
 use Rattle.sim_match.specs.Matcher.{unmet_of, stands_in, stood, class_of_kind, event_of, PatternLists, actions_of, IsNew, ArePaired, IsMatchList, receives_of, sends_of, AreLists, Mirrors, IsJoined}
-use Rattle.sim_match.proofs.Ops.{post_suits, arrival_suits, actions_fewer}
-use Rattle.sim_match.proofs.Pairs.{in_pair, paired_more, pairs_with}
+use Rattle.sim_match.proofs.Ops.{post_suits, arrival_suits, actions_fewer_than_messages}
+use Rattle.sim_match.proofs.Pairs.{in_pair, paired_with_new_pair, pairs_with_new_pair}
 use Rattle.sim_match.proofs.Written.{slice_get_written, slice_get_elsewhere}
 use Rattle.sim_match.proofs.Finding.{find_by_equal_tests, find_filter, find_none, find_either, filter_last_fails, filter_last_passes}
-use Rattle.sim_match.proofs.PatternLemmas.{fits_list, fits_any, lists_once, lists_within}
-use Rattle.sim_match.proofs.Unmet.{unmet_other, unmet_arrival, unmet_all, unmet_fewer, unmet_found}
-use Rattle.sim_match.proofs.Entries.{entries_after_its_class, entries_after_other_class, entries_order, oldest_entry, posted_receives, posted_exist, arrived_exist, entries_fewer}
+use Rattle.sim_match.proofs.PatternLemmas.{receive_of_list_fits_its_sends, receive_fits_by_any_list_number, lists_once, lists_within}
+use Rattle.sim_match.proofs.Unmet.{unmet_other, unmet_arrival, unmet_satisfy_what_arrivals_do, unmet_no_more_than_arrivals, unmet_found}
+use Rattle.sim_match.proofs.Entries.{entries_after_its_class, entries_after_other_class, entries_order, oldest_entry, posted_receives, posted_exist, arrived_exist, entries_leave_room_for_new_op}
 use Rattle.sim_match.proofs.MatchListLemmas.{match_list_ready, match_list_kept, match_list_found, match_list_pushed, match_list_after_pairing}
 
 module _ (plans : List Plan) (events : List OpId) where
@@ -81,14 +81,14 @@ no_number (Some i) = refl
 -- what is found exists
 pub met_exists : (plans : List Plan) (es : List MatchEntry) (test : MatchEntry → Bool) (met : Option MatchEntry) → met ≡ find test es → All (λ (e : MatchEntry). IsOp plans e.op) es → IfSome met (λ (e : MatchEntry). IsOp plans e.op)
 met_exists plans es test None e all = tt
-met_exists plans es test (Some f) e all = find_all (λ (e : MatchEntry). IsOp plans e.op) test es f all (sym e)
+met_exists plans es test (Some f) e all = found_item_has_property (λ (e : MatchEntry). IsOp plans e.op) test es f all (sym e)
 
--- who is paired after the newest action, by what it has met
+-- which operations are paired after the newest action, given the entry that it met
 paired_after : (plans : List Plan) (a : Act) (h : List Act) (old new : List Bool) (met : Option MatchEntry) (pairing : OpId → Pair) → ((z y : OpId) → in_pair (pairing z) y ≡ (same_op a.op y || same_op z y)) → new_pair plans (pairs plans h) h a.class a.op ≡ option_map pairing (option_map (λ (e : MatchEntry). e.op) met) → ((x : OpId) → is_marked (operations plans) old x ≡ is_paired (pairs plans h) x) → ArePaired (operations plans) a.op met old new → (y : OpId) → is_marked (operations plans) new y ≡ is_paired (pairs plans (a ∷ h)) y
 paired_after plans a h old new None pairing both makes marked changes y =
-    changes y ∙ marked y ∙ ap (λ (ps : List Pair). is_paired ps y) (sym (pairs_same plans a h makes))
+    changes y ∙ marked y ∙ ap (λ (ps : List Pair). is_paired ps y) (sym (pairs_unchanged_without_new_pair plans a h makes))
 paired_after plans a h old new (Some f) pairing both makes marked changes y =
-    changes y ∙ ap (λ (b : Bool). (b || same_op a.op y) || same_op f.op y) (marked y) ∙ or_assoc (is_paired (pairs plans h) y) (same_op a.op y) (same_op f.op y) ∙ ap (λ (b : Bool). is_paired (pairs plans h) y || b) (sym (both f.op y)) ∙ sym (paired_more (pairing f.op) (pairs plans h) y) ∙ ap (λ (ps : List Pair). is_paired ps y) (sym (pairs_with plans a h (pairing f.op) makes))
+    changes y ∙ ap (λ (b : Bool). (b || same_op a.op y) || same_op f.op y) (marked y) ∙ or_assoc (is_paired (pairs plans h) y) (same_op a.op y) (same_op f.op y) ∙ ap (λ (b : Bool). is_paired (pairs plans h) y || b) (sym (both f.op y)) ∙ sym (paired_with_new_pair (pairing f.op) (pairs plans h) y) ∙ ap (λ (ps : List Pair). is_paired ps y) (sym (pairs_with_new_pair plans a h (pairing f.op) makes))
 
 send_of_pairs : (x : OpId) (o : Option OpId) → option_map (λ (p : Pair). p.send) (option_map (λ (m : OpId). pair_of m x) o) ≡ o
 send_of_pairs x None = refl
@@ -109,27 +109,27 @@ module _ (plans : List Plan) (keys : List Pattern) (h : List Act) where
   abbrev entry : OpId → MatchEntry
   entry x = record { op = x; at = length h }
 
-  receives_more : (x : OpId) (l : ℕ) → in_list plans keys l x ≡ true → receives_of plans keys (post_of x ∷ h) l ≡ receives_of plans keys h l ++ entry x ∷ []
-  receives_more x l pass =
+  receives_after_listed_post : (x : OpId) (l : ℕ) → in_list plans keys l x ≡ true → receives_of plans keys (post_of x ∷ h) l ≡ receives_of plans keys h l ++ entry x ∷ []
+  receives_after_listed_post x l pass =
       ap (filter (λ (e : MatchEntry). in_list plans keys l e.op)) (entries_after_its_class Post (post_of x) h refl) ∙ filter_last_passes (λ (e : MatchEntry). in_list plans keys l e.op) (entries_of Post h) (entry x) pass
 
-  receives_same : (x : OpId) (l : ℕ) → in_list plans keys l x ≡ false → receives_of plans keys (post_of x ∷ h) l ≡ receives_of plans keys h l
-  receives_same x l fails =
+  receives_after_unlisted_post : (x : OpId) (l : ℕ) → in_list plans keys l x ≡ false → receives_of plans keys (post_of x ∷ h) l ≡ receives_of plans keys h l
+  receives_after_unlisted_post x l fails =
       ap (filter (λ (e : MatchEntry). in_list plans keys l e.op)) (entries_after_its_class Post (post_of x) h refl) ∙ filter_last_fails (λ (e : MatchEntry). in_list plans keys l e.op) (entries_of Post h) (entry x) fails
 
-  sends_same : (x : OpId) (l : ℕ) → sends_of plans keys (post_of x ∷ h) l ≡ sends_of plans keys h l
-  sends_same x l = ap (filter (λ (e : MatchEntry). for_list plans keys l e.op)) (unmet_other plans (post_of x) h refl)
+  sends_unchanged_by_post : (x : OpId) (l : ℕ) → sends_of plans keys (post_of x ∷ h) l ≡ sends_of plans keys h l
+  sends_unchanged_by_post x l = ap (filter (λ (e : MatchEntry). for_list plans keys l e.op)) (unmet_other plans (post_of x) h refl)
 
   -- and after an arrival
-  receives_stay : (m : OpId) (l : ℕ) → receives_of plans keys (arrival_of m ∷ h) l ≡ receives_of plans keys h l
-  receives_stay m l = ap (filter (λ (e : MatchEntry). in_list plans keys l e.op)) (entries_after_other_class Post (arrival_of m) h refl)
+  receives_unchanged_by_arrival : (m : OpId) (l : ℕ) → receives_of plans keys (arrival_of m ∷ h) l ≡ receives_of plans keys h l
+  receives_unchanged_by_arrival m l = ap (filter (λ (e : MatchEntry). in_list plans keys l e.op)) (entries_after_other_class Post (arrival_of m) h refl)
 
   -- a send that met no receive is in its lists
-  sends_then : (m : OpId) (l : ℕ) (met : Option MatchEntry) → new_pair plans (pairs plans h) h Arrive m ≡ option_map (λ (z : OpId). pair_of m z) (option_map (λ (e : MatchEntry). e.op) met) → sends_of plans keys (arrival_of m ∷ h) l ≡ sends_of plans keys h l ++ (if list_any (same_number (Some l)) (stands_in met (lists_for plans keys m)) then entry m ∷ [] else [])
+  sends_after_arrival : (m : OpId) (l : ℕ) (met : Option MatchEntry) → new_pair plans (pairs plans h) h Arrive m ≡ option_map (λ (z : OpId). pair_of m z) (option_map (λ (e : MatchEntry). e.op) met) → sends_of plans keys (arrival_of m ∷ h) l ≡ sends_of plans keys h l ++ (if list_any (same_number (Some l)) (stands_in met (lists_for plans keys m)) then entry m ∷ [] else [])
   unfolding for_list
-  sends_then m l None makes =
+  sends_after_arrival m l None makes =
       ap (filter (λ (e : MatchEntry). for_list plans keys l e.op)) (unmet_arrival plans (arrival_of m) h refl ∙ ap (λ (o : Option Pair). unmet_of plans h ++ (if is_none o then entry m ∷ [] else [])) makes) ∙ filter-append (λ (e : MatchEntry). for_list plans keys l e.op) (unmet_of plans h) (entry m ∷ [])
-  sends_then m l (Some f) makes =
+  sends_after_arrival m l (Some f) makes =
       ap (filter (λ (e : MatchEntry). for_list plans keys l e.op)) (unmet_arrival plans (arrival_of m) h refl ∙ ap (λ (o : Option Pair). unmet_of plans h ++ (if is_none o then entry m ∷ [] else [])) makes ∙ append-nil (unmet_of plans h)) ∙ sym (append-nil (sends_of plans keys h l))
 
 -- how many sends have joined lists
@@ -156,7 +156,7 @@ module _ (plans : List Plan) (keys : List Pattern) (lists : List PatternLists) (
   receives_exist list = All-filter (λ (e : MatchEntry). in_list plans keys list e.op) (λ (e : MatchEntry). IsOp plans e.op) (entries_of Post h) (posted_exist plans h m.actions)
 
   sends_exist : (list : ℕ) → All (λ (e : MatchEntry). IsOp plans e.op) (sends_of plans keys h list)
-  sends_exist list = All-filter (λ (e : MatchEntry). for_list plans keys list e.op) (λ (e : MatchEntry). IsOp plans e.op) (unmet_of plans h) (unmet_all plans (λ (e : MatchEntry). IsOp plans e.op) h (arrived_exist plans h m.actions))
+  sends_exist list = All-filter (λ (e : MatchEntry). for_list plans keys list e.op) (λ (e : MatchEntry). IsOp plans e.op) (unmet_of plans h) (unmet_satisfy_what_arrivals_do plans (λ (e : MatchEntry). IsOp plans e.op) h (arrived_exist plans h m.actions))
 
   -- a receive that is still to be posted
   module _ (x : OpId) (r : IsReceive plans x) (fresh : happened Post x h ≡ false) where
@@ -165,7 +165,7 @@ module _ (plans : List Plan) (keys : List Pattern) (lists : List PatternLists) (
 
     pub post_counted : length h < length (operations plans)
     post_counted =
-        let fewer = actions_fewer plans (post_of plans keys h x) h m.actions post_is_new in
+        let fewer = actions_fewer_than_messages plans (post_of plans keys h x) h m.actions post_is_new in
         let all = count_by-le-length (is_message plans) (operations plans) in
         omega (arith, fewer, all)
 
@@ -203,13 +203,13 @@ module _ (plans : List Plan) (keys : List Pattern) (lists : List PatternLists) (
 
         pub post_room : length w.receives.entries < w.receives.room
         post_room =
-            let fewer = entries_fewer plans h m.actions (in_list plans keys list) Post x (post_suits plans x r) fresh posted_in_its_list in
+            let fewer = entries_leave_room_for_new_op plans h m.actions (in_list plans keys list) Post x (post_suits plans x r) fresh posted_in_its_list in
             omega (arith, fewer, ap length (post_list_before).receives.entries, (post_list_before).receives.room)
 
         module _ (v : PatternLists) (met : Option MatchEntry) (first : IsFirst (is_marked (operations plans) marks) w.sends v.sends met) (grown : v.receives ≡ pushed w.receives (entry plans keys h x)) where
           post_met : met ≡ find (λ (e : MatchEntry). not (paired e.op) && fits plans x e.op) (entries_of Arrive h)
           post_met =
-              match_list_found _ _ _ w.sends (post_list_before).sends plans marks m.marked v.sends met first ∙ find_filter (λ (e : MatchEntry). for_list plans keys list e.op) (λ (e : MatchEntry). not (paired e.op)) (unmet_of plans h) ∙ unmet_found plans h (λ (e : MatchEntry). for_list plans keys list e.op) ∙ find_agree (λ (e : MatchEntry). not (paired e.op) && for_list plans keys list e.op) (λ (e : MatchEntry). not (paired e.op) && fits plans x e.op) (λ e. ap (λ (b : Bool). not (paired e.op) && b) (sym (fits_list plans keys x e.op list r is))) (entries_of Arrive h)
+              match_list_found _ _ _ w.sends (post_list_before).sends plans marks m.marked v.sends met first ∙ find_filter (λ (e : MatchEntry). for_list plans keys list e.op) (λ (e : MatchEntry). not (paired e.op)) (unmet_of plans h) ∙ unmet_found plans h (λ (e : MatchEntry). for_list plans keys list e.op) ∙ find_agree (λ (e : MatchEntry). not (paired e.op) && for_list plans keys list e.op) (λ (e : MatchEntry). not (paired e.op) && fits plans x e.op) (λ e. ap (λ (b : Bool). not (paired e.op) && b) (sym (receive_of_list_fits_its_sends plans keys x e.op list r is))) (entries_of Arrive h)
 
           post_makes : new_pair plans (pairs plans h) h Post x ≡ option_map (λ (z : OpId). pair_of z x) (option_map (λ (e : MatchEntry). e.op) met)
           post_makes =
@@ -226,14 +226,14 @@ module _ (plans : List Plan) (keys : List Pattern) (lists : List PatternLists) (
 
           post_its_list_after : AreLists plans keys (is_paired (pairs plans (post_of plans keys h x ∷ h))) list (receives_of plans keys (post_of plans keys h x ∷ h) list) (sends_of plans keys (post_of plans keys h x ∷ h) list) v
           post_its_list_after = record {
-            receives = subst (λ (es : List MatchEntry). IsMatchList es (is_paired (pairs plans (post_of plans keys h x ∷ h))) (count_by (in_list plans keys list) (operations plans)) v.receives) (sym (receives_more plans keys h x list posted_in_its_list)) (match_list_after_pairing _ _ _ v.receives (subst (IsMatchList (receives_of plans keys h list ++ entry plans keys h x ∷ []) paired (count_by (in_list plans keys list) (operations plans))) (sym grown) (match_list_pushed _ _ _ w.receives (post_list_before).receives (entry plans keys h x))) _ paired_stays_after_post);
-            sends = subst (λ (es : List MatchEntry). IsMatchList es (is_paired (pairs plans (post_of plans keys h x ∷ h))) (count_by (for_list plans keys list) (operations plans)) v.sends) (sym (sends_same plans keys h x list)) (match_list_after_pairing _ _ _ v.sends (match_list_kept _ _ _ w.sends (post_list_before).sends plans marks m.marked v.sends met first) _ paired_stays_after_post);
+            receives = subst (λ (es : List MatchEntry). IsMatchList es (is_paired (pairs plans (post_of plans keys h x ∷ h))) (count_by (in_list plans keys list) (operations plans)) v.receives) (sym (receives_after_listed_post plans keys h x list posted_in_its_list)) (match_list_after_pairing _ _ _ v.receives (subst (IsMatchList (receives_of plans keys h list ++ entry plans keys h x ∷ []) paired (count_by (in_list plans keys list) (operations plans))) (sym grown) (match_list_pushed _ _ _ w.receives (post_list_before).receives (entry plans keys h x))) _ paired_stays_after_post);
+            sends = subst (λ (es : List MatchEntry). IsMatchList es (is_paired (pairs plans (post_of plans keys h x ∷ h))) (count_by (for_list plans keys list) (operations plans)) v.sends) (sym (sends_unchanged_by_post plans keys h x list)) (match_list_after_pairing _ _ _ v.sends (match_list_kept _ _ _ w.sends (post_list_before).sends plans marks m.marked v.sends met first) _ paired_stays_after_post);
           }
 
           post_other_list_after : (l : ℕ) (u : PatternLists) → (l ≡ list → ⊥) → AreLists plans keys paired l (receives_of plans keys h l) (sends_of plans keys h l) u → AreLists plans keys (is_paired (pairs plans (post_of plans keys h x ∷ h))) l (receives_of plans keys (post_of plans keys h x ∷ h) l) (sends_of plans keys (post_of plans keys h x ∷ h) l) u
           post_other_list_after l u n before = record {
-            receives = subst (λ (es : List MatchEntry). IsMatchList es (is_paired (pairs plans (post_of plans keys h x ∷ h))) (count_by (in_list plans keys l) (operations plans)) u.receives) (sym (receives_same plans keys h x l (posted_in_no_other l n))) (match_list_after_pairing _ _ _ u.receives before.receives _ paired_stays_after_post);
-            sends = subst (λ (es : List MatchEntry). IsMatchList es (is_paired (pairs plans (post_of plans keys h x ∷ h))) (count_by (for_list plans keys l) (operations plans)) u.sends) (sym (sends_same plans keys h x l)) (match_list_after_pairing _ _ _ u.sends before.sends _ paired_stays_after_post);
+            receives = subst (λ (es : List MatchEntry). IsMatchList es (is_paired (pairs plans (post_of plans keys h x ∷ h))) (count_by (in_list plans keys l) (operations plans)) u.receives) (sym (receives_after_unlisted_post plans keys h x l (posted_in_no_other l n))) (match_list_after_pairing _ _ _ u.receives before.receives _ paired_stays_after_post);
+            sends = subst (λ (es : List MatchEntry). IsMatchList es (is_paired (pairs plans (post_of plans keys h x ∷ h))) (count_by (for_list plans keys l) (operations plans)) u.sends) (sym (sends_unchanged_by_post plans keys h x l)) (match_list_after_pairing _ _ _ u.sends before.sends _ paired_stays_after_post);
           }
 
           post_every_list_after : (l : ℕ) (u : PatternLists) → slice_get (slice_set lists list v) l ≡ Some u → AreLists plans keys (is_paired (pairs plans (post_of plans keys h x ∷ h))) l (receives_of plans keys (post_of plans keys h x ∷ h) l) (sends_of plans keys (post_of plans keys h x ∷ h) l) u
@@ -260,7 +260,7 @@ module _ (plans : List Plan) (keys : List Pattern) (lists : List PatternLists) (
 
     pub arrival_counted : length h < length (operations plans)
     arrival_counted =
-        let fewer = actions_fewer plans (arrival_of plans keys h y) h m.actions arrival_is_new in
+        let fewer = actions_fewer_than_messages plans (arrival_of plans keys h y) h m.actions arrival_is_new in
         let all = count_by-le-length (is_message plans) (operations plans) in
         omega (arith, fewer, all)
 
@@ -379,8 +379,8 @@ module _ (plans : List Plan) (keys : List Pattern) (lists : List PatternLists) (
 
           pub join_room : length w.sends.entries < w.sends.room
           join_room =
-              let fewer = entries_fewer plans h m.actions (for_list plans keys i) Arrive y (arrival_suits plans y s) fresh list_is_for_send in
-              let unmet = unmet_fewer plans (λ (e : MatchEntry). for_list plans keys i e.op) h in
+              let fewer = entries_leave_room_for_new_op plans h m.actions (for_list plans keys i) Arrive y (arrival_suits plans y s) fresh list_is_for_send in
+              let unmet = unmet_no_more_than_arrivals plans (λ (e : MatchEntry). for_list plans keys i e.op) h in
               let match_list = sends_before_joining in
               omega (arith, fewer, unmet, ap length match_list.entries, match_list.room)
 
@@ -417,7 +417,7 @@ module _ (plans : List Plan) (keys : List Pattern) (lists : List PatternLists) (
     module _ (after : List PatternLists) (met : Option MatchEntry) (j : IsJoined plans keys h y (stands_in met (lists_for plans keys y)) (lists_for plans keys y) after met) where
       arrival_met : met ≡ find (λ (e : MatchEntry). not (paired e.op) && fits plans e.op y) (entries_of Post h)
       arrival_met =
-          j.found ∙ find_by_equal_tests (meets (lists_for plans keys y)) (λ (e : MatchEntry). not (paired e.op) && fits plans e.op y) (entries_of Post h) (All-weaker (λ (e : MatchEntry). IsReceive plans e.op) (λ (e : MatchEntry). meets (lists_for plans keys y) e ≡ (not (paired e.op) && fits plans e.op y)) (λ e r. ap (λ (b : Bool). not (paired e.op) && b) (fits_any plans keys e.op y r (m.listed e.op r))) (entries_of Post h) (posted_receives plans h m.actions))
+          j.found ∙ find_by_equal_tests (meets (lists_for plans keys y)) (λ (e : MatchEntry). not (paired e.op) && fits plans e.op y) (entries_of Post h) (All-weaker (λ (e : MatchEntry). IsReceive plans e.op) (λ (e : MatchEntry). meets (lists_for plans keys y) e ≡ (not (paired e.op) && fits plans e.op y)) (λ e r. ap (λ (b : Bool). not (paired e.op) && b) (receive_fits_by_any_list_number plans keys e.op y r (m.listed e.op r))) (entries_of Post h) (posted_receives plans h m.actions))
 
       arrival_makes : new_pair plans (pairs plans h) h Arrive y ≡ option_map (λ (z : OpId). pair_of y z) (option_map (λ (e : MatchEntry). e.op) met)
       arrival_makes =
@@ -444,8 +444,8 @@ module _ (plans : List Plan) (keys : List Pattern) (lists : List PatternLists) (
         listed = m.listed;
         one_each = j.one_each;
         each = λ l u e. let before = j.each l u e in record {
-          receives = subst (λ (es : List MatchEntry). IsMatchList es (is_paired (pairs plans (arrival_of plans keys h y ∷ h))) (count_by (in_list plans keys l) (operations plans)) u.receives) (sym (receives_stay plans keys h y l)) (match_list_after_pairing _ _ _ u.receives before.receives _ (paired_stays plans (arrival_of plans keys h y) h));
-          sends = subst (λ (es : List MatchEntry). IsMatchList es (is_paired (pairs plans (arrival_of plans keys h y ∷ h))) (count_by (for_list plans keys l) (operations plans)) u.sends) (sym (sends_then plans keys h y l met arrival_makes)) (match_list_after_pairing _ _ _ u.sends before.sends _ (paired_stays plans (arrival_of plans keys h y) h));
+          receives = subst (λ (es : List MatchEntry). IsMatchList es (is_paired (pairs plans (arrival_of plans keys h y ∷ h))) (count_by (in_list plans keys l) (operations plans)) u.receives) (sym (receives_unchanged_by_arrival plans keys h y l)) (match_list_after_pairing _ _ _ u.receives before.receives _ (paired_stays plans (arrival_of plans keys h y) h));
+          sends = subst (λ (es : List MatchEntry). IsMatchList es (is_paired (pairs plans (arrival_of plans keys h y ∷ h))) (count_by (for_list plans keys l) (operations plans)) u.sends) (sym (sends_after_arrival plans keys h y l met arrival_makes)) (match_list_after_pairing _ _ _ u.sends before.sends _ (paired_stays plans (arrival_of plans keys h y) h));
         };
         marked = paired_after plans (arrival_of plans keys h y) h marks marks' met (λ (z : OpId). pair_of y z) (λ z x. refl) arrival_makes m.marked changes;
         all_marks = omega (arith, m.all_marks, long);

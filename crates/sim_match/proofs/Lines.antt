@@ -11,7 +11,7 @@ use Rattle.sim_match.specs.declared.queues.Queue.{Queue}
 use Rattle.sim_match.specs.Queues.{AreLinked, AreInLine, AreLeft}
 use Rattle.sim_match.proofs.Written.{slice_get_written_place, slice_get_elsewhere}
 
--- an operation stands at one place
+-- an operation has only one place
 place_unique_in : (ops : List OpId) → AllPairs (λ (x y : OpId). x ≢ y) ops → (i j : ℕ) (x : OpId) → slice_get ops i ≡ Some x → slice_get ops j ≡ Some x → i ≡ j
 place_unique_in ops apart i j x e f =
     elim (cases_lt i j) [
@@ -26,7 +26,7 @@ pub place_unique : (plans : List Plan) (i j : ℕ) (x : OpId) → slice_get (ope
 place_unique plans = place_unique_in (operations plans) (operations_differ plans)
 
 module _ (ops : List OpId) (next : List ℕ) where
-  -- what stands at two places differs, so these do
+  -- different operations have different places
   places_of_different_ops : (i j : ℕ) (x y : OpId) → slice_get ops i ≡ Some x → slice_get ops j ≡ Some y → x ≢ y → i ≢ j
   places_of_different_ops i j x y e f n same = n (same_Some x y (sym e ∙ ap (slice_get ops) same ∙ f))
 
@@ -37,14 +37,14 @@ module _ (ops : List OpId) (next : List ℕ) where
       let rest = last_of_linked y ys linked.0 last linked.1.is linked.2 in
       (rest.0, rest.1, contains_more x (y ∷ ys) rest.0 rest.2)
 
-  -- one more, which stands at the place j
+  -- the list with another operation appended, whose place is j
   linked_with_new_last : (xs : List OpId) (x z : OpId) (place last j : ℕ) → slice_get ops place ≡ Some x → x ≢ z → All (λ (y : OpId). y ≢ z) xs → slice_get ops j ≡ Some z → last < length next → AreLinked ops next place last xs → AreLinked ops (slice_set next last j) place j (xs ++ z ∷ [])
   linked_with_new_last [] x z place last j at n all its within linked =
       (j, record { apart = places_of_different_ops place j x z at its n; links = ap (slice_get (slice_set next last j)) linked ∙ slice_get_written_place next last j within; is = its }, refl)
   linked_with_new_last (y ∷ ys) x z place last j at n all its within linked =
       (linked.0, record { apart = places_of_different_ops place j x z at its n; links = slice_get_elsewhere next last place j linked.1.apart ∙ linked.1.links; is = linked.1.is }, linked_with_new_last ys y z linked.0 last j linked.1.is (All-head (λ (y : OpId). y ≢ z) y ys all) (All-tail (λ (y : OpId). y ≢ z) y ys all) its within linked.2)
 
-  -- a link is written of an operation that is not among them
+  -- a link of an operation outside the list is written
   linked_after_outside_write : (xs : List OpId) (x z : OpId) (place last k j : ℕ) → slice_get ops place ≡ Some x → x ≢ z → All (λ (y : OpId). y ≢ z) xs → slice_get ops k ≡ Some z → AreLinked ops next place last xs → AreLinked ops (slice_set next k j) place last xs
   linked_after_outside_write [] x z place last k j at n all its linked = linked
   linked_after_outside_write (y ∷ ys) x z place last k j at n all its linked =
@@ -76,29 +76,29 @@ module _ (ops : List OpId) (next : List ℕ) where
 
 -- without its first
 module _ (plans : List Plan) (next : List ℕ) (queue new : Queue) (place : ℕ) (at : slice_get (operations plans) place ≡ Some queue.first) where
-  first_place : (x : OpId) (xs : List OpId) → (line : AreInLine (operations plans) next queue (x ∷ xs)) → line.1 ≡ place
-  first_place x xs line = place_unique plans line.1 place queue.first (line.2 ∙ ap (λ (y : OpId). Some y) (sym line.0)) at
+  line_starts_at_place : (x : OpId) (xs : List OpId) → (line : AreInLine (operations plans) next queue (x ∷ xs)) → line.1 ≡ place
+  line_starts_at_place x xs line = place_unique plans line.1 place queue.first (line.2 ∙ ap (λ (y : OpId). Some y) (sym line.0)) at
 
   -- it was alone
   pub left_of_single : place ≡ queue.last → new.waits ≡ None → (x : OpId) (xs : List OpId) → AreInLine (operations plans) next queue (x ∷ xs) → AreLeft (operations plans) next queue new xs
   left_of_single same none x [] line = none
-  left_of_single same none x (y ∷ ys) line = absurd (line.3.1.apart (first_place x (y ∷ ys) line ∙ same))
+  left_of_single same none x (y ∷ ys) line = absurd (line.3.1.apart (line_starts_at_place x (y ∷ ys) line ∙ same))
 
   -- or others follow it
   pub first_has_link : place ≢ queue.last → (xs : List OpId) → AreInLine (operations plans) next queue xs → (behind : ℕ) × (slice_get next place ≡ Some behind) × (behind < length (operations plans))
   first_has_link n [] line = absurd line
-  first_has_link n (x ∷ []) line = absurd (n (sym (first_place x [] line) ∙ line.3))
+  first_has_link n (x ∷ []) line = absurd (n (sym (line_starts_at_place x [] line) ∙ line.3))
   first_has_link n (x ∷ y ∷ ys) line =
-      (line.3.0, ap (slice_get next) (sym (first_place x (y ∷ ys) line)) ∙ line.3.1.links, slice_get_within (operations plans) line.3.0 y line.3.1.is)
+      (line.3.0, ap (slice_get next) (sym (line_starts_at_place x (y ∷ ys) line)) ∙ line.3.1.links, slice_get_within (operations plans) line.3.0 y line.3.1.is)
 
   pub left_behind_first : place ≢ queue.last → (behind : ℕ) → slice_get next place ≡ Some behind → slice_get (operations plans) behind ≡ Some new.first → new.last ≡ queue.last → new.waits ≡ queue.waits → (x : OpId) (xs : List OpId) → AreInLine (operations plans) next queue (x ∷ xs) → AreLeft (operations plans) next queue new xs
-  left_behind_first n behind links is last waits x [] line = absurd (n (sym (first_place x [] line) ∙ line.3))
+  left_behind_first n behind links is last waits x [] line = absurd (n (sym (line_starts_at_place x [] line) ∙ line.3))
   left_behind_first n behind links is last waits x (y ∷ ys) line =
-      let same : line.3.0 ≡ behind = same_Some line.3.0 behind (sym line.3.1.links ∙ ap (slice_get next) (first_place x (y ∷ ys) line) ∙ links) in
+      let same : line.3.0 ≡ behind = same_Some line.3.0 behind (sym line.3.1.links ∙ ap (slice_get next) (line_starts_at_place x (y ∷ ys) line) ∙ links) in
       let its : y ≡ new.first = same_Some y new.first (sym line.3.1.is ∙ ap (slice_get (operations plans)) same ∙ is) in
       (waits, (sym its, line.3.0, line.3.1.is, subst (λ (n : ℕ). AreLinked (operations plans) next line.3.0 n ys) (sym last) line.3.2))
 
--- an operation that stands at a place exists
+-- the operation at a place exists
 pub op_at_place_exists : (plans : List Plan) (place : ℕ) (x : OpId) → slice_get (operations plans) place ≡ Some x → IsOp plans x
 op_at_place_exists plans place x at =
     subst (IsOp plans) (get_or_from_slice_get (operations plans) place x x at) (listed_exist plans plans (operations plans) refl refl place x (slice_get_within (operations plans) place x at))

@@ -28,26 +28,26 @@ or_false true = refl
 or_false false = refl
 
 -- the mark that is read
-read_mark : (ops : List OpId) (marks : List Bool) (i : ℕ) (x : OpId) (d : Bool) → AllPairs (λ (y z : OpId). y ≢ z) ops → slice_get ops i ≡ Some x → length ops ≤ length marks → is_marked ops marks x ≡ get_or marks i d
-read_mark [] marks i x d apart e long = absurd (none-some x e)
-read_mark (y ∷ ys) [] i x d apart e long = absurd (omega arith)
-read_mark (y ∷ ys) (b ∷ bs) zero x d apart e long =
+mark_is_entry_at_place : (ops : List OpId) (marks : List Bool) (i : ℕ) (x : OpId) (d : Bool) → AllPairs (λ (y z : OpId). y ≢ z) ops → slice_get ops i ≡ Some x → length ops ≤ length marks → is_marked ops marks x ≡ get_or marks i d
+mark_is_entry_at_place [] marks i x d apart e long = absurd (none-some x e)
+mark_is_entry_at_place (y ∷ ys) [] i x d apart e long = absurd (omega arith)
+mark_is_entry_at_place (y ∷ ys) (b ∷ bs) zero x d apart e long =
     cond-true (same_op y x) b (is_marked ys bs x) (same_op_from y x (same_Some y x e))
-read_mark (y ∷ ys) (b ∷ bs) (suc i) x d apart e long =
-    cond-false (same_op y x) b (is_marked ys bs x) (different_not_same_op y x (head_not_in_tail y ys apart i x e)) ∙ read_mark ys bs i x d (tail_pairwise_different y ys apart) e (omega arith)
+mark_is_entry_at_place (y ∷ ys) (b ∷ bs) (suc i) x d apart e long =
+    cond-false (same_op y x) b (is_marked ys bs x) (different_not_same_op y x (head_not_in_tail y ys apart i x e)) ∙ mark_is_entry_at_place ys bs i x d (tail_pairwise_different y ys apart) e (omega arith)
 
 -- the marks after one more
-set_mark : (ops : List OpId) (marks : List Bool) (i : ℕ) (x : OpId) → AllPairs (λ (y z : OpId). y ≢ z) ops → slice_get ops i ≡ Some x → length ops ≤ length marks → IsMarked ops x marks (slice_set marks i true)
-set_mark [] marks i x apart e long z = absurd (none-some x e)
-set_mark (y ∷ ys) [] i x apart e long z = absurd (omega arith)
-set_mark (y ∷ ys) (b ∷ bs) zero x apart e long z =
+marked_after_entry_set : (ops : List OpId) (marks : List Bool) (i : ℕ) (x : OpId) → AllPairs (λ (y z : OpId). y ≢ z) ops → slice_get ops i ≡ Some x → length ops ≤ length marks → IsMarked ops x marks (slice_set marks i true)
+marked_after_entry_set [] marks i x apart e long z = absurd (none-some x e)
+marked_after_entry_set (y ∷ ys) [] i x apart e long z = absurd (omega arith)
+marked_after_entry_set (y ∷ ys) (b ∷ bs) zero x apart e long z =
     go (same_op y z) ∙ ap (λ (w : OpId). (if same_op y z then b else is_marked ys bs z) || same_op w z) (same_Some y x e)
   where
     go : (s : Bool) → (if s then true else is_marked ys bs z) ≡ ((if s then b else is_marked ys bs z) || s)
     go true = sym (or_true b)
     go false = sym (or_false (is_marked ys bs z))
-set_mark (y ∷ ys) (b ∷ bs) (suc i) x apart e long z =
-    go (same_op y z) refl (set_mark ys bs i x (tail_pairwise_different y ys apart) e (omega arith) z)
+marked_after_entry_set (y ∷ ys) (b ∷ bs) (suc i) x apart e long z =
+    go (same_op y z) refl (marked_after_entry_set ys bs i x (tail_pairwise_different y ys apart) e (omega arith) z)
   where
     go : (s : Bool) → same_op y z ≡ s → is_marked ys (slice_set bs i true) z ≡ (is_marked ys bs z || same_op x z) → (if s then b else is_marked ys (slice_set bs i true) z) ≡ ((if s then b else is_marked ys bs z) || same_op x z)
     go true f rest =
@@ -65,8 +65,8 @@ no_marks (y ∷ ys) (suc n) x = go (same_op y x) (no_marks ys n x)
     go false rest = rest
 
 module _ (plans : List Plan) (marks : List Bool) (i : ℕ) (x : OpId) (e : slice_get (operations plans) i ≡ Some x) (long : length (operations plans) ≤ length marks) where
-  pub mark_read : (d : Bool) → is_marked (operations plans) marks x ≡ get_or marks i d
-  mark_read d = read_mark (operations plans) marks i x d (operations_differ plans) e long
+  pub operation_mark_read : (d : Bool) → is_marked (operations plans) marks x ≡ get_or marks i d
+  operation_mark_read d = mark_is_entry_at_place (operations plans) marks i x d (operations_differ plans) e long
 
-  pub mark_set : IsMarked (operations plans) x marks (slice_set marks i true)
-  mark_set = set_mark (operations plans) marks i x (operations_differ plans) e long
+  pub operation_marked_after_set : IsMarked (operations plans) x marks (slice_set marks i true)
+  operation_marked_after_set = marked_after_entry_set (operations plans) marks i x (operations_differ plans) e long

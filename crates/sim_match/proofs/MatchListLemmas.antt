@@ -36,7 +36,7 @@ module _ (es : List MatchEntry) (paired : OpId → Bool) (room : ℕ) (old : Mat
       match_list_found =
           f.found ∙ ap (find (λ (e : MatchEntry). not (is_marked (operations plans) marks e.op))) is.entries ∙ find_agree (λ (e : MatchEntry). not (is_marked (operations plans) marks e.op)) (λ (e : MatchEntry). not (paired e.op)) (λ e. ap not (marked e.op)) es
 
-  -- an entry more
+  -- the list with another entry appended
   pub match_list_pushed : (e : MatchEntry) → IsMatchList (es ++ e ∷ []) paired room (pushed old e)
   match_list_pushed e =
       let longer = length-append es (e ∷ []) in
@@ -47,7 +47,7 @@ module _ (es : List MatchEntry) (paired : OpId → Bool) (room : ℕ) (old : Mat
         room = is.room;
       }
 
-  -- more is paired
+  -- the list stays a match list when other operations are paired too
   pub match_list_after_pairing : (later : OpId → Bool) → ((x : OpId) → paired x ≡ true → later x ≡ true) → IsMatchList es later room old
   match_list_after_pairing later more = record {
     entries = is.entries;
@@ -84,7 +84,7 @@ module _ (marked : OpId → Bool) (es : List MatchEntry) (i head room : ℕ) (sk
     skipped = skipped;
   }
 
--- an entry that is read, whatever stands for one that is not there
+-- reading an existing entry does not depend on the default
 pub get_or_default_irrelevant : (es : List MatchEntry) (i : ℕ) (d : MatchEntry) → i < length es → get_or es i d ≡ get_or es i (get_or es i d)
 get_or_default_irrelevant es i d inside =
     sym (get_or_from_slice_get es i (get_or es i d) (get_or es i d) (slice_get-get_or es i d inside))

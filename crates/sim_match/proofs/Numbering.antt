@@ -26,19 +26,19 @@ same_numbers plans new old same are = record {
 }
 
 -- the number of a pattern is below that of none
-pub codable : (keys : List Pattern) (p : Pattern) → length keys < 2 ^ 32 - 1 → IsCodable (number keys p)
-codable keys p few list e = let within = number_within keys p list e in omega (arith, within, few)
+pub number_is_codable : (keys : List Pattern) (p : Pattern) → length keys < 2 ^ 32 - 1 → IsCodable (number keys p)
+number_is_codable keys p few list e = let within = number_within keys p list e in omega (arith, within, few)
 
 module _ (plans : List Plan) (keys : List Pattern) (x : OpId) where
-  pub own_within : (list : ℕ) → own_list plans keys x ≡ Some list → list < length keys
-  own_within list = go (own_pattern x (kind_at plans x))
+  pub own_list_within_keys : (list : ℕ) → own_list plans keys x ≡ Some list → list < length keys
+  own_list_within_keys list = go (own_pattern x (kind_at plans x))
     where
       go : (p : Option Pattern) → list_number keys p ≡ Some list → list < length keys
       go None e = absurd (none-some list e)
       go (Some p) e = number_within keys p list e
 
-  pub own_codable : length keys < 2 ^ 32 - 1 → IsCodable (own_list plans keys x)
-  own_codable few list e = let within = own_within list e in omega (arith, within, few)
+  pub own_list_is_codable : length keys < 2 ^ 32 - 1 → IsCodable (own_list plans keys x)
+  own_list_is_codable few list e = let within = own_list_within_keys list e in omega (arith, within, few)
 
   pub own_of_receive : IsReceive plans x → own_list plans keys x ≡ list_of plans keys x
   own_of_receive r =
@@ -67,7 +67,7 @@ module _ (plans : List Plan) (keys : List Pattern) (x : OpId) where
     wild_of_send wild (Some numbers) place found few all at is =
         let its : wild_list plans keys wild x ≡ number keys (wild_pattern wild x.rank s.to s.tag) = ap (wild_number keys wild x) s.kind in
         let read = ap (λ (ns : List ℕ). slice_get ns place) all ∙ slice_get-map (λ (y : OpId). coded (wild_list plans keys wild y)) (operations plans) place ∙ ap (option_map (λ (y : OpId). coded (wild_list plans keys wild y))) at in
-        is (number keys (wild_pattern wild x.rank s.to s.tag)) (read ∙ ap (λ (o : Option ℕ). Some (coded o)) its) (codable keys (wild_pattern wild x.rank s.to s.tag) few)
+        is (number keys (wild_pattern wild x.rank s.to s.tag)) (read ∙ ap (λ (o : Option ℕ). Some (coded o)) its) (number_is_codable keys (wild_pattern wild x.rank s.to s.tag) few)
 
     -- there is one at its place
     pub wild_within : (wild : Wild) (kept : Option (Vec ℕ Global)) (place : ℕ) → AreWild plans keys wild kept → slice_get (operations plans) place ≡ Some x → IfSome kept (λ (numbers : Vec ℕ Global). place < length numbers.items)

@@ -14,7 +14,7 @@ use Rattle.goal_graph.specs.declared.plan.Kind.TheVariants.{Calc, Send, Recv}
 use Rattle.goal_graph.specs.Schedule.{Plan, kind_at, operations, IsSend, IsReceive}
 use Rattle.goal_graph.specs.Action.{Act, place, happened, oldest}
 use Rattle.goal_graph.specs.Laws.{has_class}
-use Rattle.goal_graph.proofs.ForCallers.{place_injective, is_act_class, is_act_op, is_act_from, happened_stays, happened_new, happened_newest, happened_none, happened_cases, happened_before, kind_listed, count_falls, count_le}
+use Rattle.goal_graph.proofs.ForCallers.{place_injective, is_act_class, is_act_op, is_act_from, happened_stays, happened_new, happened_newest, happened_none, happened_cases, not_happened_before_newest, kind_listed, count_falls, count_le}
 use Rattle.sim_match.specs.PostsAndArrivals.{is_post_or_arrival_class}
 use Rattle.sim_match.specs.Waiting.{ops_of, is_message, is_message_kind}
 use Rattle.sim_match.specs.Matcher.{IsNew, ArePostsAndArrivals}
@@ -94,31 +94,31 @@ module _ (plans : List Plan) where
   abbrev still_to_come : (OpId → Bool) → Class → List Act → OpId → Bool
   still_to_come test class h x = test x && not (happened class x h)
 
-  to_come_before_of : (test : OpId → Bool) (class : Class) (a : Act) (h : List Act) (x : OpId) → still_to_come test class (a ∷ h) x ≡ true → still_to_come test class h x ≡ true
-  to_come_before_of test class a h x e =
+  still_to_come_before_newest : (test : OpId → Bool) (class : Class) (a : Act) (h : List Act) (x : OpId) → still_to_come test class (a ∷ h) x ≡ true → still_to_come test class h x ≡ true
+  still_to_come_before_newest test class a h x e =
       let parts = and_parts (test x) (not (happened class x (a ∷ h))) e in
-      and_from _ _ parts.0 (not_from_false _ (happened_before class x a h (not-true _ parts.1)))
+      and_from _ _ parts.0 (not_from_false _ (not_happened_before_newest class x a h (not-true _ parts.1)))
 
   happened_not_to_come : (test : OpId → Bool) (class : Class) (a : Act) (h : List Act) → a.class ≡ class → still_to_come test class (a ∷ h) a.op ≡ false
   happened_not_to_come test class a h e =
       and_right (test a.op) _ (not_from_true _ (happened_new class a.op a h (is_act_from class a.op a e refl)))
 
   -- The operations of a class that pass a test, and those that are still to come, are among those of the schedule.
-  pub ops_within : (test : OpId → Bool) (class : Class) (h : List Act) → ArePostsAndArrivals plans h → count_by test (ops_of class h) + count_by (still_to_come test class h) (operations plans) ≤ count_by test (operations plans)
+  pub past_and_coming_ops_within_all : (test : OpId → Bool) (class : Class) (h : List Act) → ArePostsAndArrivals plans h → count_by test (ops_of class h) + count_by (still_to_come test class h) (operations plans) ≤ count_by test (operations plans)
   unfolding ops_of
-  ops_within test class [] i =
+  past_and_coming_ops_within_all test class [] i =
       let all = count_le test (still_to_come test class []) (operations plans) (λ x e. (and_parts (test x) _ e).0) in
       omega (arith, all)
-  ops_within test class (a ∷ h) i =
-      more (ops_within test class h i.0) (cases_Bool (place a.class == place class)) (cases_Bool (test a.op))
+  past_and_coming_ops_within_all test class (a ∷ h) i =
+      more (past_and_coming_ops_within_all test class h i.0) (cases_Bool (place a.class == place class)) (cases_Bool (test a.op))
     where
       stays : count_by (still_to_come test class (a ∷ h)) (operations plans) ≤ count_by (still_to_come test class h) (operations plans)
       stays =
-          count_le (still_to_come test class h) (still_to_come test class (a ∷ h)) (operations plans) (to_come_before_of test class a h)
+          count_le (still_to_come test class h) (still_to_come test class (a ∷ h)) (operations plans) (still_to_come_before_newest test class a h)
 
       falls : a.class ≡ class → test a.op ≡ true → count_by (still_to_come test class (a ∷ h)) (operations plans) + 1 ≤ count_by (still_to_come test class h) (operations plans)
       falls same pass =
-          count_falls (still_to_come test class h) (still_to_come test class (a ∷ h)) (operations plans) a.op (suited_listed a.op a.class i.1.suited) (to_come_before_of test class a h) (happened_not_to_come test class a h same) (and_from _ _ pass (not_from_false _ (subst (λ (c : Class). happened c a.op h ≡ false) same i.1.fresh)))
+          count_falls (still_to_come test class h) (still_to_come test class (a ∷ h)) (operations plans) a.op (suited_listed a.op a.class i.1.suited) (still_to_come_before_newest test class a h) (happened_not_to_come test class a h same) (and_from _ _ pass (not_from_false _ (subst (λ (c : Class). happened c a.op h ≡ false) same i.1.fresh)))
 
       one : (b : Bool) → test a.op ≡ b → count_by test (ops_of class h ++ a.op ∷ []) ≡ count_by test (ops_of class h) + cond b 1 0
       one b e =
@@ -137,9 +137,9 @@ module _ (plans : List Plan) where
           omega (arith, before, count, stays)
 
   -- an operation that is still to come finds fewer there than the schedule has
-  pub ops_fewer : (test : OpId → Bool) (class : Class) (h : List Act) (x : OpId) → ArePostsAndArrivals plans h → has_class (kind_at plans x) class ≡ true → happened class x h ≡ false → test x ≡ true → count_by test (ops_of class h) < count_by test (operations plans)
-  ops_fewer test class h x i suited fresh pass =
-      let within = ops_within test class h i in
+  pub past_ops_leave_room_for_new_op : (test : OpId → Bool) (class : Class) (h : List Act) (x : OpId) → ArePostsAndArrivals plans h → has_class (kind_at plans x) class ≡ true → happened class x h ≡ false → test x ≡ true → count_by test (ops_of class h) < count_by test (operations plans)
+  past_ops_leave_room_for_new_op test class h x i suited fresh pass =
+      let within = past_and_coming_ops_within_all test class h i in
       let one = count_falls (still_to_come test class h) (λ (y : OpId). false) (operations plans) x (suited_listed x class suited) (λ y e. absurd (both_ways false refl e)) refl (and_from _ _ pass (not_from_false _ fresh)) in
       omega (arith, within, one)
 
@@ -159,9 +159,9 @@ module _ (plans : List Plan) where
   to_come_before : (a : Act) (h : List Act) (x : OpId) (k : Option Kind) → to_come (a ∷ h) x k ≡ true → to_come h x k ≡ true
   to_come_before a h x (Some (Calc nanos)) e = e
   to_come_before a h x (Some (Send bytes to tag)) e =
-      not_from_false _ (happened_before Arrive x a h (not-true _ e))
+      not_from_false _ (not_happened_before_newest Arrive x a h (not-true _ e))
   to_come_before a h x (Some (Recv room from tag)) e =
-      not_from_false _ (happened_before Post x a h (not-true _ e))
+      not_from_false _ (not_happened_before_newest Post x a h (not-true _ e))
   to_come_before a h x None e = e
 
   action_no_longer_to_come : (a : Act) (h : List Act) (c : Class) (k : Option Kind) → is_post_or_arrival_class c ≡ true → has_class k c ≡ true → happened c a.op h ≡ false → happened c a.op (a ∷ h) ≡ true → (to_come h a.op k ≡ true) × (to_come (a ∷ h) a.op k ≡ false)
@@ -177,18 +177,18 @@ module _ (plans : List Plan) where
   action_no_longer_to_come a h Data k e s before now = absurd (both_ways _ refl e)
   action_no_longer_to_come a h Begin k e s before now = absurd (both_ways _ refl e)
 
-  actions_within : (h : List Act) → ArePostsAndArrivals plans h → length h + count_by (λ (x : OpId). to_come h x (kind_at plans x)) (operations plans) ≤ count_by (is_message plans) (operations plans)
-  actions_within [] i =
+  past_and_coming_actions_within_messages : (h : List Act) → ArePostsAndArrivals plans h → length h + count_by (λ (x : OpId). to_come h x (kind_at plans x)) (operations plans) ≤ count_by (is_message plans) (operations plans)
+  past_and_coming_actions_within_messages [] i =
       let all = count_le (is_message plans) (λ (x : OpId). to_come [] x (kind_at plans x)) (operations plans) (λ x e. to_come_message [] x (kind_at plans x) e) in
       omega (arith, all)
-  actions_within (a ∷ h) i =
-      let before = actions_within h i.0 in
+  past_and_coming_actions_within_messages (a ∷ h) i =
+      let before = past_and_coming_actions_within_messages h i.0 in
       let turn = action_no_longer_to_come a h a.class (kind_at plans a.op) i.1.class i.1.suited i.1.fresh (happened_newest a h) in
       let falls = count_falls (λ (x : OpId). to_come h x (kind_at plans x)) (λ (x : OpId). to_come (a ∷ h) x (kind_at plans x)) (operations plans) a.op (suited_listed a.op a.class i.1.suited) (λ x e. to_come_before a h x (kind_at plans x) e) turn.1 turn.0 in
       omega (arith, before, falls)
 
   -- the posts and arrivals are no more than the sends and receives of the schedule
-  pub actions_fewer : (a : Act) (h : List Act) → ArePostsAndArrivals plans h → IsNew plans h a → length h < count_by (is_message plans) (operations plans)
-  actions_fewer a h i new =
-      let within = actions_within (a ∷ h) (i, new) in
+  pub actions_fewer_than_messages : (a : Act) (h : List Act) → ArePostsAndArrivals plans h → IsNew plans h a → length h < count_by (is_message plans) (operations plans)
+  actions_fewer_than_messages a h i new =
+      let within = past_and_coming_actions_within_messages (a ∷ h) (i, new) in
       omega (arith, within)

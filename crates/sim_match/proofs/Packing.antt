@@ -49,8 +49,8 @@ module _ (spans : List Stretch) (entries : List MatchEntry) (packed : ArePacked 
   pub list_of_number : slice_get (map (list_at entries) spans) l ≡ Some (list_at entries s)
   list_of_number = slice_get-map (list_at entries) spans l ∙ ap (option_map (list_at entries)) at
 
-  pub list_of_number_is : (w : MatchList) → slice_get (map (list_at entries) spans) l ≡ Some w → list_at entries s ≡ w
-  list_of_number_is w e = same_Some (list_at entries s) w (sym list_of_number ∙ e)
+  pub list_of_number_unique : (w : MatchList) → slice_get (map (list_at entries) spans) l ≡ Some w → list_at entries s ≡ w
+  list_of_number_unique w e = same_Some (list_at entries s) w (sym list_of_number ∙ e)
 
   -- what is written there has the same bounds
   module _ (z : Stretch) (start : z.start ≡ s.start) (end : z.end ≡ s.end) (fits : z.start + z.len ≤ z.end) where
@@ -174,17 +174,17 @@ span_within spans entries now l seen inside =
 
 -- the span that is read
 module _ (spans : List Span) (entries : List MatchEntry) (now : List MatchList) (l : ℕ) (s : Span) (seen : map (list_at entries) (stretches spans (length entries)) ≡ now) (inside : l < length now) (read : s ≡ get_or spans l s) where
-  at_span : slice_get spans l ≡ Some s
-  at_span =
+  span_of_number : slice_get spans l ≡ Some s
+  span_of_number =
       slice_get_read spans (length spans) l s refl (span_within spans entries now l seen inside) read
 
   pub stretch_read : slice_get (stretches spans (length entries)) l ≡ Some (stretch s (end_of spans (length entries) l))
-  stretch_read = get-stretches spans (length entries) l s at_span
+  stretch_read = get-stretches spans (length entries) l s span_of_number
 
   -- it is written
   pub stretch_written : (z : Span) (after : List MatchEntry) → z.start ≡ s.start → length after ≡ length entries → stretches (slice_set spans l z) (length after) ≡ slice_set (stretches spans (length entries)) l (stretch z (end_of spans (length entries) l))
   stretch_written z after same long =
-      ap (stretches (slice_set spans l z)) long ∙ set-stretches spans (length entries) l s z at_span same
+      ap (stretches (slice_set spans l z)) long ∙ set-stretches spans (length entries) l s z span_of_number same
 
   pub packed_written : ArePacked (stretches spans (length entries)) entries → (z : Span) (after : List MatchEntry) → z.start ≡ s.start → length after ≡ length entries → z.start + z.len ≤ end_of spans (length entries) l → ArePacked (stretches (slice_set spans l z) (length after)) after
   packed_written packed z after same long fits =
@@ -215,9 +215,9 @@ built_packed side capacities spans end b entries long few = record {
   few = omega (arith, long, few);
 }
 
--- one more
-pub built_more : (side : Side) (capacities : List Capacity) (spans : List Stretch) (end : ℕ) → AreBuilt side capacities spans end → (c : Capacity) (stop : ℕ) → stop ≡ end + room_of side c → AreBuilt side (capacities ++ c ∷ []) (spans ++ record { start = end; len = 0; head = 0; end = stop } ∷ []) stop
-built_more side capacities spans end b c stop more = record {
+-- another empty stretch is appended
+pub built_with_next_capacity : (side : Side) (capacities : List Capacity) (spans : List Stretch) (end : ℕ) → AreBuilt side capacities spans end → (c : Capacity) (stop : ℕ) → stop ≡ end + room_of side c → AreBuilt side (capacities ++ c ∷ []) (spans ++ record { start = end; len = 0; head = 0; end = stop } ∷ []) stop
+built_with_next_capacity side capacities spans end b c stop more = record {
   apart = λ i j s t l e f. elim (last_or_before i s e) [
     | inl old ↦ elim (last_or_before j t f) [ inl there ↦ b.apart i j s t l old there | inr its ↦ subst (λ (u : Stretch). s.end ≤ u.start) (sym its.1) (b.within i s old) ]
     | inr its ↦ absurd (let far = slice_get_within (spans ++ record { start = end; len = 0; head = 0; end = stop } ∷ []) j t f in let long = length-append spans (record { start = end; len = 0; head = 0; end = stop } ∷ []) in omega (arith, its.0, l, far, long))

@@ -8,9 +8,9 @@ use Rattle.goal_graph.specs.declared.action.Class.TheVariants.{Arrive, Post}
 use Rattle.goal_graph.specs.Schedule.{Plan, IsSend, IsReceive}
 use Rattle.goal_graph.specs.Action.{Act, place, same_op, happened, oldest}
 use Rattle.goal_graph.specs.Matching.{Pair, pair_of, other_in, fits, is_paired, is_open_receive, is_open_send, pairs, partner}
-use Rattle.goal_graph.proofs.ForCallers.{act_of, place_injective, same_op_true, same_op_itself, not_send_receive, fits_send, IsFound, oldest_some, oldest_none, pairs_same, not_arrived, not_posted}
+use Rattle.goal_graph.proofs.ForCallers.{act_of, place_injective, same_op_true, same_op_itself, not_send_receive, fits_send, IsFound, oldest_some, oldest_none, pairs_unchanged_without_new_pair, unarrived_send_has_no_partner, unposted_receive_has_no_partner}
 use Rattle.sim_match.specs.PostsAndArrivals.{send_for, receive_for, NoSendFits, NoReceiveFits}
-use Rattle.sim_match.proofs.Pairs.{pairs_with}
+use Rattle.sim_match.proofs.Pairs.{pairs_with_new_pair}
 
 -- an action that was found open
 record IsOpen (plans : List Plan) (h : List Act) (class : Class) (y : OpId) (fit : OpId → Bool) : Type 0 where
@@ -44,37 +44,37 @@ module _ (plans : List Plan) (h : List Act) where
   post_partner x r fresh = go (oldest (is_open_send plans (pairs plans h) x) h) refl
     where
       free : partner (pairs plans h) x ≡ None
-      free = not_posted plans h x r fresh
+      free = unposted_receive_has_no_partner plans h x r fresh
 
       go : (o : Option OpId) → oldest (is_open_send plans (pairs plans h) x) h ≡ o → send_for plans h x ≡ partner (pairs plans (act_of Post x ∷ h)) x
       go None e =
           let none = ap (option_map (λ (m : OpId). pair_of m x)) e in
-          ap (option_map (λ (p : Pair). p.send)) none ∙ sym free ∙ sym (ap (λ (ps : List Pair). partner ps x) (pairs_same plans (act_of Post x) h none))
+          ap (option_map (λ (p : Pair). p.send)) none ∙ sym free ∙ sym (ap (λ (ps : List Pair). partner ps x) (pairs_unchanged_without_new_pair plans (act_of Post x) h none))
       go (Some m) e =
           let made = ap (option_map (λ (m : OpId). pair_of m x)) e in
           let found = open_from Arrive (fits plans x) m (oldest_some (is_open_send plans (pairs plans h) x) h m e) in
           let other : same_op m x ≡ false = false_from_ne_true (same_op m x) (λ t. not_send_receive plans x (subst (IsSend plans) (same_op_true m x t) (fits_send plans x m found.fits)) r) in
           let its = ap (λ (b : Bool). if b then Some x else (if same_op x x then Some m else None)) other ∙ ap (λ (b : Bool). if b then Some m else None) (same_op_itself x) in
-          ap (option_map (λ (p : Pair). p.send)) made ∙ sym its ∙ sym (partner_with (pair_of m x) x free) ∙ sym (ap (λ (ps : List Pair). partner ps x) (pairs_with plans (act_of Post x) h (pair_of m x) made))
+          ap (option_map (λ (p : Pair). p.send)) made ∙ sym its ∙ sym (partner_with (pair_of m x) x free) ∙ sym (ap (λ (ps : List Pair). partner ps x) (pairs_with_new_pair plans (act_of Post x) h (pair_of m x) made))
 
   -- the partner of the send that arrives
   pub arrival_partner : (m : OpId) → IsSend plans m → happened Arrive m h ≡ false → receive_for plans h m ≡ partner (pairs plans (act_of Arrive m ∷ h)) m
   arrival_partner m s fresh = go (oldest (is_open_receive plans (pairs plans h) m) h) refl
     where
       free : partner (pairs plans h) m ≡ None
-      free = not_arrived plans h m s fresh
+      free = unarrived_send_has_no_partner plans h m s fresh
 
       go : (o : Option OpId) → oldest (is_open_receive plans (pairs plans h) m) h ≡ o → receive_for plans h m ≡ partner (pairs plans (act_of Arrive m ∷ h)) m
       go None e =
           let none = ap (option_map (λ (x : OpId). pair_of m x)) e in
-          ap (option_map (λ (p : Pair). p.recv)) none ∙ sym free ∙ sym (ap (λ (ps : List Pair). partner ps m) (pairs_same plans (act_of Arrive m) h none))
+          ap (option_map (λ (p : Pair). p.recv)) none ∙ sym free ∙ sym (ap (λ (ps : List Pair). partner ps m) (pairs_unchanged_without_new_pair plans (act_of Arrive m) h none))
       go (Some x) e =
           let made = ap (option_map (λ (x : OpId). pair_of m x)) e in
           let its = ap (λ (b : Bool). if b then Some x else (if same_op x m then Some m else None)) (same_op_itself m) in
-          ap (option_map (λ (p : Pair). p.recv)) made ∙ sym its ∙ sym (partner_with (pair_of m x) m free) ∙ sym (ap (λ (ps : List Pair). partner ps m) (pairs_with plans (act_of Arrive m) h (pair_of m x) made))
+          ap (option_map (λ (p : Pair). p.recv)) made ∙ sym its ∙ sym (partner_with (pair_of m x) m free) ∙ sym (ap (λ (ps : List Pair). partner ps m) (pairs_with_new_pair plans (act_of Arrive m) h (pair_of m x) made))
 
-  pub post_none : (x : OpId) → IsNone (send_for plans h x) ↔ NoSendFits plans h x
-  post_none x = go (oldest (is_open_send plans (pairs plans h) x) h) refl
+  pub no_send_found_iff_none_fits : (x : OpId) → IsNone (send_for plans h x) ↔ NoSendFits plans h x
+  no_send_found_iff_none_fits x = go (oldest (is_open_send plans (pairs plans h) x) h) refl
     where
       go : (o : Option OpId) → oldest (is_open_send plans (pairs plans h) x) h ≡ o → IsNone (option_map (λ (p : Pair). p.send) (option_map (λ (m : OpId). pair_of m x) (oldest (is_open_send plans (pairs plans h) x) h))) ↔ NoSendFits plans h x
       go None e =
@@ -83,8 +83,8 @@ module _ (plans : List Plan) (h : List Act) where
           let found = open_from Arrive (fits plans x) m (oldest_some (is_open_send plans (pairs plans h) x) h m e) in
           (λ none. absurd (both_ways _ none (ap (λ (o : Option OpId). is_some (option_map (λ (p : Pair). p.send) (option_map (λ (m : OpId). pair_of m x) o))) e)), λ no. absurd (both_ways _ found.free (no m found.happened found.fits)))
 
-  pub arrival_none : (m : OpId) → IsNone (receive_for plans h m) ↔ NoReceiveFits plans h m
-  arrival_none m = go (oldest (is_open_receive plans (pairs plans h) m) h) refl
+  pub no_receive_found_iff_none_fits : (m : OpId) → IsNone (receive_for plans h m) ↔ NoReceiveFits plans h m
+  no_receive_found_iff_none_fits m = go (oldest (is_open_receive plans (pairs plans h) m) h) refl
     where
       go : (o : Option OpId) → oldest (is_open_receive plans (pairs plans h) m) h ≡ o → IsNone (option_map (λ (p : Pair). p.recv) (option_map (λ (x : OpId). pair_of m x) (oldest (is_open_receive plans (pairs plans h) m) h))) ↔ NoReceiveFits plans h m
       go None e =

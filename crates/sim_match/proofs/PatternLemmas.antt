@@ -46,25 +46,25 @@ position_at p xs i d inside passes before =
     let at = position_or_len_is p xs i d (omega arith) before (λ l. passes) in
     cond-true _ (Some (position_or_len p xs)) None (lt-ltb (position_or_len p xs) (length xs) (omega (arith, at))) ∙ ap (λ (n : ℕ). Some n) at
 
-pub position_past : {X : Type 0} (p : X → Bool) (xs : List X) (d : X) → ((k : ℕ) → k < length xs → p (get_or xs k d) ≡ false) → position p xs ≡ None
-position_past p xs d fails =
+pub position_none_if_all_fail : {X : Type 0} (p : X → Bool) (xs : List X) (d : X) → ((k : ℕ) → k < length xs → p (get_or xs k d) ≡ false) → position p xs ≡ None
+position_none_if_all_fail p xs d fails =
     let at = position_or_len_is p xs (length xs) d (omega arith) fails (λ l. absurd (omega (arith, l))) in
     cond-false _ (Some (position_or_len p xs)) None (le-ltb (position_or_len p xs) (length xs) (omega (arith, at)))
 
 -- a pattern that takes any is not among those that each name one
 pub pattern_of_any_unnumbered : (field : Pattern → Option ℕ) (keys : List Pattern) (p : Pattern) → list_all (λ q. is_some (field q)) keys ≡ true → is_some (field p) ≡ false → None ≡ number keys p
 pattern_of_any_unnumbered field keys p all none =
-    sym (position_past (same_pattern p) keys p (λ k l. false_from_ne_true (same_pattern p (get_or keys k p)) (λ e. differ k l (same_pattern_true p (get_or keys k p) e))))
+    sym (position_none_if_all_fail (same_pattern p) keys p (λ k l. false_from_ne_true (same_pattern p (get_or keys k p)) (λ e. differ k l (same_pattern_true p (get_or keys k p) e))))
   where
     differ : (k : ℕ) → k < length keys → p ≡ get_or keys k p → ⊥
     differ k l same =
         let named : is_some (field (get_or keys k p)) ≡ true = All-get_or (λ q. is_some (field q) ≡ true) keys k p l (AllPass-from_list_all (λ q. is_some (field q)) keys all) in
         both_ways (is_some (field p)) none (ap (λ q. is_some (field q)) same ∙ named)
 
--- nor is one of a kind that none of them is of
+-- a wildcard pattern of a kind that no key has is not a key
 pub wild_pattern_unnumbered : (wild : Wild) (keys : List Pattern) (p : Pattern) → list_any (is_wild wild) keys ≡ false → is_wild wild p ≡ true → None ≡ number keys p
 wild_pattern_unnumbered wild keys p none is =
-    sym (position_past (same_pattern p) keys p (λ k l. false_from_ne_true (same_pattern p (get_or keys k p)) (λ e. differ k l (same_pattern_true p (get_or keys k p) e))))
+    sym (position_none_if_all_fail (same_pattern p) keys p (λ k l. false_from_ne_true (same_pattern p (get_or keys k p)) (λ e. differ k l (same_pattern_true p (get_or keys k p) e))))
   where
     differ : (k : ℕ) → k < length keys → p ≡ get_or keys k p → ⊥
     differ k l same =
@@ -75,8 +75,8 @@ wild_itself AnyTag source to tag = refl
 wild_itself AnySource source to tag = refl
 wild_itself Any source to tag = refl
 
-pub position_none : {X : Type 0} (p : X → Bool) (xs : List X) → position p xs ≡ None → length xs ≤ position_or_len p xs
-position_none p xs e =
+pub position_or_len_if_none : {X : Type 0} (p : X → Bool) (xs : List X) → position p xs ≡ None → length xs ≤ position_or_len p xs
+position_or_len_if_none p xs e =
     elim (cases_lt (position_or_len p xs) (length xs)) [ inl l ↦ absurd (none-some (position_or_len p xs) (sym e ∙ cond-true _ (Some (position_or_len p xs)) None (lt-ltb _ _ l))) | inr l ↦ l ]
 
 -- a number is that of a pattern
@@ -94,7 +94,7 @@ listed_pattern_has_number keys p k q there same = go (position (same_pattern p) 
     go : (o : Option ℕ) → position (same_pattern p) keys ≡ o → (i : ℕ) × (number keys p ≡ Some i)
     go (Some i) e = (i, e)
     go None e =
-        let far = position_none (same_pattern p) keys e in
+        let far = position_or_len_if_none (same_pattern p) keys e in
         let inside = slice_get_within keys k q there in
         let fails = fails_before_first (same_pattern p) keys k q (omega (arith, far, inside)) in
         absurd (both_ways (same_pattern p q) (ap (same_pattern p) (sym (get_or_from_slice_get keys k q q there)) ∙ fails) same)
@@ -119,9 +119,9 @@ module _ (keys : List Pattern) (p : Pattern) (i : ℕ) (its : number keys p ≡ 
           first same = same_pattern_true p (get_or keys j q) (position-Some (same_pattern p) keys j q (its ∙ ap (λ (n : ℕ). Some n) same)).1
 
   -- it is among the numbers of patterns where it is among them
-  pub any_number : (qs : List Pattern) → list_any (same_number (Some i)) (map (number keys) qs) ≡ list_any (same_pattern p) qs
-  any_number [] = refl
-  any_number (q ∷ qs) = ap₂ (λ (s t : Bool). s || t) (same_number_is_same_pattern q) (any_number qs)
+  pub any_number_is_any_pattern : (qs : List Pattern) → list_any (same_number (Some i)) (map (number keys) qs) ≡ list_any (same_pattern p) qs
+  any_number_is_any_pattern [] = refl
+  any_number_is_any_pattern (q ∷ qs) = ap₂ (λ (s t : Bool). s || t) (same_number_is_same_pattern q) (any_number_is_any_pattern qs)
 
 -- a pattern fits a message exactly where it is one of the message's four
 eqb_swapped : (m n : ℕ) → (m == n) ≡ (n == m)
@@ -161,9 +161,9 @@ accepts_one_of_four rank from tag source to with_tag = ap (λ (s : Bool). s && a
     go s (Some f) (Some t) = some_some s (f == source) (t == with_tag)
 
 -- a receive of a list fits exactly the sends for it
-pub fits_list : (plans : List Plan) (keys : List Pattern) (x m : OpId) (i : ℕ) → IsReceive plans x → list_of plans keys x ≡ Some i → fits plans x m ≡ for_list plans keys i m
+pub receive_of_list_fits_its_sends : (plans : List Plan) (keys : List Pattern) (x m : OpId) (i : ℕ) → IsReceive plans x → list_of plans keys x ≡ Some i → fits plans x m ≡ for_list plans keys i m
 unfolding fits for_list
-fits_list plans keys x m i r e =
+receive_of_list_fits_its_sends plans keys x m i r e =
     ap (λ (k : Option Kind). fits_kinds x k m (kind_at plans m)) r.kind ∙ at (kind_at plans m)
   where
     its : number keys (record { rank = x.rank; from = r.from; tag = r.tag }) ≡ Some i
@@ -171,15 +171,15 @@ fits_list plans keys x m i r e =
 
     at : (k : Option Kind) → fits_kinds x (Some (Recv r.room r.from r.tag)) m k ≡ list_any (same_number (Some i)) (numbers_for keys m k)
     at (Some (Send bytes to tag)) =
-        accepts_one_of_four x.rank r.from r.tag m.rank to tag ∙ sym (any_number keys (record { rank = x.rank; from = r.from; tag = r.tag }) i its (patterns_for m.rank to tag))
+        accepts_one_of_four x.rank r.from r.tag m.rank to tag ∙ sym (any_number_is_any_pattern keys (record { rank = x.rank; from = r.from; tag = r.tag }) i its (patterns_for m.rank to tag))
     at (Some (Calc nanos)) = refl
     at (Some (Recv room from tag)) = refl
     at None = refl
 
-pub fits_any : (plans : List Plan) (keys : List Pattern) (x m : OpId) → IsReceive plans x → (its : IsListed plans keys x) → list_any (same_number (list_of plans keys x)) (lists_for plans keys m) ≡ fits plans x m
+pub receive_fits_by_any_list_number : (plans : List Plan) (keys : List Pattern) (x m : OpId) → IsReceive plans x → (its : IsListed plans keys x) → list_any (same_number (list_of plans keys x)) (lists_for plans keys m) ≡ fits plans x m
 unfolding for_list
-fits_any plans keys x m r its =
-    ap (λ (o : Option ℕ). list_any (same_number o) (lists_for plans keys m)) its.is ∙ sym (fits_list plans keys x m its.list r its.is)
+receive_fits_by_any_list_number plans keys x m r its =
+    ap (λ (o : Option ℕ). list_any (same_number o) (lists_for plans keys m)) its.is ∙ sym (receive_of_list_fits_its_sends plans keys x m its.list r its.is)
 
 -- the numbers of a message's lists: none twice, and each that of a list
 pub four_numbers_differ : (keys : List Pattern) (source to tag : ℕ) → AreOnce (map (number keys) (patterns_for source to tag))
@@ -187,18 +187,18 @@ four_numbers_differ keys source to tag k i e = go k e
   where
     go : (k : ℕ) → slice_get (map (number keys) (patterns_for source to tag)) k ≡ Some (Some i) → list_any (same_number (Some i)) (take k (map (number keys) (patterns_for source to tag))) ≡ false
     go zero e = refl
-    go (suc zero) e = any_number keys (record { rank = to; from = Some source; tag = None }) i (same_Some (number keys (record { rank = to; from = Some source; tag = None })) (Some i) e) (take 1 (patterns_for source to tag)) ∙ second (to == to) (source == source)
+    go (suc zero) e = any_number_is_any_pattern keys (record { rank = to; from = Some source; tag = None }) i (same_Some (number keys (record { rank = to; from = Some source; tag = None })) (Some i) e) (take 1 (patterns_for source to tag)) ∙ second (to == to) (source == source)
       where
         second : (s t : Bool) → ((s && (t && false)) || false) ≡ false
         second true true = refl
         second true false = refl
         second false t = refl
-    go (suc (suc zero)) e = any_number keys (record { rank = to; from = None; tag = Some tag }) i (same_Some (number keys (record { rank = to; from = None; tag = Some tag })) (Some i) e) (take 2 (patterns_for source to tag)) ∙ third (to == to) (tag == tag)
+    go (suc (suc zero)) e = any_number_is_any_pattern keys (record { rank = to; from = None; tag = Some tag }) i (same_Some (number keys (record { rank = to; from = None; tag = Some tag })) (Some i) e) (take 2 (patterns_for source to tag)) ∙ third (to == to) (tag == tag)
       where
         third : (s t : Bool) → ((s && (false && t)) || ((s && (false && false)) || false)) ≡ false
         third true t = refl
         third false t = refl
-    go (suc (suc (suc zero))) e = any_number keys (record { rank = to; from = None; tag = None }) i (same_Some (number keys (record { rank = to; from = None; tag = None })) (Some i) e) (take 3 (patterns_for source to tag)) ∙ fourth (to == to)
+    go (suc (suc (suc zero))) e = any_number_is_any_pattern keys (record { rank = to; from = None; tag = None }) i (same_Some (number keys (record { rank = to; from = None; tag = None })) (Some i) e) (take 3 (patterns_for source to tag)) ∙ fourth (to == to)
       where
         fourth : (s : Bool) → ((s && (false && false)) || ((s && (false && true)) || ((s && (true && false)) || false))) ≡ false
         fourth true = refl
@@ -233,8 +233,8 @@ pub collected_none : (plans : List Plan) (ops : List OpId) (keys : List Pattern)
 collected_none plans ops keys k x p below at is = absurd (omega arith)
 
 -- one more operation, which has these patterns
-pub collected_more : (plans : List Plan) (ops : List OpId) (n : ℕ) (keys more : List Pattern) → AreCollected plans ops n keys → (x : OpId) → slice_get ops n ≡ Some x → ((p : Pattern) → pattern_of x (kind_at plans x) ≡ Some p → Contains more p) → AreCollected plans ops (n + 1) (keys ++ more)
-collected_more plans ops n keys more before x at has k y p below read is =
+pub collected_with_next_op : (plans : List Plan) (ops : List OpId) (n : ℕ) (keys more : List Pattern) → AreCollected plans ops n keys → (x : OpId) → slice_get ops n ≡ Some x → ((p : Pattern) → pattern_of x (kind_at plans x) ≡ Some p → Contains more p) → AreCollected plans ops (n + 1) (keys ++ more)
+collected_with_next_op plans ops n keys more before x at has k y p below read is =
     elim (cases_lt k n) [
       | inl less ↦ Contains-append_left keys more p (before k y p less read is)
       | inr no_less ↦
@@ -244,8 +244,8 @@ collected_more plans ops n keys more before x at has k y p below read is =
     ]
 
 -- each receive has a list where all patterns are there
-pub listed_all : (plans : List Plan) (n : ℕ) (keys : List Pattern) → ((p : Pattern) (k : ℕ) (x : OpId) → k < n → slice_get (operations plans) k ≡ Some x → pattern_of x (kind_at plans x) ≡ Some p → Contains keys p) → length (operations plans) ≤ n → AreListed plans keys
-listed_all plans n keys there all x r =
+pub listed_if_all_collected : (plans : List Plan) (n : ℕ) (keys : List Pattern) → ((p : Pattern) (k : ℕ) (x : OpId) → k < n → slice_get (operations plans) k ≡ Some x → pattern_of x (kind_at plans x) ≡ Some p → Contains keys p) → length (operations plans) ≤ n → AreListed plans keys
+listed_if_all_collected plans n keys there all x r =
     let place = at_place (operations plans) x (kind_listed plans x _ r.kind) in
     let p : Pattern = record { rank = x.rank; from = r.from; tag = r.tag } in
     let is : pattern_of x (kind_at plans x) ≡ Some p = ap (pattern_of x) r.kind in

@@ -11,7 +11,7 @@ use Rattle.goal_graph.specs.Matching.{Pair, pair_of, fits, is_paired, is_open_re
 use Rattle.goal_graph.proofs.ForCallers.{place_injective, is_act_class, happened_unless_newest}
 use Rattle.sim_match.specs.PostsAndArrivals.{is_post_or_arrival, is_post_or_arrival_class, send_for, receive_for}
 
--- one more post or arrival, and one more of another action
+-- the filtered history after a post or arrival, and after any other action
 pub filtered_with_newest : (a : Act) (h : List Act) → is_post_or_arrival a ≡ true → filter is_post_or_arrival (a ∷ h) ≡ a ∷ filter is_post_or_arrival h
 filtered_with_newest a h e = cond-true (is_post_or_arrival a) (a ∷ filter is_post_or_arrival h) (filter is_post_or_arrival h) e
 
@@ -49,23 +49,23 @@ module _ (plans : List Plan) where
       ap is_post_or_arrival_class (place_injective a.class Arrive (eqb-true (place a.class) 0 inner.0))
 
   -- with the same pairs before
-  new_pair_same : (ps : List Pair) (h : List Act) (class : Class) (x : OpId) → new_pair plans ps (filter is_post_or_arrival h) class x ≡ new_pair plans ps h class x
-  new_pair_same ps h Arrive m =
+  new_pair_ignores_other_actions : (ps : List Pair) (h : List Act) (class : Class) (x : OpId) → new_pair plans ps (filter is_post_or_arrival h) class x ≡ new_pair plans ps h class x
+  new_pair_ignores_other_actions ps h Arrive m =
       ap (option_map (λ (x : OpId). pair_of m x)) (oldest_filtered (is_open_receive plans ps m) (open_receive_filtered ps m) h)
-  new_pair_same ps h Post x =
+  new_pair_ignores_other_actions ps h Post x =
       ap (option_map (λ (m : OpId). pair_of m x)) (oldest_filtered (is_open_send plans ps x) (open_send_filtered ps x) h)
-  new_pair_same ps h Serve x = refl
-  new_pair_same ps h Data x = refl
-  new_pair_same ps h Begin x = refl
+  new_pair_ignores_other_actions ps h Serve x = refl
+  new_pair_ignores_other_actions ps h Data x = refl
+  new_pair_ignores_other_actions ps h Begin x = refl
 
-  other_makes_none : (ps : List Pair) (h : List Act) (class : Class) (x : OpId) → is_post_or_arrival_class class ≡ false → new_pair plans ps h class x ≡ None
-  other_makes_none ps h Arrive x e = absurd (both_ways _ e refl)
-  other_makes_none ps h Post x e = absurd (both_ways _ e refl)
-  other_makes_none ps h Serve x e = refl
-  other_makes_none ps h Data x e = refl
-  other_makes_none ps h Begin x e = refl
+  other_class_makes_no_pair : (ps : List Pair) (h : List Act) (class : Class) (x : OpId) → is_post_or_arrival_class class ≡ false → new_pair plans ps h class x ≡ None
+  other_class_makes_no_pair ps h Arrive x e = absurd (both_ways _ e refl)
+  other_class_makes_no_pair ps h Post x e = absurd (both_ways _ e refl)
+  other_class_makes_no_pair ps h Serve x e = refl
+  other_class_makes_no_pair ps h Data x e = refl
+  other_class_makes_no_pair ps h Begin x e = refl
 
-  -- pairs look at posts and arrivals alone
+  -- pairs depend only on posts and arrivals
   pub pairs_filtered : (h : List Act) → pairs plans (filter is_post_or_arrival h) ≡ pairs plans h
   unfolding pairs
   pairs_filtered [] = refl
@@ -73,14 +73,14 @@ module _ (plans : List Plan) where
     where
       go : pairs plans (filter is_post_or_arrival h) ≡ pairs plans h → ((is_post_or_arrival a ≡ true) ⊎ (is_post_or_arrival a ≡ false)) → pairs plans (filter is_post_or_arrival (a ∷ h)) ≡ add_pair (pairs plans h) (new_pair plans (pairs plans h) h a.class a.op)
       go rest (inl t) =
-          ap (pairs plans) (filtered_with_newest a h t) ∙ ap (λ (ps : List Pair). add_pair ps (new_pair plans ps (filter is_post_or_arrival h) a.class a.op)) rest ∙ ap (add_pair (pairs plans h)) (new_pair_same (pairs plans h) h a.class a.op)
+          ap (pairs plans) (filtered_with_newest a h t) ∙ ap (λ (ps : List Pair). add_pair ps (new_pair plans ps (filter is_post_or_arrival h) a.class a.op)) rest ∙ ap (add_pair (pairs plans h)) (new_pair_ignores_other_actions (pairs plans h) h a.class a.op)
       go rest (inr f) =
-          ap (pairs plans) (filtered_without_newest a h f) ∙ rest ∙ ap (add_pair (pairs plans h)) (sym (other_makes_none (pairs plans h) h a.class a.op f))
+          ap (pairs plans) (filtered_without_newest a h f) ∙ rest ∙ ap (add_pair (pairs plans h)) (sym (other_class_makes_no_pair (pairs plans h) h a.class a.op f))
 
-  -- and so do the pair that one more action makes, and the answers to a post and an arrival
+  -- so do the pair that the next action makes, and the answers to a post and an arrival
   pub new_pair_filtered : (h : List Act) (class : Class) (x : OpId) → new_pair plans (pairs plans (filter is_post_or_arrival h)) (filter is_post_or_arrival h) class x ≡ new_pair plans (pairs plans h) h class x
   new_pair_filtered h class x =
-      ap (λ (ps : List Pair). new_pair plans ps (filter is_post_or_arrival h) class x) (pairs_filtered h) ∙ new_pair_same (pairs plans h) h class x
+      ap (λ (ps : List Pair). new_pair plans ps (filter is_post_or_arrival h) class x) (pairs_filtered h) ∙ new_pair_ignores_other_actions (pairs plans h) h class x
 
   pub send_for_filtered : (h : List Act) (x : OpId) → send_for plans (filter is_post_or_arrival h) x ≡ send_for plans h x
   send_for_filtered h x = ap (option_map (λ (p : Pair). p.send)) (new_pair_filtered h Post x)

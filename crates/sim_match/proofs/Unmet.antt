@@ -17,12 +17,12 @@ use Rattle.sim_match.specs.MatchLists.{entries_of}
 use Rattle.sim_match.specs.Matcher.{unmet_of}
 use Rattle.sim_match.proofs.Entries.{entries_after_its_class, entries_after_other_class, entries_none}
 use Rattle.sim_match.proofs.Finding.{find_filter, filter_last_fails}
-use Rattle.sim_match.proofs.Pairs.{paired_more, pairs_with}
+use Rattle.sim_match.proofs.Pairs.{paired_with_new_pair, pairs_with_new_pair}
 
 -- those that pass a test, from those that pass a weaker one
-filter_narrow : {X : Type 0} (f g : X → Bool) (xs : List X) → ((x : X) → f x ≡ true → g x ≡ true) → filter f (filter g xs) ≡ filter f xs
-filter_narrow f g [] narrow = refl
-filter_narrow {X} f g (x ∷ xs) narrow = go (g x) (f x) refl refl (filter_narrow f g xs narrow)
+filter_of_weaker_filter : {X : Type 0} (f g : X → Bool) (xs : List X) → ((x : X) → f x ≡ true → g x ≡ true) → filter f (filter g xs) ≡ filter f xs
+filter_of_weaker_filter f g [] narrow = refl
+filter_of_weaker_filter {X} f g (x ∷ xs) narrow = go (g x) (f x) refl refl (filter_of_weaker_filter f g xs narrow)
   where
     go : (s t : Bool) → g x ≡ s → f x ≡ t → filter f (filter g xs) ≡ filter f xs → filter f (cond s (x ∷ filter g xs) (filter g xs)) ≡ cond t (x ∷ filter f xs) (filter f xs)
     go true t e d rest = ap (λ (b : Bool). cond b (x ∷ filter f (filter g xs)) (filter f (filter g xs))) d ∙ ap (λ (ys : List X). cond t (x ∷ ys) ys) rest
@@ -89,12 +89,12 @@ module _ (plans : List Plan) where
         go : (o : Option Pair) → makes ≡ o → is_none o ≡ false → is_paired (pairs plans (a ∷ h)) a.op ≡ true
         go None e f = absurd (both_ways true f refl)
         go (Some p) e f =
-            ap (λ (ps : List Pair). is_paired ps a.op) (pairs_with plans a h p e) ∙ paired_more p (pairs plans h) a.op ∙ ap (λ (b : Bool). is_paired (pairs plans h) a.op || (b || same_op p.recv a.op)) (arrival_pairs_its_send plans (pairs plans h) h a.class a.op arrives p e) ∙ or_true (is_paired (pairs plans h) a.op)
+            ap (λ (ps : List Pair). is_paired ps a.op) (pairs_with_new_pair plans a h p e) ∙ paired_with_new_pair p (pairs plans h) a.op ∙ ap (λ (b : Bool). is_paired (pairs plans h) a.op || (b || same_op p.recv a.op)) (arrival_pairs_its_send plans (pairs plans h) h a.class a.op arrives p e) ∙ or_true (is_paired (pairs plans h) a.op)
 
   -- what is true of each arrival is true of each of these
-  pub unmet_all : (P : MatchEntry → Type 0) (h : List Act) → All P (entries_of Arrive h) → All P (unmet_of plans h)
-  unmet_all P [] all = All-same P (unmet_of plans []) [] unmet_none (All-nil P)
-  unmet_all P (a ∷ h) all = go (is_of Arrive a) (is_none (makes a h)) refl refl (unmet_all P h)
+  pub unmet_satisfy_what_arrivals_do : (P : MatchEntry → Type 0) (h : List Act) → All P (entries_of Arrive h) → All P (unmet_of plans h)
+  unmet_satisfy_what_arrivals_do P [] all = All-same P (unmet_of plans []) [] unmet_none (All-nil P)
+  unmet_satisfy_what_arrivals_do P (a ∷ h) all = go (is_of Arrive a) (is_none (makes a h)) refl refl (unmet_satisfy_what_arrivals_do P h)
     where
       go : (s n : Bool) → is_of Arrive a ≡ s → is_none (makes a h) ≡ n → (All P (entries_of Arrive h) → All P (unmet_of plans h)) → All P (unmet_of plans (a ∷ h))
       go false n e f rest =
@@ -119,9 +119,9 @@ module _ (plans : List Plan) where
           omega (arith, short, ap length (unmet_arrival a h e ∙ ap (λ (b : Bool). unmet_of plans h ++ (if b then last a h ∷ [] else [])) f ∙ append-nil (unmet_of plans h)))
 
   -- they are no more than the arrivals, and those that wait are the same
-  pub unmet_fewer : (p : MatchEntry → Bool) (h : List Act) → length (filter p (unmet_of plans h)) ≤ length (filter p (entries_of Arrive h))
-  unmet_fewer p [] = omega (arith, ap (λ (es : List MatchEntry). length (filter p es)) unmet_none)
-  unmet_fewer p (a ∷ h) = go (is_of Arrive a) (is_none (makes a h)) refl refl (unmet_fewer p h)
+  pub unmet_no_more_than_arrivals : (p : MatchEntry → Bool) (h : List Act) → length (filter p (unmet_of plans h)) ≤ length (filter p (entries_of Arrive h))
+  unmet_no_more_than_arrivals p [] = omega (arith, ap (λ (es : List MatchEntry). length (filter p es)) unmet_none)
+  unmet_no_more_than_arrivals p (a ∷ h) = go (is_of Arrive a) (is_none (makes a h)) refl refl (unmet_no_more_than_arrivals p h)
     where
       go : (s n : Bool) → is_of Arrive a ≡ s → is_none (makes a h) ≡ n → length (filter p (unmet_of plans h)) ≤ length (filter p (entries_of Arrive h)) → length (filter p (unmet_of plans (a ∷ h))) ≤ length (filter p (entries_of Arrive (a ∷ h)))
       go false n e f fewer =
@@ -146,13 +146,13 @@ module _ (plans : List Plan) where
       go false f = refl
       go true f = absurd (both_ways (waits (a ∷ h) e) (ap not (paired_stays plans a h e.op f)) now)
 
-  pub unmet_waits : (h : List Act) → filter (waits h) (unmet_of plans h) ≡ filter (waits h) (entries_of Arrive h)
-  unmet_waits [] = ap (filter (waits [])) (unmet_none ∙ sym (entries_none Arrive))
-  unmet_waits (a ∷ h) = go (is_of Arrive a) (is_none (makes a h)) refl refl (before (unmet_waits h))
+  pub waiting_unmet_are_waiting_arrivals : (h : List Act) → filter (waits h) (unmet_of plans h) ≡ filter (waits h) (entries_of Arrive h)
+  waiting_unmet_are_waiting_arrivals [] = ap (filter (waits [])) (unmet_none ∙ sym (entries_none Arrive))
+  waiting_unmet_are_waiting_arrivals (a ∷ h) = go (is_of Arrive a) (is_none (makes a h)) refl refl (before (waiting_unmet_are_waiting_arrivals h))
     where
       before : filter (waits h) (unmet_of plans h) ≡ filter (waits h) (entries_of Arrive h) → filter (waits (a ∷ h)) (unmet_of plans h) ≡ filter (waits (a ∷ h)) (entries_of Arrive h)
       before rest =
-          sym (filter_narrow (waits (a ∷ h)) (waits h) (unmet_of plans h) (waited_before a h)) ∙ ap (filter (waits (a ∷ h))) rest ∙ filter_narrow (waits (a ∷ h)) (waits h) (entries_of Arrive h) (waited_before a h)
+          sym (filter_of_weaker_filter (waits (a ∷ h)) (waits h) (unmet_of plans h) (waited_before a h)) ∙ ap (filter (waits (a ∷ h))) rest ∙ filter_of_weaker_filter (waits (a ∷ h)) (waits h) (entries_of Arrive h) (waited_before a h)
 
       go : (s n : Bool) → is_of Arrive a ≡ s → is_none (makes a h) ≡ n → filter (waits (a ∷ h)) (unmet_of plans h) ≡ filter (waits (a ∷ h)) (entries_of Arrive h) → filter (waits (a ∷ h)) (unmet_of plans (a ∷ h)) ≡ filter (waits (a ∷ h)) (entries_of Arrive (a ∷ h))
       go false n e f same =
@@ -165,4 +165,4 @@ module _ (plans : List Plan) where
   -- the first of them that waits and passes a test is the first such arrival
   pub unmet_found : (h : List Act) (q : MatchEntry → Bool) → find (λ (e : MatchEntry). waits h e && q e) (unmet_of plans h) ≡ find (λ (e : MatchEntry). waits h e && q e) (entries_of Arrive h)
   unmet_found h q =
-      find_agree (λ (e : MatchEntry). waits h e && q e) (λ (e : MatchEntry). q e && waits h e) (λ e. and_comm (waits h e) (q e)) (unmet_of plans h) ∙ sym (find_filter (waits h) q (unmet_of plans h)) ∙ ap (find q) (unmet_waits h) ∙ find_filter (waits h) q (entries_of Arrive h) ∙ find_agree (λ (e : MatchEntry). q e && waits h e) (λ (e : MatchEntry). waits h e && q e) (λ e. and_comm (q e) (waits h e)) (entries_of Arrive h)
+      find_agree (λ (e : MatchEntry). waits h e && q e) (λ (e : MatchEntry). q e && waits h e) (λ e. and_comm (waits h e) (q e)) (unmet_of plans h) ∙ sym (find_filter (waits h) q (unmet_of plans h)) ∙ ap (find q) (waiting_unmet_are_waiting_arrivals h) ∙ find_filter (waits h) q (entries_of Arrive h) ∙ find_agree (λ (e : MatchEntry). q e && waits h e) (λ (e : MatchEntry). waits h e && q e) (λ e. and_comm (q e) (waits h e)) (entries_of Arrive h)

@@ -8,8 +8,8 @@ use Rattle.goal_graph.specs.Keys.{less}
 use Rattle.sim_order.specs.Order.{lexical}
 use Rattle.sim_order.specs.Events.{event_before}
 
-first_part : (m n : ℕ) (rest : Bool) → lexical (nat_lt m n) (nat_lt n m) rest ≡ (nat_lt m n || ((m == n) && rest))
-first_part m n rest = elim (cases_order m n) [
+lexical_of_number_and_rest : (m n : ℕ) (rest : Bool) → lexical (nat_lt m n) (nat_lt n m) rest ≡ (nat_lt m n || ((m == n) && rest))
+lexical_of_number_and_rest m n rest = elim (cases_order m n) [
   | inl same ↦ rw (le-ltb m n (omega (arith, same)), le-ltb n m (omega (arith, same)), eq-eqb m n same) refl
   | inr rest ↦ elim rest [
     | inl below ↦ rw (lt-ltb m n below) refl
@@ -17,8 +17,8 @@ first_part m n rest = elim (cases_order m n) [
   ]
 ]
 
-last_part : (m n : ℕ) → nat_lt m n ≡ (nat_lt m n || ((m == n) && false))
-last_part m n = go (nat_lt m n) (m == n)
+less_without_rest : (m n : ℕ) → nat_lt m n ≡ (nat_lt m n || ((m == n) && false))
+less_without_rest m n = go (nat_lt m n) (m == n)
   where
     go : (a b : Bool) → a ≡ (a || (b && false))
     go true b = refl
@@ -28,7 +28,7 @@ last_part m n = go (nat_lt m n) (m == n)
 pub event_by_key : (a b : Timed) → event_before a b ≡ less (key a) (key b)
 unfolding less
 event_by_key a b =
-    first_part a.time b.time _
-    ∙ ap (λ (r : Bool). nat_lt a.time b.time || ((a.time == b.time) && r)) (first_part (place a.class) (place b.class) _
-    ∙ ap (λ (r : Bool). nat_lt (place a.class) (place b.class) || ((place a.class == place b.class) && r)) (first_part a.op.rank b.op.rank _
-    ∙ ap (λ (r : Bool). nat_lt a.op.rank b.op.rank || ((a.op.rank == b.op.rank) && r)) (last_part a.op.op b.op.op)))
+    lexical_of_number_and_rest a.time b.time _
+    ∙ ap (λ (r : Bool). nat_lt a.time b.time || ((a.time == b.time) && r)) (lexical_of_number_and_rest (place a.class) (place b.class) _
+    ∙ ap (λ (r : Bool). nat_lt (place a.class) (place b.class) || ((place a.class == place b.class) && r)) (lexical_of_number_and_rest a.op.rank b.op.rank _
+    ∙ ap (λ (r : Bool). nat_lt a.op.rank b.op.rank || ((a.op.rank == b.op.rank) && r)) (less_without_rest a.op.op b.op.op)))

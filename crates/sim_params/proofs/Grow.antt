@@ -39,15 +39,15 @@ pub since_absent : (test : List Act → Bool) (a : Timed) (h : List Timed) → t
 unfolding since
 since_absent test a h e f = cond-false _ _ _ e ∙ cond-false _ _ _ f
 
-stays_at : (test : List Act → Bool) (a : Timed) (h : List Timed) → Stays test → test (plain h) ≡ true → test (plain (a ∷ h)) ≡ true
+passed_test_stays_passed : (test : List Act → Bool) (a : Timed) (h : List Timed) → Stays test → test (plain h) ≡ true → test (plain (a ∷ h)) ≡ true
 unfolding plain
-stays_at test a h stays e = stays (plain_act a) (plain h) e
+passed_test_stays_passed test a h stays e = stays (plain_act a) (plain h) e
 
 pub since_of_unpassed : (test : List Act → Bool) (h : List Timed) → Stays test → test (plain h) ≡ false → since test h ≡ 0
 unfolding since
 since_of_unpassed test [] stays e = refl
 since_of_unpassed test (a ∷ h) stays e =
-    elim (cases_Bool (test (plain h))) [ inl t ↦ absurd (both_ways _ e (stays_at test a h stays t)) | inr f ↦ since_absent test a h f e ]
+    elim (cases_Bool (test (plain h))) [ inl t ↦ absurd (both_ways _ e (passed_test_stays_passed test a h stays t)) | inr f ↦ since_absent test a h f e ]
 
 pub since_grows : (test : List Act → Bool) (a : Timed) (h : List Timed) → Stays test → since test h ≤ since test (a ∷ h)
 since_grows test a h stays =

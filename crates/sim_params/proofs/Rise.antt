@@ -18,7 +18,7 @@ use Rattle.goal_graph.specs.Action.{Act, happened, plain, plain_act}
 use Rattle.goal_graph.specs.Matching.{pairs, is_paired}
 use Rattle.goal_graph.specs.Allowed.{has_started, has_ended, is_met, is_ready, is_served, may, allowed}
 use Rattle.goal_graph.specs.Interleaving.{IsInterleaving}
-use Rattle.goal_graph.proofs.ForCallers.{started_send, happened_before, is_some_from, cases_some, allowed_may, allowed_fresh, allowed_from, data_paired, partners_mutual}
+use Rattle.goal_graph.proofs.ForCallers.{started_send, not_happened_before_newest, is_some_from, value_of_is_some, allowed_may, allowed_fresh, allowed_from, data_paired, partners_mutual}
 use Rattle.sim_params.specs.Costs.{CostModel, flight, is_eager}
 use Rattle.sim_params.specs.Times.{since, greatest, mate, met_at, ready, paired_at, there_at, time_of, time, Possible}
 use Rattle.sim_params.specs.Run.{IsRun}
@@ -63,12 +63,12 @@ module _ (plans : List Plan) (costs : CostModel) where
 
       newly : (m : OpId) → mate plans costs (a ∷ h) x ≡ Some m → eager m ≡ true → is_paired (pairs plans (plain h)) x ≡ false
       newly m e s =
-          false_from_ne_true _ (λ t. let o = cases_some (mate plans costs h x) t in let same : Some m ≡ Some o.0 = sym e ∙ mate_stays plans costs a h x o.0 o.1 in apart m (inl s) (o.1 ∙ sym same))
+          false_from_ne_true _ (λ t. let o = value_of_is_some (mate plans costs h x) t in let same : Some m ≡ Some o.0 = sym e ∙ mate_stays plans costs a h x o.0 o.1 in apart m (inl s) (o.1 ∙ sym same))
 
       -- a partner that had transferred its data was the partner before
       partner_before : (m : OpId) → mate plans costs (a ∷ h) x ≡ Some m → happened Data m (plain h) ≡ true → ⊥
       partner_before m e t =
-          let o = cases_some (mate plans costs h m) (data_paired plans eager (plain h) m i.0 t) in
+          let o = value_of_is_some (mate plans costs h m) (data_paired plans eager (plain h) m i.0 t) in
           let same : Some o.0 ≡ Some x = sym (mate_stays plans costs a h m o.0 o.1) ∙ partners_mutual plans eager (plain (a ∷ h)) x m i e in
           apart m (inr t) (partners_mutual plans eager (plain h) m x i.0 (o.1 ∙ same))
 
@@ -101,7 +101,7 @@ module _ (plans : List Plan) (costs : CostModel) where
   unfolding plain time
   newly_possible a b h i p q =
       let eager = is_eager plans costs in
-      let fresh : happened b.class b.op (plain h) ≡ false = happened_before b.class b.op (plain_act a) (plain h) (allowed_fresh plans eager (plain (a ∷ h)) b.class b.op p.allowed) in
+      let fresh : happened b.class b.op (plain h) ≡ false = not_happened_before_newest b.class b.op (plain_act a) (plain h) (allowed_fresh plans eager (plain (a ∷ h)) b.class b.op p.allowed) in
       let before : may plans eager (plain h) b.class b.op (kind_at plans b.op) ≡ false = false_from_ne_true _ (λ t. both_ways _ q (allowed_from plans eager (plain h) b.class b.op fresh t)) in
       subst (λ n. a.time ≤ n) (sym p.time) (time_of_rises a h b.class b.op (kind_at plans b.op) refl i before (allowed_may plans eager (plain (a ∷ h)) b.class b.op p.allowed))
 
@@ -117,15 +117,15 @@ module _ (plans : List Plan) (costs : CostModel) where
           elim (cases_lt (time plans costs h b.class b.op) a.time) [ inl s ↦ absurd (r.1.least before (possible_at plans costs h b.class b.op t) (inl s)) | inr s ↦ le_trans s grows ]
 
   -- no time of a run is later than that of a possible action
-  pub possible_last : (h : List Timed) (b : Timed) → IsRun plans costs h → Possible plans costs h b → All (λ (a : Timed). a.time ≤ b.time) h
-  possible_last [] b r p = All-nil (λ (a : Timed). a.time ≤ b.time)
-  possible_last (a ∷ h) b r p =
+  pub possible_not_earlier_than_run : (h : List Timed) (b : Timed) → IsRun plans costs h → Possible plans costs h b → All (λ (a : Timed). a.time ≤ b.time) h
+  possible_not_earlier_than_run [] b r p = All-nil (λ (a : Timed). a.time ≤ b.time)
+  possible_not_earlier_than_run (a ∷ h) b r p =
       let le : a.time ≤ b.time = next_rises a b h r p in
-      All-cons (λ (c : Timed). c.time ≤ b.time) a h le (All-weaker (λ (c : Timed). c.time ≤ a.time) (λ (c : Timed). c.time ≤ b.time) (λ c s. le_trans s le) h (possible_last h a r.0 r.1.possible))
+      All-cons (λ (c : Timed). c.time ≤ b.time) a h le (All-weaker (λ (c : Timed). c.time ≤ a.time) (λ (c : Timed). c.time ≤ b.time) (λ c s. le_trans s le) h (possible_not_earlier_than_run h a r.0 r.1.possible))
 
   -- times rise along a run
   pub times_rise : (a b : Timed) (h : List Timed) → IsRun plans costs (b ∷ a ∷ h) → a.time ≤ b.time
   times_rise a b h r = next_rises a b h r.0 r.1.possible
 
-  pub newest_last : (a : Timed) (h : List Timed) → IsRun plans costs (a ∷ h) → All (λ (b : Timed). b.time ≤ a.time) h
-  newest_last a h r = possible_last h a r.0 r.1.possible
+  pub newest_is_latest : (a : Timed) (h : List Timed) → IsRun plans costs (a ∷ h) → All (λ (b : Timed). b.time ≤ a.time) h
+  newest_is_latest a h r = possible_not_earlier_than_run h a r.0 r.1.possible

@@ -17,13 +17,13 @@ use Rattle.sim_params.proofs.Accepted.{value_within}
 use Rattle.goal_graph.proofs.ForCallers.{kind_from_op}
 
 -- a message's size and a calc's duration are within their limits
-pub few_bytes : (o : Op) (bytes to tag : ℕ) → value_fits o.kind o.nic ≡ true → o.kind ≡ Send bytes to tag → bytes < 2 ^ 40
-few_bytes o bytes to tag fits k =
+pub send_bytes_within_limit : (o : Op) (bytes to tag : ℕ) → value_fits o.kind o.nic ≡ true → o.kind ≡ Send bytes to tag → bytes < 2 ^ 40
+send_bytes_within_limit o bytes to tag fits k =
     let within : nat_le bytes 1099511627775 ≡ true = subst (λ (k : Kind). value_fits k o.nic ≡ true) k fits in
     omega (arith, leb-true bytes 1099511627775 within)
 
-pub few_nanos : (o : Op) (nanos : ℕ) → value_fits o.kind o.nic ≡ true → o.kind ≡ Calc nanos → nanos < 2 ^ 48
-few_nanos o nanos fits k =
+pub calc_nanos_within_limit : (o : Op) (nanos : ℕ) → value_fits o.kind o.nic ≡ true → o.kind ≡ Calc nanos → nanos < 2 ^ 48
+calc_nanos_within_limit o nanos fits k =
     let within = subst (λ (k : Kind). value_fits k o.nic ≡ true) k fits in
     omega (arith, leb-true nanos 281474976710655 (and_parts (nat_le nanos 281474976710655) _ within).0)
 
@@ -56,9 +56,9 @@ module _ (plans : List Plan) (costs : CostModel) (accepted : IsAccepted plans) (
 
   share_of_kind_bound : (x : OpId) (o : Op) → op_at plans x ≡ Some o → (k : Kind) → o.kind ≡ k → share plans costs x ≤ 2 ^ 66
   share_of_kind_bound x o e (Calc nanos) f =
-      omega (arith, share_calc plans costs x nanos (kind_from_op plans x o _ e f), few_nanos o nanos (value_within plans accepted x o e) f)
+      omega (arith, share_calc plans costs x nanos (kind_from_op plans x o _ e f), calc_nanos_within_limit o nanos (value_within plans accepted x o e) f)
   share_of_kind_bound x o e (Send bytes to tag) f =
-      send_bound x bytes to tag (kind_from_op plans x o _ e f) (few_bytes o bytes to tag (value_within plans accepted x o e) f)
+      send_bound x bytes to tag (kind_from_op plans x o _ e f) (send_bytes_within_limit o bytes to tag (value_within plans accepted x o e) f)
   share_of_kind_bound x o e (Recv room from tag) f = omega (arith, share_recv plans costs x room from tag (kind_from_op plans x o _ e f))
 
   pub share_bound : (x : OpId) → share plans costs x ≤ 2 ^ 66

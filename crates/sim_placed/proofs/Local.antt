@@ -9,7 +9,7 @@ use Rattle.goal_graph.specs.Action.{is_act, happened, plain, plain_act}
 use Rattle.goal_graph.proofs.ForCallers.{happened_stays, happened_cases, happened_none, happened_unless_newest, happened_new, is_act_op}
 use Rattle.sim_params.specs.Times.{since}
 use Rattle.sim_params.proofs.ForCallers.{since_kept, since_new}
-use Rattle.sim_placed.proofs.Tails.{IsTail, whole, newer, on_rank, on_here, on_other, Below, Rises}
+use Rattle.sim_placed.proofs.Tails.{IsTail, whole, newer, on_rank, on_rank_of_own_action, on_rank_of_other_action, Below, Rises}
 
 -- whether it has happened, and when
 abbrev pub has_happened : Class → OpId → List Timed → Bool
@@ -48,8 +48,8 @@ has_happened_local c x [] = refl
 has_happened_local c x (a ∷ h) = go (has_happened_local c x h) (cases_eq a.op.rank x.rank)
   where
     go : has_happened c x h ≡ has_happened c x (on_rank x.rank h) → (a.op.rank ≡ x.rank) ⊎ (a.op.rank ≡ x.rank → ⊥) → has_happened c x (a ∷ h) ≡ has_happened c x (on_rank x.rank (a ∷ h))
-    go rest (inl e) = has_happened_same c x a h (on_rank x.rank h) rest ∙ ap (has_happened c x) (sym (on_here x.rank a h e))
-    go rest (inr ne) = has_happened_other c x a h ne ∙ (rest ∙ ap (has_happened c x) (sym (on_other x.rank a h ne)))
+    go rest (inl e) = has_happened_same c x a h (on_rank x.rank h) rest ∙ ap (has_happened c x) (sym (on_rank_of_own_action x.rank a h e))
+    go rest (inr ne) = has_happened_other c x a h ne ∙ (rest ∙ ap (has_happened c x) (sym (on_rank_of_other_action x.rank a h ne)))
 
 pub has_happened_tail : (c : Class) (x : OpId) (u v : List Timed) → IsTail u v → has_happened c x u ≡ true → has_happened c x v ≡ true
 has_happened_tail c x u v whole e = e
@@ -69,14 +69,14 @@ time_happened_local c x (a ∷ h) e = go (time_happened_local c x h) (cases_Bool
   where
     old : (time_happened c x h ≡ time_happened c x (on_rank x.rank h)) → has_happened c x h ≡ true → (a.op.rank ≡ x.rank) ⊎ (a.op.rank ≡ x.rank → ⊥) → time_happened c x (a ∷ h) ≡ time_happened c x (on_rank x.rank (a ∷ h))
     old rest t (inl is) =
-        since_kept (happened c x) a h t ∙ (rest ∙ (sym (since_kept (happened c x) a (on_rank x.rank h) (sym (has_happened_local c x h) ∙ t)) ∙ ap (time_happened c x) (sym (on_here x.rank a h is))))
+        since_kept (happened c x) a h t ∙ (rest ∙ (sym (since_kept (happened c x) a (on_rank x.rank h) (sym (has_happened_local c x h) ∙ t)) ∙ ap (time_happened c x) (sym (on_rank_of_own_action x.rank a h is))))
     old rest t (inr ne) =
-        since_kept (happened c x) a h t ∙ (rest ∙ ap (time_happened c x) (sym (on_other x.rank a h ne)))
+        since_kept (happened c x) a h t ∙ (rest ∙ ap (time_happened c x) (sym (on_rank_of_other_action x.rank a h ne)))
 
     new : has_happened c x h ≡ false → (has_happened c x h ≡ true) ⊎ (is_act c x (plain_act a) ≡ true) → time_happened c x (a ∷ h) ≡ time_happened c x (on_rank x.rank (a ∷ h))
     new f (inl t) = absurd (both_ways _ f t)
     new f (inr t) =
-        since_new (happened c x) a h f e ∙ (sym (since_new (happened c x) a (on_rank x.rank h) (sym (has_happened_local c x h) ∙ f) (has_happened_new c x a (on_rank x.rank h) t)) ∙ ap (time_happened c x) (sym (on_here x.rank a h (ap (λ (y : OpId). y.rank) (is_act_op c x (plain_act a) t)))))
+        since_new (happened c x) a h f e ∙ (sym (since_new (happened c x) a (on_rank x.rank h) (sym (has_happened_local c x h) ∙ f) (has_happened_new c x a (on_rank x.rank h) t)) ∙ ap (time_happened c x) (sym (on_rank_of_own_action x.rank a h (ap (λ (y : OpId). y.rank) (is_act_op c x (plain_act a) t)))))
 
     go : (has_happened c x h ≡ true → time_happened c x h ≡ time_happened c x (on_rank x.rank h)) → (has_happened c x h ≡ true) ⊎ (has_happened c x h ≡ false) → time_happened c x (a ∷ h) ≡ time_happened c x (on_rank x.rank (a ∷ h))
     go rest (inl t) = old (rest t) t (cases_eq a.op.rank x.rank)

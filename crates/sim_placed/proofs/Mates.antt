@@ -11,7 +11,7 @@ use Rattle.goal_graph.specs.Action.{happened, plain, plain_act}
 use Rattle.goal_graph.specs.Matching.{pairs, is_paired}
 use Rattle.goal_graph.specs.Interleaving.{IsInterleaving}
 use Rattle.goal_graph.specs.Laws.{HaveMet, IsApart}
-use Rattle.goal_graph.proofs.ForCallers.{partners_iff_met, partners_mutual, partner_of_receive, fits_receive, fits_send, is_some_from, cases_some, is_act_class}
+use Rattle.goal_graph.proofs.ForCallers.{partners_iff_met, partners_mutual, partner_of_receive, fits_receive, fits_send, is_some_from, value_of_is_some, is_act_class}
 use Rattle.sim_params.specs.Costs.{CostModel, is_eager}
 use Rattle.sim_params.specs.Times.{mate, paired_at, Possible}
 use Rattle.sim_params.proofs.ForCallers.{since_kept, since_new}
@@ -73,11 +73,11 @@ module _ (plans : List Plan) (costs : CostModel) where
         -- a receive that no send has met is not paired
         free_receive : ((n : OpId) → Met p n x → ⊥) → is_paired (pairs plans (plain p)) x ≡ false
         free_receive none =
-            false_from_ne_true _ (λ t. let o = cases_some (mate plans costs p x) t in none o.0 (met_of_receive p o.0 x (fits_receive plans x m met.fit) o.1))
+            false_from_ne_true _ (λ t. let o = value_of_is_some (mate plans costs p x) t in none o.0 (met_of_receive p o.0 x (fits_receive plans x m met.fit) o.1))
 
         free_send : ((y : OpId) → Met p m y → ⊥) → is_paired (pairs plans (plain p)) m ≡ false
         free_send none =
-            false_from_ne_true _ (λ t. let o = cases_some (mate plans costs p m) t in none o.0 (met_of_send p each.0 m o.0 (fits_send plans x m met.fit) o.1))
+            false_from_ne_true _ (λ t. let o = value_of_is_some (mate plans costs p m) t in none o.0 (met_of_send p each.0 m o.0 (fits_send plans x m met.fit) o.1))
 
         older : Met p m x → Paired p m x → Paired (a ∷ p) m x
         older before rest =

@@ -17,7 +17,7 @@ use Rattle.goal_graph.specs.Action.{happened, plain}
 use Rattle.goal_graph.specs.Matching.{pairs, is_paired}
 use Rattle.goal_graph.specs.Allowed.{first_class, last_class, has_started, has_ended, is_met, is_ready, is_served, may}
 use Rattle.goal_graph.specs.Laws.{IsApart}
-use Rattle.goal_graph.proofs.ForCallers.{allowed_fresh, allowed_may, allowed_from, is_some_from, cases_some}
+use Rattle.goal_graph.proofs.ForCallers.{allowed_fresh, allowed_may, allowed_from, is_some_from, value_of_is_some}
 use Rattle.sim_params.specs.Costs.{CostModel, flight, flight_one, latency, is_eager}
 use Rattle.sim_params.specs.Times.{since, greatest, mate, cpu, tx, rx, start, met_at, ready, paired_at, there_at, time_of, time, Possible}
 use Rattle.sim_placed.proofs.Tails.{on_rank, Below, Rises}
@@ -136,7 +136,7 @@ module _ (plans : List Plan) (costs : CostModel) (apart : IsApart plans) (w : Li
     moves Arrive None crosses e ok = absurd (true≢false (sym ok))
     moves Data (Some (Send bytes to tag)) crosses e ok =
         let parts = and_parts (not (eager x)) (is_paired (pairs plans (plain q)) x) ok in
-        let o = cases_some (mate plans costs q x) parts.1 in
+        let o = value_of_is_some (mate plans costs q x) parts.1 in
         let both = met_data crosses (record { bytes = bytes; to = to; tag = tag; kind = e }) o.0 o.1 in
         let paired = is_some_from (mate plans costs p x) o.0 (mates plans costs apart p part_p.each x o.0 both.1).0 in
         let at_same = (same_paired plans costs apart w p q part_p.each part_q.each part_p.rises part_q.rises part_p.below part_q.below x o.0 both.1 both.0).0 in

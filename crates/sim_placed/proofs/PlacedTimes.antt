@@ -17,7 +17,7 @@ use Rattle.goal_graph.specs.Matching.{pairs, partner, is_paired}
 use Rattle.goal_graph.specs.Allowed.{last_class, has_started, has_ended, allowed}
 use Rattle.goal_graph.specs.Order.{IsLess, key}
 use Rattle.goal_blocks.specs.Placed.{IsPermutation, IsPlaced, placed_op, placed_act, placed_kind, placed_of}
-use Rattle.goal_blocks.proofs.ForCallers.{happened_placed, kind_placed, mate_placed, paired_placed, started_placed, ended_placed, last_of_placed, allowed_placed, there_and_back, same_number}
+use Rattle.goal_blocks.proofs.ForCallers.{happened_placed, kind_placed, mate_placed, paired_placed, started_placed, ended_placed, last_of_placed, allowed_placed, placed_op_after_back, renaming_keeps_rank_equality}
 use Rattle.sim_params.specs.Costs.{CostModel, cost_of, request_of, latency_of, eager_of, over, gap, flight, latency, is_eager}
 use Rattle.sim_params.specs.Times.{since, greatest, at_partner, holds_tx, holds_rx, mate, cpu_hold, tx_hold, rx_hold, cpu, tx, rx, start, end, met_at, ready, paired_at, there_at, time_of, time, Possible}
 use Rattle.sim_params.specs.Run.{IsNext, IsRun, IsCompleteRun}
@@ -93,83 +93,83 @@ module _ (ranks : ℕ) (to back : ℕ → ℕ) (perm : IsPermutation ranks to ba
   flight_placed m = cost_placed costs.flight there.flight alike.flight m
 
   -- a send is eager if it is so on the ranks renamed back
-  eager_is : (λ (y : OpId). is_eager other there (placed_op to y)) ≡ is_eager plans costs
-  eager_is = λ i y. eager_placed y i
+  eager_of_placed_is_eager : (λ (y : OpId). is_eager other there (placed_op to y)) ≡ is_eager plans costs
+  eager_of_placed_is_eager = λ i y. eager_placed y i
 
   pub allowed_alike : (h : List Timed) (class : Class) (x : OpId) → allowed other (is_eager other there) (plain (acts h)) class (placed_op to x) ≡ allowed plans (is_eager plans costs) (plain h) class x
   allowed_alike h class x =
       ap (λ (l : List Act). allowed other (is_eager other there) l class (placed_op to x)) (plain_placed to h)
-      ∙ (allowed_placed ranks to back perm plans other placed.ops (is_eager other there) placed.needs (plain h) class x ∙ ap (λ (e : OpId → Bool). allowed plans e (plain h) class x) eager_is)
+      ∙ (allowed_placed ranks to back perm plans other placed.ops (is_eager other there) placed.needs (plain h) class x ∙ ap (λ (e : OpId → Bool). allowed plans e (plain h) class x) eager_of_placed_is_eager)
 
   mate_alike : (h : List Timed) (x : OpId) → mate other there (acts h) (placed_op to x) ≡ option_map (placed_op to) (mate plans costs h x)
   mate_alike h x =
       ap (λ (l : List Act). partner (pairs other l) (placed_op to x)) (plain_placed to h) ∙ mate_placed ranks to back perm plans other placed.ops (plain h) x
 
-  at_placed : (f g : OpId → ℕ) → ((m : OpId) → g (placed_op to m) ≡ f m) → (o : Option OpId) → at_partner g (option_map (placed_op to) o) ≡ at_partner f o
-  at_placed f g same None = refl
-  at_placed f g same (Some m) = same m
+  at_partner_placed : (f g : OpId → ℕ) → ((m : OpId) → g (placed_op to m) ≡ f m) → (o : Option OpId) → at_partner g (option_map (placed_op to) o) ≡ at_partner f o
+  at_partner_placed f g same None = refl
+  at_partner_placed f g same (Some m) = same m
 
   -- holds
-  cpu_hold_of : (h : List Timed) (class : Class) (x : OpId) (k : Option Kind) → cpu_hold other there (acts h) class (placed_op to x) (option_map (placed_kind to) k) ≡ cpu_hold plans costs h class x k
-  cpu_hold_of h Begin x (Some (Calc nanos)) = refl
-  cpu_hold_of h Begin x (Some (Send bytes target tag)) =
+  cpu_hold_placed : (h : List Timed) (class : Class) (x : OpId) (k : Option Kind) → cpu_hold other there (acts h) class (placed_op to x) (option_map (placed_kind to) k) ≡ cpu_hold plans costs h class x k
+  cpu_hold_placed h Begin x (Some (Calc nanos)) = refl
+  cpu_hold_placed h Begin x (Some (Send bytes target tag)) =
       λ i. if eager_placed x i then over_placed x i else request_placed costs.over there.over alike.over x i
-  cpu_hold_of h Begin x (Some (Recv room source tag)) = refl
-  cpu_hold_of h Begin x None = refl
-  cpu_hold_of h Data x (Some (Send bytes target tag)) = over_placed x
-  cpu_hold_of h Data x (Some (Calc nanos)) = refl
-  cpu_hold_of h Data x (Some (Recv room source tag)) = refl
-  cpu_hold_of h Data x None = refl
-  cpu_hold_of h Serve x (Some (Recv room source tag)) =
-      ap (at_partner (over other there)) (mate_alike h x) ∙ at_placed (over plans costs) (over other there) over_placed (mate plans costs h x)
-  cpu_hold_of h Serve x (Some (Calc nanos)) = refl
-  cpu_hold_of h Serve x (Some (Send bytes target tag)) = refl
-  cpu_hold_of h Serve x None = refl
-  cpu_hold_of h Arrive x k = refl
-  cpu_hold_of h Post x k = refl
+  cpu_hold_placed h Begin x (Some (Recv room source tag)) = refl
+  cpu_hold_placed h Begin x None = refl
+  cpu_hold_placed h Data x (Some (Send bytes target tag)) = over_placed x
+  cpu_hold_placed h Data x (Some (Calc nanos)) = refl
+  cpu_hold_placed h Data x (Some (Recv room source tag)) = refl
+  cpu_hold_placed h Data x None = refl
+  cpu_hold_placed h Serve x (Some (Recv room source tag)) =
+      ap (at_partner (over other there)) (mate_alike h x) ∙ at_partner_placed (over plans costs) (over other there) over_placed (mate plans costs h x)
+  cpu_hold_placed h Serve x (Some (Calc nanos)) = refl
+  cpu_hold_placed h Serve x (Some (Send bytes target tag)) = refl
+  cpu_hold_placed h Serve x None = refl
+  cpu_hold_placed h Arrive x k = refl
+  cpu_hold_placed h Post x k = refl
 
-  tx_hold_of : (class : Class) (x : OpId) (k : Option Kind) → tx_hold other there class (placed_op to x) (option_map (placed_kind to) k) ≡ tx_hold plans costs class x k
-  tx_hold_of Begin x (Some (Send bytes target tag)) =
+  tx_hold_placed : (class : Class) (x : OpId) (k : Option Kind) → tx_hold other there class (placed_op to x) (option_map (placed_kind to) k) ≡ tx_hold plans costs class x k
+  tx_hold_placed Begin x (Some (Send bytes target tag)) =
       λ i. if eager_placed x i then gap_placed x i else request_placed costs.gap there.gap alike.gap x i
-  tx_hold_of Begin x (Some (Calc nanos)) = refl
-  tx_hold_of Begin x (Some (Recv room source tag)) = refl
-  tx_hold_of Begin x None = refl
-  tx_hold_of Data x (Some (Send bytes target tag)) = gap_placed x
-  tx_hold_of Data x (Some (Calc nanos)) = refl
-  tx_hold_of Data x (Some (Recv room source tag)) = refl
-  tx_hold_of Data x None = refl
-  tx_hold_of Serve x k = refl
-  tx_hold_of Arrive x k = refl
-  tx_hold_of Post x k = refl
+  tx_hold_placed Begin x (Some (Calc nanos)) = refl
+  tx_hold_placed Begin x (Some (Recv room source tag)) = refl
+  tx_hold_placed Begin x None = refl
+  tx_hold_placed Data x (Some (Send bytes target tag)) = gap_placed x
+  tx_hold_placed Data x (Some (Calc nanos)) = refl
+  tx_hold_placed Data x (Some (Recv room source tag)) = refl
+  tx_hold_placed Data x None = refl
+  tx_hold_placed Serve x k = refl
+  tx_hold_placed Arrive x k = refl
+  tx_hold_placed Post x k = refl
 
-  rx_hold_of : (h : List Timed) (class : Class) (x : OpId) (k : Option Kind) → rx_hold other there (acts h) class (placed_op to x) (option_map (placed_kind to) k) ≡ rx_hold plans costs h class x k
-  rx_hold_of h Serve x (Some (Recv room source tag)) =
-      ap (at_partner (gap other there)) (mate_alike h x) ∙ at_placed (gap plans costs) (gap other there) gap_placed (mate plans costs h x)
-  rx_hold_of h Serve x (Some (Calc nanos)) = refl
-  rx_hold_of h Serve x (Some (Send bytes target tag)) = refl
-  rx_hold_of h Serve x None = refl
-  rx_hold_of h Begin x k = refl
-  rx_hold_of h Data x k = refl
-  rx_hold_of h Arrive x k = refl
-  rx_hold_of h Post x k = refl
+  rx_hold_placed : (h : List Timed) (class : Class) (x : OpId) (k : Option Kind) → rx_hold other there (acts h) class (placed_op to x) (option_map (placed_kind to) k) ≡ rx_hold plans costs h class x k
+  rx_hold_placed h Serve x (Some (Recv room source tag)) =
+      ap (at_partner (gap other there)) (mate_alike h x) ∙ at_partner_placed (gap plans costs) (gap other there) gap_placed (mate plans costs h x)
+  rx_hold_placed h Serve x (Some (Calc nanos)) = refl
+  rx_hold_placed h Serve x (Some (Send bytes target tag)) = refl
+  rx_hold_placed h Serve x None = refl
+  rx_hold_placed h Begin x k = refl
+  rx_hold_placed h Data x k = refl
+  rx_hold_placed h Arrive x k = refl
+  rx_hold_placed h Post x k = refl
 
-  holds_tx_of : (class : Class) (k : Option Kind) → holds_tx class (option_map (placed_kind to) k) ≡ holds_tx class k
-  holds_tx_of Begin (Some (Send bytes target tag)) = refl
-  holds_tx_of Begin (Some (Calc nanos)) = refl
-  holds_tx_of Begin (Some (Recv room source tag)) = refl
-  holds_tx_of Begin None = refl
-  holds_tx_of Data (Some (Send bytes target tag)) = refl
-  holds_tx_of Data (Some (Calc nanos)) = refl
-  holds_tx_of Data (Some (Recv room source tag)) = refl
-  holds_tx_of Data None = refl
-  holds_tx_of Serve k = refl
-  holds_tx_of Arrive k = refl
-  holds_tx_of Post k = refl
+  holds_tx_placed : (class : Class) (k : Option Kind) → holds_tx class (option_map (placed_kind to) k) ≡ holds_tx class k
+  holds_tx_placed Begin (Some (Send bytes target tag)) = refl
+  holds_tx_placed Begin (Some (Calc nanos)) = refl
+  holds_tx_placed Begin (Some (Recv room source tag)) = refl
+  holds_tx_placed Begin None = refl
+  holds_tx_placed Data (Some (Send bytes target tag)) = refl
+  holds_tx_placed Data (Some (Calc nanos)) = refl
+  holds_tx_placed Data (Some (Recv room source tag)) = refl
+  holds_tx_placed Data None = refl
+  holds_tx_placed Serve k = refl
+  holds_tx_placed Arrive k = refl
+  holds_tx_placed Post k = refl
 
   -- operations at one place
   place_of : (f : Op → ℕ) → ((o : Op) → f (placed_of to o) ≡ f o) → (x : OpId) (o : Option Op) (y : OpId) (p : Option Op) → same_place f (placed_op to x) (option_map (placed_of to) o) (placed_op to y) (option_map (placed_of to) p) ≡ same_place f x o y p
   place_of f same x (Some o) y (Some p) =
-      λ i. same_number ranks to back perm x.rank y.rank i && (same o i == same p i)
+      λ i. renaming_keeps_rank_equality ranks to back perm x.rank y.rank i && (same o i == same p i)
   place_of f same x None y p = refl
   place_of f same x (Some o) y None = refl
 
@@ -185,7 +185,7 @@ module _ (ranks : ℕ) (to back : ℕ → ℕ) (perm : IsPermutation ranks to ba
     where
       hold : cpu_hold other there (acts h) a.class (placed_op to a.op) (kind_at other (placed_op to a.op)) ≡ cpu_hold plans costs h a.class a.op (kind_at plans a.op)
       hold =
-          ap (cpu_hold other there (acts h) a.class (placed_op to a.op)) (kinds a.op) ∙ cpu_hold_of h a.class a.op (kind_at plans a.op)
+          ap (cpu_hold other there (acts h) a.class (placed_op to a.op)) (kinds a.op) ∙ cpu_hold_placed h a.class a.op (kind_at plans a.op)
 
   tx_placed : (h : List Timed) (x : OpId) → tx other there (acts h) (placed_op to x) ≡ tx plans costs h x
   unfolding tx
@@ -194,11 +194,11 @@ module _ (ranks : ℕ) (to back : ℕ → ℕ) (perm : IsPermutation ranks to ba
       λ i. max (tx_placed h x i) (if holds i && place_placed (λ (o : Op). o.nic) (λ o. refl) x a.op i then a.time + hold i else 0)
     where
       holds : holds_tx a.class (kind_at other (placed_op to a.op)) ≡ holds_tx a.class (kind_at plans a.op)
-      holds = ap (holds_tx a.class) (kinds a.op) ∙ holds_tx_of a.class (kind_at plans a.op)
+      holds = ap (holds_tx a.class) (kinds a.op) ∙ holds_tx_placed a.class (kind_at plans a.op)
 
       hold : tx_hold other there a.class (placed_op to a.op) (kind_at other (placed_op to a.op)) ≡ tx_hold plans costs a.class a.op (kind_at plans a.op)
       hold =
-          ap (tx_hold other there a.class (placed_op to a.op)) (kinds a.op) ∙ tx_hold_of a.class a.op (kind_at plans a.op)
+          ap (tx_hold other there a.class (placed_op to a.op)) (kinds a.op) ∙ tx_hold_placed a.class a.op (kind_at plans a.op)
 
   rx_placed : (h : List Timed) (x : OpId) → rx other there (acts h) (placed_op to x) ≡ rx plans costs h x
   unfolding rx
@@ -208,18 +208,18 @@ module _ (ranks : ℕ) (to back : ℕ → ℕ) (perm : IsPermutation ranks to ba
     where
       hold : rx_hold other there (acts h) a.class (placed_op to a.op) (kind_at other (placed_op to a.op)) ≡ rx_hold plans costs h a.class a.op (kind_at plans a.op)
       hold =
-          ap (rx_hold other there (acts h) a.class (placed_op to a.op)) (kinds a.op) ∙ rx_hold_of h a.class a.op (kind_at plans a.op)
+          ap (rx_hold other there (acts h) a.class (placed_op to a.op)) (kinds a.op) ∙ rx_hold_placed h a.class a.op (kind_at plans a.op)
 
   pub start_placed : (h : List Timed) (x : OpId) → start other there (acts h) (placed_op to x) ≡ start plans costs h x
   start_placed h x =
       since_placed to (has_started plans x) (has_started other (placed_op to x)) (λ l. started_placed ranks to back perm plans other placed.ops x l) h
 
-  ended_since : (h : List Timed) (x : OpId) → since (has_ended other (is_eager other there) (placed_op to x)) (acts h) ≡ since (has_ended plans (is_eager plans costs) x) h
-  ended_since h x =
-      since_placed to (has_ended plans (is_eager plans costs) x) (has_ended other (is_eager other there) (placed_op to x)) (λ l. ended_placed ranks to back perm plans other placed.ops (is_eager other there) x l ∙ ap (λ (e : OpId → Bool). has_ended plans e x l) eager_is) h
+  since_ended_placed : (h : List Timed) (x : OpId) → since (has_ended other (is_eager other there) (placed_op to x)) (acts h) ≡ since (has_ended plans (is_eager plans costs) x) h
+  since_ended_placed h x =
+      since_placed to (has_ended plans (is_eager plans costs) x) (has_ended other (is_eager other there) (placed_op to x)) (λ l. ended_placed ranks to back perm plans other placed.ops (is_eager other there) x l ∙ ap (λ (e : OpId → Bool). has_ended plans e x l) eager_of_placed_is_eager) h
 
   pub end_placed : (h : List Timed) (x : OpId) → end other there (acts h) (placed_op to x) ≡ end plans costs h x
-  end_placed h x = λ i. ended_since h x i + hold i
+  end_placed h x = λ i. since_ended_placed h x i + hold i
     where
       last : last_class (is_eager other there (placed_op to x)) (kind_at other (placed_op to x)) ≡ last_class (is_eager plans costs x) (kind_at plans x)
       last =
@@ -228,7 +228,7 @@ module _ (ranks : ℕ) (to back : ℕ → ℕ) (perm : IsPermutation ranks to ba
       hold : cpu_hold other there (acts h) (last_class (is_eager other there (placed_op to x)) (kind_at other (placed_op to x))) (placed_op to x) (kind_at other (placed_op to x)) ≡ cpu_hold plans costs h (last_class (is_eager plans costs x) (kind_at plans x)) x (kind_at plans x)
       hold =
           ap (λ (c : Class). cpu_hold other there (acts h) c (placed_op to x) (kind_at other (placed_op to x))) last
-          ∙ (ap (cpu_hold other there (acts h) (last_class (is_eager plans costs x) (kind_at plans x)) (placed_op to x)) (kinds x) ∙ cpu_hold_of h (last_class (is_eager plans costs x) (kind_at plans x)) x (kind_at plans x))
+          ∙ (ap (cpu_hold other there (acts h) (last_class (is_eager plans costs x) (kind_at plans x)) (placed_op to x)) (kinds x) ∙ cpu_hold_placed h (last_class (is_eager plans costs x) (kind_at plans x)) x (kind_at plans x))
 
   met_placed : (h : List Timed) (when : When) (y : OpId) → met_at other there (acts h) when (placed_op to y) ≡ met_at plans costs h when y
   met_placed h AfterEnd y = end_placed h y
@@ -299,18 +299,18 @@ module _ (ranks : ℕ) (to back : ℕ → ℕ) (perm : IsPermutation ranks to ba
   abbrev timed_back : Timed → Timed
   timed_back b = record { time = b.time; class = b.class; op = placed_op back b.op }
 
-  there_again : (b : Timed) → placed_timed to (timed_back b) ≡ b
-  there_again b =
-      λ i. record { time = b.time; class = b.class; op = there_and_back ranks to back perm b.op i }
+  placed_timed_of_timed_back : (b : Timed) → placed_timed to (timed_back b) ≡ b
+  placed_timed_of_timed_back b =
+      λ i. record { time = b.time; class = b.class; op = placed_op_after_back ranks to back perm b.op i }
 
   possible_back : (h : List Timed) (b : Timed) → Possible other there (acts h) b → Possible plans costs h (timed_back b)
   possible_back h b p =
-      possible_into h (timed_back b) (subst (λ (a : Timed). Possible other there (acts h) a) (sym (there_again b)) p)
+      possible_into h (timed_back b) (subst (λ (a : Timed). Possible other there (acts h) a) (sym (placed_timed_of_timed_back b)) p)
 
   next_from : (h : List Timed) (a : Timed) → IsNextBy to plans costs h a → IsNext other there (acts h) (placed_timed to a)
   next_from h a next = record {
     possible = possible_from h a next.possible;
-    least = λ b p less. next.least (timed_back b) (possible_back h b p) (subst (λ (c : Timed). IsLess (key c) (key (placed_timed to a))) (sym (there_again b)) less);
+    least = λ b p less. next.least (timed_back b) (possible_back h b p) (subst (λ (c : Timed). IsLess (key c) (key (placed_timed to a))) (sym (placed_timed_of_timed_back b)) less);
   }
 
   next_into : (h : List Timed) (a : Timed) → IsNext other there (acts h) (placed_timed to a) → IsNextBy to plans costs h a

@@ -14,16 +14,16 @@ use Rattle.goal_graph.specs.Action.{place, is_act, happened, plain, plain_act}
 use Rattle.goal_graph.specs.Matching.{accepts, fits_kinds, fits}
 use Rattle.goal_graph.specs.Allowed.{first_class, last_class, is_served, may, allowed}
 use Rattle.goal_graph.specs.Laws.{IsApart}
-use Rattle.goal_graph.proofs.ForCallers.{fits_send, allowed_data, allowed_serve, allowed_arrive, allowed_from, arrived_begun, data_paired, cases_some, is_act_class, is_act_op, place_injective}
+use Rattle.goal_graph.proofs.ForCallers.{fits_send, allowed_data, allowed_serve, allowed_arrive, allowed_from, arrived_begun, data_paired, value_of_is_some, is_act_class, is_act_op, place_injective}
 use Rattle.sim_params.specs.Costs.{CostModel, flight, flight_one, latency, is_eager}
 use Rattle.sim_params.specs.Times.{since, mate, start, end, paired_at, there_at, time_of, time, Possible}
 use Rattle.sim_params.specs.Run.{IsNext, IsRun, IsCompleteRun}
 use Rattle.sim_params.proofs.ForCallers.{since_kept, since_new}
 use Rattle.sim_placed.specs.PlacedRuns.{TakesTime, IsNextBy, IsRunBy, IsCompleteRunBy}
-use Rattle.sim_placed.proofs.Tails.{IsTail, whole, newer, empty_tail, tail_length, tail_of_tail, shorter_tail, on_rank, on_here, on_other, rank_tail, Below, tail_below, next_of_rank, Frontier, find_frontier, below_both, Rises, rises_tail}
+use Rattle.sim_placed.proofs.Tails.{IsTail, whole, newer, empty_tail, tail_length, tail_of_tail, shorter_tail, on_rank, on_rank_of_own_action, on_rank_of_other_action, rank_tail, Below, tail_below, next_of_rank, Frontier, find_frontier, below_each_other_same_on_rank, Rises, rises_tail}
 use Rattle.sim_placed.proofs.Local.{has_happened, time_happened, has_happened_nothing, has_happened_more, has_happened_cases, has_happened_below, has_happened_alike, time_happened_below, time_happened_alike, time_happened_at_most, time_happened_at_least}
 use Rattle.sim_placed.proofs.Mates.{Each, each_interleaving, Met, met_below, mates, met_of_receive, met_of_send, paired_later}
-use Rattle.sim_placed.proofs.Holds.{hold_by}
+use Rattle.sim_placed.proofs.Holds.{hold_with_same_mate}
 use Rattle.sim_placed.proofs.Moved.{IsPart, Crosses, moved}
 
 -- the time of the newest action
@@ -47,16 +47,16 @@ inner_tail : (s : List Timed) (f : Timed) (u : List Timed) → IsTail s (f ∷ u
 inner_tail s f u whole less = absurd (omega (arith, less))
 inner_tail s f u (newer t) less = t
 
-not_data : Arrive ≡ Data → ⊥
-not_data e = cc
+arrive_is_not_data : Arrive ≡ Data → ⊥
+arrive_is_not_data e = cc
 
-not_serve : Arrive ≡ Serve → ⊥
-not_serve e = cc
+arrive_is_not_serve : Arrive ≡ Serve → ⊥
+arrive_is_not_serve e = cc
 
-at_nothing : (c : Class) (x : OpId) (h : List Timed) → has_happened c x h ≡ false → time_happened c x h ≡ 0
+time_of_not_happened_is_zero : (c : Class) (x : OpId) (h : List Timed) → has_happened c x h ≡ false → time_happened c x h ≡ 0
 unfolding since
-at_nothing c x [] e = refl
-at_nothing c x (a ∷ h) e =
+time_of_not_happened_is_zero c x [] e = refl
+time_of_not_happened_is_zero c x (a ∷ h) e =
     let before : has_happened c x h ≡ false = false_from_ne_true _ (λ t. both_ways _ e (has_happened_more c x a h t)) in
     ap (λ (b : Bool). if b then time_happened c x h else (if has_happened c x (a ∷ h) then a.time else 0)) before ∙ ap (λ (b : Bool). if b then a.time else 0) e
 
@@ -76,15 +76,15 @@ module _ (plans : List Plan) (costs : CostModel) (apart : IsApart plans) (takes 
       go (Some (Recv room from tag)) e =
           eqb-true s.to x.rank (and_parts (s.to == x.rank) (accepts from m.rank) (and_parts ((s.to == x.rank) && accepts from m.rank) (accepts tag s.tag) e).0).0
 
-  lags : (x m : OpId) → IsSend plans m → fits plans x m ≡ true → (m.rank ≡ x.rank → ⊥) → (1 ≤ flight plans costs m) × (1 ≤ flight_one plans costs m) × (1 ≤ latency plans costs m)
-  lags x m s fit ne = takes m s (λ e. ne (e ∙ fits_target x m s fit))
+  message_to_other_rank_takes_time : (x m : OpId) → IsSend plans m → fits plans x m ≡ true → (m.rank ≡ x.rank → ⊥) → (1 ≤ flight plans costs m) × (1 ≤ flight_one plans costs m) × (1 ≤ latency plans costs m)
+  message_to_other_rank_takes_time x m s fit ne = takes m s (λ e. ne (e ∙ fits_target x m s fit))
 
   -- how long after its begin a send arrives
   abbrev way : OpId → ℕ
   way m = if eager m then flight plans costs m else flight_one plans costs m
 
-  way_some : (x m : OpId) → IsSend plans m → fits plans x m ≡ true → (m.rank ≡ x.rank → ⊥) → 1 ≤ way m
-  way_some x m s fit ne = go (eager m) (lags x m s fit ne)
+  time_to_arrive_is_positive : (x m : OpId) → IsSend plans m → fits plans x m ≡ true → (m.rank ≡ x.rank → ⊥) → 1 ≤ way m
+  time_to_arrive_is_positive x m s fit ne = go (eager m) (message_to_other_rank_takes_time x m s fit ne)
     where
       go : (b : Bool) → (1 ≤ flight plans costs m) × (1 ≤ flight_one plans costs m) × (1 ≤ latency plans costs m) → 1 ≤ (if b then flight plans costs m else flight_one plans costs m)
       go true l = l.0
@@ -98,7 +98,7 @@ module _ (plans : List Plan) (costs : CostModel) (apart : IsApart plans) (takes 
   time_of_arrive p m s =
       ap (λ (k : Option Kind). time_of plans costs p Arrive m k) s.kind ∙ ap (λ (n : ℕ). n + way m) (start_of_send p m s)
 
-  -- a send has arrived this long after its begin
+  -- a send arrives `way m` after its begin
   arrive_time : (p : List Timed) → Each plans costs p → (m : OpId) → IsSend plans m → has_happened Arrive m p ≡ true → time_happened Arrive m p ≡ time_happened Begin m p + way m
   arrive_time [] each m s e = absurd (has_happened_nothing Arrive m e)
   arrive_time (a ∷ p) each m s e = go (λ t. arrive_time p each.0 m s t) (cases_Bool (has_happened Arrive m p))
@@ -123,12 +123,12 @@ module _ (plans : List Plan) (costs : CostModel) (apart : IsApart plans) (takes 
   -- a send transfers its data no sooner than its request has arrived
   data_arrived : (p : List Timed) → Each plans costs p → (m : OpId) → IsSend plans m → has_happened Data m p ≡ true → has_happened Arrive m p ≡ true
   data_arrived p each m s e =
-      let o = cases_some (mate plans costs p m) (data_paired plans eager (plain p) m (each_interleaving plans costs p each) e) in
+      let o = value_of_is_some (mate plans costs p m) (data_paired plans eager (plain p) m (each_interleaving plans costs p each) e) in
       (met_of_send plans costs apart p each m o.0 s o.1).arrived
 
-  data_later : (p : List Timed) → Each plans costs p → Rises p → (m : OpId) → IsSend plans m → has_happened Data m p ≡ true → time_happened Arrive m p ≤ time_happened Data m p
-  data_later [] each rises m s e = absurd (has_happened_nothing Data m e)
-  data_later (a ∷ p) each rises m s e = go (λ t. data_later p each.0 rises.0 m s t) (cases_Bool (has_happened Data m p))
+  data_not_before_arrive : (p : List Timed) → Each plans costs p → Rises p → (m : OpId) → IsSend plans m → has_happened Data m p ≡ true → time_happened Arrive m p ≤ time_happened Data m p
+  data_not_before_arrive [] each rises m s e = absurd (has_happened_nothing Data m e)
+  data_not_before_arrive (a ∷ p) each rises m s e = go (λ t. data_not_before_arrive p each.0 rises.0 m s t) (cases_Bool (has_happened Data m p))
     where
       new : has_happened Data m p ≡ false → (has_happened Data m p ≡ true) ⊎ (is_act Data m (plain_act a) ≡ true) → time_happened Arrive m (a ∷ p) ≤ time_happened Data m (a ∷ p)
       new f (inl t) = absurd (both_ways _ f t)
@@ -136,7 +136,7 @@ module _ (plans : List Plan) (costs : CostModel) (apart : IsApart plans) (takes 
           let class = is_act_class Data m (plain_act a) t in
           let op = is_act_op Data m (plain_act a) t in
           let ok : allowed plans eager (plain p) Data m ≡ true = subst (λ (y : OpId). allowed plans eager (plain p) Data y ≡ true) op (subst (λ (c : Class). allowed plans eager (plain p) c a.op ≡ true) class each.1.allowed) in
-          let o = cases_some (mate plans costs p m) (allowed_data plans eager (plain p) m ok).2 in
+          let o = value_of_is_some (mate plans costs p m) (allowed_data plans eager (plain p) m ok).2 in
           let arrived = (met_of_send plans costs apart p each.0 m o.0 s o.1).arrived in
           let le = time_happened_at_most Arrive m p a.time rises.1 arrived in
           let kept = since_kept (happened Arrive m) a p arrived in
@@ -151,9 +151,9 @@ module _ (plans : List Plan) (costs : CostModel) (apart : IsApart plans) (takes 
           omega (arith, le, kept, arrived)
       go rest (inr f) = new f (has_happened_cases Data m a p e)
 
-  data_large : (p : List Timed) → Each plans costs p → (m : OpId) → has_happened Data m p ≡ true → eager m ≡ false
-  data_large [] each m e = absurd (has_happened_nothing Data m e)
-  data_large (a ∷ p) each m e = go (λ t. data_large p each.0 m t) (has_happened_cases Data m a p e)
+  data_is_not_eager : (p : List Timed) → Each plans costs p → (m : OpId) → has_happened Data m p ≡ true → eager m ≡ false
+  data_is_not_eager [] each m e = absurd (has_happened_nothing Data m e)
+  data_is_not_eager (a ∷ p) each m e = go (λ t. data_is_not_eager p each.0 m t) (has_happened_cases Data m a p e)
     where
       go : (has_happened Data m p ≡ true → eager m ≡ false) → (has_happened Data m p ≡ true) ⊎ (is_act Data m (plain_act a) ≡ true) → eager m ≡ false
       go rest (inl t) = rest t
@@ -188,7 +188,7 @@ module _ (plans : List Plan) (costs : CostModel) (apart : IsApart plans) (takes 
     arrival p q n part_p part_q older x m s fit ne arrived le fresh =
         let begun = arrived_begun plans eager (plain q) m (each_interleaving plans costs q part_q.each) arrived in
         let when = arrive_time q part_q.each m s arrived in
-        let some = way_some x m s fit ne in
+        let some = time_to_arrive_is_positive x m s fit ne in
         let whole_at = time_happened_below Begin m q h part_q.below begun in
         let there = older Begin m (has_happened_below Begin m q h part_q.below begun) (omega (arith, whole_at, when, some, le)) in
         let same : time_happened Begin m p ≡ time_happened Begin m q = sym (time_happened_below Begin m p h part_p.below there) ∙ whole_at in
@@ -226,7 +226,7 @@ module _ (plans : List Plan) (costs : CostModel) (apart : IsApart plans) (takes 
             let met = met_of_send plans costs apart q part_q.each x y s m in
             let bound = data_bound q part_q.each part_q.rises x y s met in
             let is = when Data e in
-            ⊎_elim (λ f. own Post y f met.posted) (λ ne. let l = (lags y x s met.fit (λ f. ne (sym f))).2 in sooner Post y met.posted (omega (arith, bound, is, l, le))) (cases_eq y.rank x.rank)
+            ⊎_elim (λ f. own Post y f met.posted) (λ ne. let l = (message_to_other_rank_takes_time y x s met.fit (λ f. ne (sym f))).2 in sooner Post y met.posted (omega (arith, bound, is, l, le))) (cases_eq y.rank x.rank)
 
         -- the message of a receive that is served
         ready_of : c ≡ Serve → (m : OpId) → mate plans costs q x ≡ Some m → IsReceive plans x × ((eager m ≡ true) ⊎ (has_happened Data m q ≡ true))
@@ -242,7 +242,7 @@ module _ (plans : List Plan) (costs : CostModel) (apart : IsApart plans) (takes 
             go true f bound =
                 let paired = (paired_later plans costs apart q part_q.each part_q.rises m x met).1 in omega (arith, paired, bound)
             go false f bound =
-                ⊎_elim (λ u. absurd (both_ways _ f u)) (λ there. let l = data_later q part_q.each part_q.rises m s there in omega (arith, l, bound)) told
+                ⊎_elim (λ u. absurd (both_ways _ f u)) (λ there. let l = data_not_before_arrive q part_q.each part_q.rises m s there in omega (arith, l, bound)) told
 
         arrived : c ≡ Serve → (m : OpId) → mate plans costs q x ≡ Some m → has_happened Arrive m p ≡ true
         arrived e m is =
@@ -258,10 +258,10 @@ module _ (plans : List Plan) (costs : CostModel) (apart : IsApart plans) (takes 
             let told = ready_of e m is in
             let met = met_of_receive plans costs apart q m x told.0 is in
             let s = fits_send plans x m met.fit in
-            let large = data_large q part_q.each m there in
+            let large = data_is_not_eager q part_q.each m there in
             let bound : since (happened Data m) q + flight plans costs m ≤ time plans costs q Serve x = subst (λ (b : Bool). (if b then paired_at plans costs q x else since (happened Data m) q + flight plans costs m) ≤ time plans costs q Serve x) large (serve_bound q part_q.each part_q.rises x m told.0 met is) in
             let now = when Serve e in
-            ⊎_elim (λ f. own Data m f there) (λ ne. let l = (lags x m s met.fit ne).0 in sooner Data m there (omega (arith, bound, now, l, le))) (cases_eq m.rank x.rank)
+            ⊎_elim (λ f. own Data m f there) (λ ne. let l = (message_to_other_rank_takes_time x m s met.fit ne).0 in sooner Data m there (omega (arith, bound, now, l, le))) (cases_eq m.rank x.rank)
 
     module _ (run : IsCompleteRun plans costs h) (rises_h : Rises h) where
       whole_part : Part h
@@ -344,7 +344,7 @@ module _ (plans : List Plan) (costs : CostModel) (apart : IsApart plans) (takes 
               inner t =
                   let one = tail_length (on_rank b.op.rank (a ∷ p)) (on_rank b.op.rank u) (rank_tail b.op.rank (a ∷ p) u t) in
                   let two = tail_length (on_rank b.op.rank u) (on_rank b.op.rank q) (below_f b.op.rank) in
-                  let size = ap length (on_here b.op.rank a p rank_a) in
+                  let size = ap length (on_rank_of_own_action b.op.rank a p rank_a) in
                   let same = ap length same_a in
                   omega (arith, one, two, size, same)
 
@@ -365,9 +365,9 @@ module _ (plans : List Plan) (costs : CostModel) (apart : IsApart plans) (takes 
           -- an arrival needs nothing of other ranks
           arrive_crosses : a.class ≡ Arrive → Crosses plans costs apart h each_h q p part_q part_a a.op same_back a.class
           arrive_crosses is = record {
-            posted = λ e y m. absurd (not_data (sym is ∙ e));
-            arrived = λ e m n. absurd (not_serve (sym is ∙ e));
-            handed = λ e m n t. absurd (not_serve (sym is ∙ e));
+            posted = λ e y m. absurd (arrive_is_not_data (sym is ∙ e));
+            arrived = λ e m n. absurd (arrive_is_not_serve (sym is ∙ e));
+            handed = λ e m n t. absurd (arrive_is_not_serve (sym is ∙ e));
           }
 
           serve_place : (c : Class) → c ≡ Serve → place c ≡ 1
@@ -426,17 +426,17 @@ module _ (plans : List Plan) (costs : CostModel) (apart : IsApart plans) (takes 
 
           below_next : Below (b ∷ q) h
           below_next r =
-              ⊎_elim (λ e. subst (λ (s : ℕ). IsTail (on_rank s (b ∷ q)) (on_rank s h)) e here) (λ ne. subst (λ (l : List Timed). IsTail l (on_rank r h)) (sym (on_other r b q ne)) (part_q.below r)) (cases_eq b.op.rank r)
+              ⊎_elim (λ e. subst (λ (s : ℕ). IsTail (on_rank s (b ∷ q)) (on_rank s h)) e here) (λ ne. subst (λ (l : List Timed). IsTail l (on_rank r h)) (sym (on_rank_of_other_action r b q ne)) (part_q.below r)) (cases_eq b.op.rank r)
             where
               here : IsTail (on_rank b.op.rank (b ∷ q)) (on_rank b.op.rank h)
               here =
-                  subst (λ (l : List Timed). IsTail l (on_rank b.op.rank h)) (on_here b.op.rank a p rank_a ∙ ((λ i. same_action i ∷ same_a i) ∙ sym (on_here b.op.rank b q refl))) (rank_tail b.op.rank (a ∷ p) h tail_a)
+                  subst (λ (l : List Timed). IsTail l (on_rank b.op.rank h)) (on_rank_of_own_action b.op.rank a p rank_a ∙ ((λ i. same_action i ∷ same_a i) ∙ sym (on_rank_of_own_action b.op.rank b q refl))) (rank_tail b.op.rank (a ∷ p) h tail_a)
 
         step : Below (b ∷ q) h
         step = ⊎_elim over found (find_frontier h q part_q.below h whole)
           where
             over : Below h q → Below (b ∷ q) h
-            over below = absurd (none_gone (below_both h q below part_q.below b.op.rank))
+            over below = absurd (none_gone (below_each_other_same_on_rank h q below part_q.below b.op.rank))
 
             found : Frontier h q → Below (b ∷ q) h
             found n =
@@ -455,7 +455,7 @@ module _ (plans : List Plan) (costs : CostModel) (apart : IsApart plans) (takes 
 
       -- it is the whole run if it is complete
       pub same_actions : (to : ℕ → ℕ) (k : List Timed) → Rises k → IsCompleteRunBy to plans costs k → (r : ℕ) → on_rank r h ≡ on_rank r k
-      same_actions to k rises c = below_both h k under (run_part to k rises c.run).below
+      same_actions to k rises c = below_each_other_same_on_rank h k under (run_part to k rises c.run).below
         where
           part : Part k
           part = run_part to k rises c.run
@@ -473,7 +473,7 @@ module _ (plans : List Plan) (costs : CostModel) (apart : IsApart plans) (takes 
 
         since_same : (d : Class) (x : OpId) → time_happened d x h ≡ time_happened d x k
         since_same d x =
-            ⊎_elim (λ t. time_happened_alike d x h k (alike x.rank) t) (λ f. at_nothing d x h f ∙ sym (at_nothing d x k (sym (has_happened_alike d x h k (alike x.rank)) ∙ f))) (cases_Bool (has_happened d x h))
+            ⊎_elim (λ t. time_happened_alike d x h k (alike x.rank) t) (λ f. time_of_not_happened_is_zero d x h f ∙ sym (time_of_not_happened_is_zero d x k (sym (has_happened_alike d x h k (alike x.rank)) ∙ f))) (cases_Bool (has_happened d x h))
 
         under : Below h k
         under r = subst (λ (l : List Timed). IsTail (on_rank r h) l) (alike r) whole
@@ -497,5 +497,5 @@ module _ (plans : List Plan) (costs : CostModel) (apart : IsApart plans) (takes 
         pub end_same : (x : OpId) → end plans costs k x ≡ end plans costs h x
         end_same x =
             let d : Class = last_class (eager x) (kind_at plans x) in
-            let hold = (hold_by plans costs apart h each_h k d x (kind_at plans x) refl (λ e r. mate_same x r)).0 in
+            let hold = (hold_with_same_mate plans costs apart h each_h k d x (kind_at plans x) refl (λ e r. mate_same x r)).0 in
             λ i. sym (since_same d x) i + hold i

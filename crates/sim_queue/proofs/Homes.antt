@@ -7,7 +7,7 @@ use Rattle.std.proofs.lemmas.Option.{slice_get-get_or, slice_get_within, get_or_
 use Rattle.std.proofs.Math.Seq.{get_or-append_seam}
 use Rattle.sim_queue.specs.declared.home.PlaceInGroup.{PlaceInGroup}
 use Rattle.sim_queue.specs.Map.{key_at, no_keys}
-use Rattle.sim_queue.proofs.Maps.{none_of}
+use Rattle.sim_queue.proofs.Maps.{key_at_no_keys}
 use Rattle.sim_queue.specs.Groups.{IsHoused, AreHomes, heap_at, key_of_home, group_of_home, grouped}
 
 -- an element of a list with another appended is in the list, or the last
@@ -111,7 +111,7 @@ module _ {K : Type 0} where
     no_key_at_any_place group place = go (cases_lt group (length counts))
       where
         go : (group < length counts) ⊎ (length counts ≤ group) → key_at (heap_at (map (no_keys {K = K}) counts) group) place ≡ None
-        go (inl l) = ap (λ h. key_at h place) (heap_empty group l) ∙ none_of (slice_index counts group) place
+        go (inl l) = ap (λ h. key_at h place) (heap_empty group l) ∙ key_at_no_keys (slice_index counts group) place
         go (inr l) = ap (λ h. key_at h place) (no_heap_past_end group l) ∙ get_or_past [] place None (omega arith)
 
     pub empty_housed :

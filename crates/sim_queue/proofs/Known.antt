@@ -18,8 +18,8 @@ module _ {K : Type 0} where
       ap (key_at (placed slots items)) (sym there.2 ∙ ap (λ (z : Item K). z.slot) same) ∙ item_has_its_key slots items are place r e
 
   -- a slot has no key if no item of it is at its place
-  pub no_key : (slots : ℕ) (items : List (Item K)) (places : List ℕ) (slot : ℕ) → slot < length places → ArePlaced items places → IsElsewhere slot_of_item items places slot → key_at (placed slots items) slot ≡ None
-  no_key slots items places slot slot_in known none = go (key_at (placed slots items) slot) refl
+  pub no_key_if_item_elsewhere : (slots : ℕ) (items : List (Item K)) (places : List ℕ) (slot : ℕ) → slot < length places → ArePlaced items places → IsElsewhere slot_of_item items places slot → key_at (placed slots items) slot ≡ None
+  no_key_if_item_elsewhere slots items places slot slot_in known none = go (key_at (placed slots items) slot) refl
     where
       go : (a : Option K) → key_at (placed slots items) slot ≡ a → key_at (placed slots items) slot ≡ None
       go None e = e
@@ -28,10 +28,10 @@ module _ {K : Type 0} where
           let same : slice_index places slot ≡ there.0 = same_Some (slice_index places slot) there.0 (sym (slice_get-get_or places slot 0 slot_in) ∙ known there.0 (item_of slot k) there.1) in
           absurd (none (item_of slot k) (ap (slice_get items) same ∙ there.1) refl)
 
-  -- the same of lists that were read
-  pub no_key_read : (items read : List (Item K)) (places read_places : List ℕ) (slot : ℕ) → read ≡ items → read_places ≡ places → IsElsewhere slot_of_item read read_places slot → slot < length places → ArePlaced items places → key_at (placed (length places) items) slot ≡ None
-  no_key_read items read places read_places slot e f none slot_in known =
-      no_key (length places) items places slot slot_in known (subst (λ xs. IsElsewhere slot_of_item xs places slot) e (subst (λ ps. IsElsewhere slot_of_item read ps slot) f none))
+  -- the same for lists as the code reads them
+  pub no_key_if_read_item_elsewhere : (items read : List (Item K)) (places read_places : List ℕ) (slot : ℕ) → read ≡ items → read_places ≡ places → IsElsewhere slot_of_item read read_places slot → slot < length places → ArePlaced items places → key_at (placed (length places) items) slot ≡ None
+  no_key_if_read_item_elsewhere items read places read_places slot e f none slot_in known =
+      no_key_if_item_elsewhere (length places) items places slot slot_in known (subst (λ xs. IsElsewhere slot_of_item xs places slot) e (subst (λ ps. IsElsewhere slot_of_item read ps slot) f none))
 
   -- an item was added at the end, and the places of the others are known
   pub known_but_last : (items : List (Item K)) (x : Item K) (places : List ℕ) (last : ℕ) → last ≡ length items → ArePlaced items places → (place : ℕ) (y : Item K) → slice_get (items ++ x ∷ []) place ≡ Some y → place ≢ last → slice_get places y.slot ≡ Some place
@@ -57,10 +57,10 @@ module _ {K : Type 0} where
     }
 
   -- the same in the vectors that were written
-  pub heap_back : (before : K → K → Bool) (capacity n : ℕ) (xs rest : List (Item K)) (ps now : List ℕ) → n ≡ length xs → now ≡ ps → IsSlotHeap before xs ps capacity → IsSlotHeap before (take n (xs ++ rest)) now capacity
-  heap_back before capacity n xs rest ps now e f heap =
+  pub slot_heap_of_written_vectors : (before : K → K → Bool) (capacity n : ℕ) (xs rest : List (Item K)) (ps now : List ℕ) → n ≡ length xs → now ≡ ps → IsSlotHeap before xs ps capacity → IsSlotHeap before (take n (xs ++ rest)) now capacity
+  slot_heap_of_written_vectors before capacity n xs rest ps now e f heap =
       subst (λ ys. IsSlotHeap before ys now capacity) (sym (part_written_back n xs rest e)) (subst (λ qs. IsSlotHeap before xs qs capacity) (sym f) heap)
 
-  pub keys_back : (n : ℕ) (xs rest : List (Item K)) (ps now : List ℕ) → n ≡ length xs → now ≡ ps → placed (length now) (take n (xs ++ rest)) ≡ placed (length ps) xs
-  keys_back n xs rest ps now e f =
+  pub keys_of_written_vectors : (n : ℕ) (xs rest : List (Item K)) (ps now : List ℕ) → n ≡ length xs → now ≡ ps → placed (length now) (take n (xs ++ rest)) ≡ placed (length ps) xs
+  keys_of_written_vectors n xs rest ps now e f =
       ap (placed (length now)) (part_written_back n xs rest e) ∙ ap (λ qs. placed (length qs) xs) f

@@ -20,7 +20,7 @@ use Rattle.sim_queue.specs.Ranked.{size_of}
 use Rattle.sim_queue.specs.Ranks.{home_of, ranked, IsHeadOf, IsTold, IsRanked}
 use Rattle.sim_queue.proofs.ForCallers.{through}
 use Rattle.sim_queue.proofs.ForCallers.{key_at_home, grouped_after_change, housed_after_change}
-use Rattle.sim_queue.proofs.ForCallers.{none_of}
+use Rattle.sim_queue.proofs.ForCallers.{key_at_no_keys}
 use Rattle.sim_queue.proofs.ForCallers.{no_key_at_any_place, empty_housed, empty_grouped}
 
 abbrev op_at_rank_and_place : ℕ → ℕ → OpId
@@ -122,18 +122,18 @@ starts_with_next_rank sizes starts new i next each is old e rank l =
 
 -- homes of all operations, and a queue in which none has a key
 module _ (plans : List Plan) (homes : List PlaceInGroup) (are : homes ≡ map home_of (operations plans)) where
-  homes_in_all : length homes ≡ sum (map size_of plans)
-  homes_in_all = omega (arith, ap length are, length-map (operations plans) home_of, length-places 0 plans)
+  homes_length_is_sum_of_sizes : length homes ≡ sum (map size_of plans)
+  homes_length_is_sum_of_sizes = omega (arith, ap length are, length-map (operations plans) home_of, length-places 0 plans)
 
   pub homes_fit : sum (map size_of plans) < 2 ^ 32 → length homes < 2 ^ 32
-  homes_fit few = omega (arith, few, homes_in_all)
+  homes_fit few = omega (arith, few, homes_length_is_sum_of_sizes)
 
   -- a rank has at most as many operations as there are
-  sizes_in_all : All (λ size. size ≤ length homes) (map size_of plans)
-  sizes_in_all = All-from_get_or (λ size. size ≤ length homes) (map size_of plans) 0 each
+  rank_sizes_within_homes : All (λ size. size ≤ length homes) (map size_of plans)
+  rank_sizes_within_homes = All-from_get_or (λ size. size ≤ length homes) (map size_of plans) 0 each
     where
       each : (rank : ℕ) → rank < length (map size_of plans) → slice_index (map size_of plans) rank ≤ length homes
-      each rank l = omega (arith, get_or-le-sum_by (λ n. n) (map size_of plans) rank 0 l, homes_in_all)
+      each rank l = omega (arith, get_or-le-sum_by (λ n. n) (map size_of plans) rank 0 l, homes_length_is_sum_of_sizes)
 
   home_of_placed : (slot : ℕ) (home : PlaceInGroup) → slice_get homes slot ≡ Some home → IsPlaced plans 0 slot (op_at_rank_and_place home.group home.place)
   home_of_placed slot home e = go (slice_get (operations plans) slot) refl
@@ -182,7 +182,7 @@ module _ (plans : List Plan) (homes : List PlaceInGroup) (are : homes ≡ map ho
 
     no_keys_ranked : IsRanked before homes starts heaps_without_keys no_heads
     no_keys_ranked = record {
-      housed = empty_housed (map group_of_home homes) homes (map size_of plans) are_homes few sizes_in_all;
+      housed = empty_housed (map group_of_home homes) homes (map size_of plans) are_homes few rank_sizes_within_homes;
       started = each ∙ sym heaps_per_rank;
       each = length-replicate {A = Option K} (length (map size_of plans)) None ∙ sym heaps_per_rank;
       found =
@@ -191,7 +191,7 @@ module _ (plans : List Plan) (homes : List PlaceInGroup) (are : homes ≡ map ho
           omega (arith, slot_by_rank_and_place slot home e, start);
       headed =
           λ rank l.
-          subst (IsHeadOf before (heap_at heaps_without_keys rank)) (sym (none_of {K = K} (length (map size_of plans)) rank)) (λ p. no_key_at_any_place (map group_of_home homes) homes (map size_of plans) are_homes rank p);
+          subst (IsHeadOf before (heap_at heaps_without_keys rank)) (sym (key_at_no_keys {K = K} (length (map size_of plans)) rank)) (λ p. no_key_at_any_place (map group_of_home homes) homes (map size_of plans) are_homes rank p);
     }
 
     pub new_queue_ranked : (heaps : List (List (Option K))) (heads : List (Option K)) → heaps ≡ heaps_without_keys → heads ≡ no_heads → IsRanked before homes starts heaps heads
@@ -214,10 +214,10 @@ module _ (plans : List Plan) (homes : List PlaceInGroup) (are : homes ≡ map ho
 
 module _ {K : Type 0} where
   -- a heap is replaced by one of its length
-  same_sizes : (heaps : List (List (Option K))) (rank : ℕ) (new : List (Option K)) → length new ≡ length (heap_at heaps rank) → map (λ (h : List (Option K)). length h) (set heaps rank new) ≡ map (λ (h : List (Option K)). length h) heaps
-  same_sizes [] rank new e = refl
-  same_sizes (heap ∷ heaps) zero new e = ap (λ n. n ∷ map (λ (h : List (Option K)). length h) heaps) e
-  same_sizes (heap ∷ heaps) (suc rank) new e = ap (λ ns. length heap ∷ ns) (same_sizes heaps rank new e)
+  sizes_unchanged_by_new_heap : (heaps : List (List (Option K))) (rank : ℕ) (new : List (Option K)) → length new ≡ length (heap_at heaps rank) → map (λ (h : List (Option K)). length h) (set heaps rank new) ≡ map (λ (h : List (Option K)). length h) heaps
+  sizes_unchanged_by_new_heap [] rank new e = refl
+  sizes_unchanged_by_new_heap (heap ∷ heaps) zero new e = ap (λ n. n ∷ map (λ (h : List (Option K)). length h) heaps) e
+  sizes_unchanged_by_new_heap (heap ∷ heaps) (suc rank) new e = ap (λ ns. length heap ∷ ns) (sizes_unchanged_by_new_heap heaps rank new e)
 
   -- the number of slots of a rank
   pub size_within : (heaps : List (List (Option K))) (rank most : ℕ) → rank < length heaps → All (λ size. size ≤ most) (map (λ (h : List (Option K)). length h) heaps) → length (heap_at heaps rank) ≤ most
@@ -225,8 +225,8 @@ module _ {K : Type 0} where
       let at = get_or-map (λ (h : List (Option K)). length h) heaps rank [] 0 l in
       omega (arith, at, All-get_or (λ size. size ≤ most) (map (λ (h : List (Option K)). length h) heaps) rank 0 (rw (length-map heaps (λ (h : List (Option K)). length h)) l) all)
 
-  no_key : (k : K) → None ≡ Some k → ⊥
-  no_key k e = absurd (cc)
+  none_is_not_some_key : (k : K) → None ≡ Some k → ⊥
+  none_is_not_some_key k e = absurd (cc)
 
   module _ (before : K → K → Bool) (homes : List PlaceInGroup) (starts : List ℕ) (heaps : List (List (Option K))) (heads : List (Option K)) (is : IsRanked before homes starts heaps heads) where
     -- the key of one slot is changed, and the head of its rank updated
@@ -267,7 +267,7 @@ module _ {K : Type 0} where
 
           sizes : map (λ (h : List (Option K)). length h) heaps_after_change ≡ map (λ (h : List (Option K)). length h) heaps
           sizes =
-              same_sizes heaps home.group new (ap length is_new ∙ length-set heap home.place value ∙ ap length is_heap)
+              sizes_unchanged_by_new_heap heaps home.group new (ap length is_new ∙ length-set heap home.place value ∙ ap length is_heap)
 
     -- a slot with a key has a home, and its rank has a head
     record HasHead (k : K) : Type 0 where
@@ -283,7 +283,7 @@ module _ {K : Type 0} where
       where
         told : (home : PlaceInGroup) → slice_get homes slot ≡ Some home → (head : Option K) → key_at heads home.group ≡ head → IsHeadOf before (heap_at heaps home.group) head → HasHead k
         told home at None f empty =
-            absurd (no_key k (sym (empty home.place) ∙ sym (key_at_home homes heaps is.housed slot home at) ∙ e))
+            absurd (none_is_not_some_key k (sym (empty home.place) ∙ sym (key_at_home homes heaps is.housed slot home at) ∙ e))
         told home at (Some head) f least =
             let there = sym (key_at_home homes heaps is.housed slot home at) ∙ e in
             record { rank = home.group; place = home.place; head = head; at = there; head_is = f; least = least.1.least home.place k there }
@@ -295,14 +295,14 @@ module _ {K : Type 0} where
             told home at (key_at heads home.group) refl (is.headed home.group (is.housed.group_in slot home at))
         go (inr l) =
             let past : key_at (ranked homes heaps).keys slot ≡ None = get_or_past (ranked homes heaps).keys slot None (omega (arith, l, length-map homes (key_of_home heaps))) in
-            absurd (no_key k (sym past ∙ e))
+            absurd (none_is_not_some_key k (sym past ∙ e))
 
     pub empty_ranked : IsEmptyMap heads → IsEmptyMap (ranked homes heaps).keys
     empty_ranked none slot = go (key_at (ranked homes heaps).keys slot) refl
       where
         go : (o : Option K) → key_at (ranked homes heaps).keys slot ≡ o → o ≡ None
         go None e = refl
-        go (Some k) e = let h = has_head slot k e in absurd (no_key h.head (sym (none h.rank) ∙ h.head_is))
+        go (Some k) e = let h = has_head slot k e in absurd (none_is_not_some_key h.head (sym (none h.rank) ∙ h.head_is))
 
     module _ (laws : IsOrder before) (rank : ℕ) (head : K) (least : IsLeast before heads rank head) where
       pub top_rank_within : rank < length heaps
@@ -310,7 +310,7 @@ module _ {K : Type 0} where
         where
           go : (rank < length heads) ⊎ (length heads ≤ rank) → rank < length heaps
           go (inl l) = omega (arith, l, is.each)
-          go (inr l) = absurd (no_key head (sym (get_or_past heads rank None l) ∙ least.has))
+          go (inr l) = absurd (none_is_not_some_key head (sym (get_or_past heads rank None l) ∙ least.has))
 
       heap_top_of_rank : (place : ℕ) × IsLeast before (heap_at heaps rank) place head
       heap_top_of_rank = subst (IsHeadOf before (heap_at heaps rank)) least.has (is.headed rank top_rank_within)
@@ -334,4 +334,4 @@ module _ {K : Type 0} where
             })
 
         pub not_empty_ranked : IsEmptyMap (ranked homes heaps).keys → ⊥
-        not_empty_ranked empty = no_key key (sym (empty (slice_index starts rank + place)) ∙ least_of_all.has)
+        not_empty_ranked empty = none_is_not_some_key key (sym (empty (slice_index starts rank + place)) ∙ least_of_all.has)

@@ -16,25 +16,25 @@ use Rattle.sim_queue.proofs.Maps.{nat_equal_or_not}
 use Rattle.sim_queue.proofs.Weak.{before_asymmetric, through}
 
 module _ {K : Type 0} (before : K → K → Bool) (laws : IsOrder before) (run : List (Item K)) (heap : List (Option K)) (is : IsRun before run heap) where
-  abbrev in_run : List (Option K)
-  in_run = placed (length heap) run
+  abbrev run_keys : List (Option K)
+  run_keys = placed (length heap) run
 
-  placed_run_length : length in_run ≡ length heap
+  placed_run_length : length run_keys ≡ length heap
   placed_run_length = length-placed (length heap) run
 
   pub length-with_run : length (with_run run heap) ≡ length heap
-  length-with_run = length-joined in_run heap placed_run_length
+  length-with_run = length-joined run_keys heap placed_run_length
 
-  with_run_at_slot : (slot : ℕ) → key_at (with_run run heap) slot ≡ either (key_at in_run slot) (key_at heap slot)
-  with_run_at_slot = joined_at in_run heap placed_run_length
+  with_run_at_slot : (slot : ℕ) → key_at (with_run run heap) slot ≡ either (key_at run_keys slot) (key_at heap slot)
+  with_run_at_slot = joined_at run_keys heap placed_run_length
 
   pub run_item_has_key : (place : ℕ) (x : Item K) → slice_get run place ≡ Some x → key_at (with_run run heap) x.slot ≡ Some x.key
   run_item_has_key place x e = with_run_at_slot x.slot ∙ ap (λ o. either o (key_at heap x.slot)) (item_has_its_key (length heap) run is.apart place x e)
 
-  pub not_in_run : (slot : ℕ) (k : K) → key_at heap slot ≡ Some k → key_at in_run slot ≡ None
-  not_in_run slot k e = go (key_at in_run slot) refl
+  pub not_in_run : (slot : ℕ) (k : K) → key_at heap slot ≡ Some k → key_at run_keys slot ≡ None
+  not_in_run slot k e = go (key_at run_keys slot) refl
     where
-      go : (a : Option K) → key_at in_run slot ≡ a → key_at in_run slot ≡ None
+      go : (a : Option K) → key_at run_keys slot ≡ a → key_at run_keys slot ≡ None
       go None f = f
       go (Some j) f =
           let there = key_belongs_to_item (length heap) run slot j f in
@@ -46,18 +46,18 @@ module _ {K : Type 0} (before : K → K → Bool) (laws : IsOrder before) (run :
 
   -- a key belongs to an item of the run, or is in the heap
   pub key_in_run_or_heap : (slot : ℕ) (k : K) → key_at (with_run run heap) slot ≡ Some k → Holds run (item_of slot k) ⊎ (key_at heap slot ≡ Some k)
-  key_in_run_or_heap slot k e = go (key_at in_run slot) refl
+  key_in_run_or_heap slot k e = go (key_at run_keys slot) refl
     where
-      go : (a : Option K) → key_at in_run slot ≡ a → Holds run (item_of slot k) ⊎ (key_at heap slot ≡ Some k)
+      go : (a : Option K) → key_at run_keys slot ≡ a → Holds run (item_of slot k) ⊎ (key_at heap slot ≡ Some k)
       go (Some j) f =
           let same : Some j ≡ Some k = sym (with_run_at_slot slot ∙ ap (λ o. either o (key_at heap slot)) f) ∙ e in
           inl (key_belongs_to_item (length heap) run slot k (f ∙ same))
       go None f = inr (sym (with_run_at_slot slot ∙ ap (λ o. either o (key_at heap slot)) f) ∙ e)
 
-  pub free_in_run : (slot : ℕ) → key_at (with_run run heap) slot ≡ None → key_at in_run slot ≡ None
-  free_in_run slot e = go (key_at in_run slot) refl
+  pub free_in_run : (slot : ℕ) → key_at (with_run run heap) slot ≡ None → key_at run_keys slot ≡ None
+  free_in_run slot e = go (key_at run_keys slot) refl
     where
-      go : (a : Option K) → key_at in_run slot ≡ a → key_at in_run slot ≡ None
+      go : (a : Option K) → key_at run_keys slot ≡ a → key_at run_keys slot ≡ None
       go None f = f
       go (Some j) f =
           let has : key_at (with_run run heap) slot ≡ Some j = with_run_at_slot slot ∙ ap (λ o. either o (key_at heap slot)) f in
@@ -122,8 +122,8 @@ module _ {K : Type 0} (before : K → K → Bool) (laws : IsOrder before) (run :
       absurd (cc)
 
   -- the slot that is taken belongs to the first of the run
-  pub sole_in_run : (r : IsRunFirst before run heap) (slot : ℕ) → IsSoleLeast before (with_run run heap) slot → r.first.slot ≡ slot
-  sole_in_run r slot sole =
+  pub sole_least_is_run_first : (r : IsRunFirst before run heap) (slot : ℕ) → IsSoleLeast before (with_run run heap) slot → r.first.slot ≡ slot
+  sole_least_is_run_first r slot sole =
       elim (sole.first r.first.slot r.first.key (run_item_has_key 0 r.first r.stands)) [ inl e ↦ e | inr b ↦ (let no = (least_of_run r).least slot sole.key sole.has in absurd (cc)) ]
 
   -- or one of the heap
@@ -147,13 +147,13 @@ module _ {K : Type 0} (before : K → K → Bool) (laws : IsOrder before) (run :
           ]
 
   -- what a slot outside the run has in the heap is changed
-  module _ (slot : ℕ) (value : Option K) (free : key_at in_run slot ≡ None) where
+  module _ (slot : ℕ) (value : Option K) (free : key_at run_keys slot ≡ None) where
     heap_length_unchanged : length (slice_set heap slot value) ≡ length heap
     heap_length_unchanged = length-set heap slot value
 
     run_slots_differ : (place : ℕ) (x : Item K) → slice_get run place ≡ Some x → x.slot ≢ slot
     run_slots_differ place x e s =
-        let has : key_at in_run slot ≡ Some x.key = ap (key_at in_run) (sym s) ∙ item_has_its_key (length heap) run is.apart place x e in
+        let has : key_at run_keys slot ≡ Some x.key = ap (key_at run_keys) (sym s) ∙ item_has_its_key (length heap) run is.apart place x e in
         absurd (cc)
 
     pub changed_run : IsRun before run (slice_set heap slot value)
@@ -166,7 +166,7 @@ module _ {K : Type 0} (before : K → K → Bool) (laws : IsOrder before) (run :
 
     pub changed_keys : with_run run (slice_set heap slot value) ≡ slice_set (with_run run heap) slot value
     changed_keys =
-        ap (λ n. joined (placed n run) (slice_set heap slot value)) heap_length_unchanged ∙ joined_after_set_in_second in_run heap placed_run_length slot value free
+        ap (λ n. joined (placed n run) (slice_set heap slot value)) heap_length_unchanged ∙ joined_after_set_in_second run_keys heap placed_run_length slot value free
 
     -- where it had no key
     pub still_heap_first : key_at heap slot ≡ None → IsHeapFirst before run heap → IsHeapFirst before run (slice_set heap slot value)
@@ -197,7 +197,7 @@ module _ {K : Type 0} (before : K → K → Bool) (laws : IsOrder before) (run :
 
     pub added_keys : with_run run_with_new_last heap ≡ slice_set (with_run run heap) x.slot (Some x.key)
     added_keys =
-        ap (λ ks. joined ks heap) (added_placed run x (length heap) is.apart slot_in (free_in_run x.slot free)) ∙ joined_after_put_in_first in_run heap placed_run_length x.slot x.key
+        ap (λ ks. joined ks heap) (added_placed run x (length heap) is.apart slot_in (free_in_run x.slot free)) ∙ joined_after_put_in_first run_keys heap placed_run_length x.slot x.key
 
     pub run_still_first : IsRunFirst before run heap → IsRunFirst before run_with_new_last heap
     run_still_first r = record { first = r.first; stands = old_item_kept run x 0 r.first r.stands; least = r.least }
@@ -225,7 +225,7 @@ module _ {K : Type 0} (before : K → K → Bool) (laws : IsOrder before) (run :
 
     new_slot_not_in_run : (place : ℕ) (y : Item K) → slice_get run place ≡ Some y → y.slot ≢ x.slot
     new_slot_not_in_run place y e s =
-        let has : key_at in_run x.slot ≡ Some y.key = ap (key_at in_run) (sym s) ∙ item_has_its_key (length heap) run is.apart place y e in
+        let has : key_at run_keys x.slot ≡ Some y.key = ap (key_at run_keys) (sym s) ∙ item_has_its_key (length heap) run is.apart place y e in
         let none = free_in_run x.slot free in
         absurd (cc)
 
@@ -244,7 +244,7 @@ module _ {K : Type 0} (before : K → K → Bool) (laws : IsOrder before) (run :
 
     pub new_first_keys : with_run run_with_new_first heap ≡ slice_set (with_run run heap) x.slot (Some x.key)
     unfolding placed
-    new_first_keys = joined_after_put_in_first in_run heap placed_run_length x.slot x.key
+    new_first_keys = joined_after_put_in_first run_keys heap placed_run_length x.slot x.key
 
     module _ (ahead : IsAhead before run x) where
       pub new_first_run : IsRun before run_with_new_first heap
@@ -369,6 +369,6 @@ not_false_is_true true e = refl
 not_false_is_true false e = absurd (cc)
 
 -- with two slots or more, another comparison is within the bound
-pub one_step_allowed : (k : ℕ) → 2 ≤ 2 ^ k → 1 ≤ k
-one_step_allowed zero h = absurd (omega (arith, h))
-one_step_allowed (suc k) h = omega arith
+pub exponent_positive_if_power_at_least_two : (k : ℕ) → 2 ≤ 2 ^ k → 1 ≤ k
+exponent_positive_if_power_at_least_two zero h = absurd (omega (arith, h))
+exponent_positive_if_power_at_least_two (suc k) h = omega arith

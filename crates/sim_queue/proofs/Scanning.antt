@@ -8,16 +8,16 @@ use Rattle.sim_queue.specs.Scan.{IsBestBelow}
 
 module _ {K : Type 0} (before : K → K → Bool) (laws : IsOrder before) (keys : List (Option K)) where
   -- after the end no slot has a key
-  pub past_end : (slot : ℕ) → length keys ≤ slot → key_at keys slot ≡ None
-  past_end slot h = get_or_past keys slot None h
+  pub no_key_past_end : (slot : ℕ) → length keys ≤ slot → key_at keys slot ≡ None
+  no_key_past_end slot h = get_or_past keys slot None h
 
   pub nothing_below_end_is_empty : IsBestBelow before keys (length keys) None → IsEmptyMap keys
-  nothing_below_end_is_empty h slot = elim (cases_order slot (length keys)) [ inl e ↦ past_end slot (omega (arith, e)) | inr (inl p) ↦ h slot p | inr (inr p) ↦ past_end slot (omega (arith, p)) ]
+  nothing_below_end_is_empty h slot = elim (cases_order slot (length keys)) [ inl e ↦ no_key_past_end slot (omega (arith, e)) | inr (inl p) ↦ h slot p | inr (inr p) ↦ no_key_past_end slot (omega (arith, p)) ]
 
   pub best_below_end_is_least : (r : ℕ × K) → IsBestBelow before keys (length keys) (Some r) → IsLeast before keys r.0 r.1
   best_below_end_is_least r h = record {
     has = h.has;
-    least = λ other k e. elim (cases_order other (length keys)) [ inl f ↦ let g : key_at keys other ≡ None = past_end other (omega (arith, f)) in absurd (cc) | inr (inl p) ↦ h.least other k p e | inr (inr p) ↦ let g : key_at keys other ≡ None = past_end other (omega (arith, p)) in absurd (cc) ];
+    least = λ other k e. elim (cases_order other (length keys)) [ inl f ↦ let g : key_at keys other ≡ None = no_key_past_end other (omega (arith, f)) in absurd (cc) | inr (inl p) ↦ h.least other k p e | inr (inr p) ↦ let g : key_at keys other ≡ None = no_key_past_end other (omega (arith, p)) in absurd (cc) ];
   }
 
   pub none_where_empty : (best : Option (ℕ × K)) → IsBestBelow before keys (length keys) best → IsNone best ↔ IsEmptyMap keys

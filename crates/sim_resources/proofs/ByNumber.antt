@@ -7,7 +7,7 @@ use Rattle.goal_graph.specs.declared.plan.Kind.TheVariants.{Calc, Send, Recv}
 use Rattle.goal_graph.specs.declared.plan.Op.{Op}
 use Rattle.goal_graph.specs.Schedule.{Plan, op_at, operations, IsSend, IsReceive}
 use Rattle.goal_graph.specs.Fault.{IsOp}
-use Rattle.goal_graph.proofs.ForCallers.{cases_some, kind_from_op, listed_places}
+use Rattle.goal_graph.proofs.ForCallers.{value_of_is_some, kind_from_op, listed_places}
 use Rattle.sim_resources.specs.declared.pair.Pair.{Pair}
 use Rattle.sim_resources.specs.declared.station.Station.{Station}
 use Rattle.sim_resources.specs.declared.station.StationNumbers.{StationNumbers}
@@ -100,7 +100,7 @@ module _ (plans : List Plan) (s : StationNumbers) (n : AreNumbered plans s) (fre
 
   pub times_by_any_number : (numbers : List ℕ) (pairs : List Pair) → AreStationed plans numbers pairs → HasTimes free (pair_in numbers pairs slot) (cpu_free r x) (side_free r x)
   times_by_any_number numbers pairs a =
-      let o = cases_some (op_at plans x) is_op in
+      let o = value_of_is_some (op_at plans x) is_op in
       record {
         cpu_time =
             ap (slice_get free) (same_cpu_number plans slot x o.0 at o.1 numbers pairs a s.numbers.items s.pairs.items n.stationed ∙ sym (ap (λ (p : Pair). p.cpu) own_pair))

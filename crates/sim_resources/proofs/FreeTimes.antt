@@ -1,4 +1,4 @@
--- A user is free at the time of its number, and a later time there has the effect of one more hold.
+-- A user is free at the time of its number; setting a later time there acts like adding a hold.
 use Rattle.std.proofs.Common.{ℕ, zero, suc, ◌<◌, ◌≤◌, ◌≡◌, ◌≢◌, inl, inr, max, true, false, List, [], ◌∷◌, Contains, length, replicate, map, Some, slice_get, slice_set, get_or, refl, ap, sym, ◌∙◌, arith, if◌then◌else◌}
 use Rattle.std.proofs.lemmas.Bool.{both_ways, cases_Bool}
 use Rattle.std.proofs.lemmas.List.{get_or-set_same, get_or-set_other, get_or-replicate}
@@ -14,7 +14,7 @@ use Rattle.sim_resources.proofs.Shares.{shares_symmetric, shares_transitive}
 abbrev pub raised : List ℕ → ℕ → ℕ → ℕ → List ℕ
 raised times s t until = slice_set times s (max t until)
 
--- what two functions make of elements at which they agree
+-- two functions that agree on the elements of a list map it to the same list
 maps_agree_on_elements : {X Y : Type 0} (f g : X → Y) (xs : List X) → ((x : X) → Contains xs x → f x ≡ g x) → map f xs ≡ map g xs
 maps_agree_on_elements f g [] same = refl
 maps_agree_on_elements f g (x ∷ xs) same = λ i. same x (contains_first x xs x refl) i ∷ maps_agree_on_elements f g xs (λ y c. same y (contains_more x xs y c)) i
@@ -30,7 +30,7 @@ module _ (place : Op → ℕ) (plans : List Plan) where
   unfolding free_at
   free_at-empty x = refl
 
-  -- what shares with x is free no later
+  -- an operation that shares a resource with x is free no later than x
   sharer_not_free_later : (hs : List Hold) (x y : OpId) → shares place plans y x ≡ true → free_at place plans hs y ≤ free_at place plans hs x
   unfolding free_at
   sharer_not_free_later [] x y e = omega arith
@@ -102,7 +102,7 @@ module _ (place : Op → ℕ) (plans : List Plan) where
     free_at-unheld times none x =
         zero_times_never_held times users (λ y c. ap (λ (ts : List ℕ). get_or ts (number y) 0) none ∙ get_or-replicate count (number y) 0 0 (p.within y c)) x
 
-    -- a later time of one number has the effect of one more hold
+    -- setting a later time at one number acts like adding a hold
     module _ (times : List ℕ) (whole : length times ≡ count) (x : OpId) (c : Contains users x) (until : ℕ) where
       abbrev pub was : ℕ
       was = get_or times (number x) 0

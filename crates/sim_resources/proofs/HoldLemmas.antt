@@ -1,10 +1,10 @@
--- What a contract sees of the resources: when an operation's are free, and what one more hold changes.
+-- The view of resources in contracts: when they are free, and what adding a hold changes.
 use Rattle.std.proofs.Common.{ℕ, ◌≡◌, ◌<◌, List, Contains, Some, length, slice_get, max, get_or, refl, ap, sym, ◌∙◌, subst, arith}
 use Rattle.goal_graph.specs.declared.action.OpId.{OpId}
 use Rattle.goal_graph.specs.declared.plan.Op.{Op}
 use Rattle.goal_graph.specs.Schedule.{Plan, op_at, operations, IsSend, IsReceive}
 use Rattle.goal_graph.specs.Fault.{IsOp}
-use Rattle.goal_graph.proofs.ForCallers.{cases_some, kind_of_op, listed_places, receive_is_op, send_is_op}
+use Rattle.goal_graph.proofs.ForCallers.{value_of_is_some, kind_of_op, listed_places, receive_is_op, send_is_op}
 use Rattle.sim_resources.specs.declared.station.StationNumbers.{StationNumbers}
 use Rattle.sim_resources.specs.FreeTimes.{Holds, SameFreeTimes, cpu_free, tx_free, rx_free, hold_cpu, hold_tx, hold_rx}
 use Rattle.sim_resources.specs.Numbering.{AreNumbered}
@@ -19,13 +19,13 @@ among_ops plans x is_op = (listed_places plans x).1 is_op
 pub among_senders : (plans : List Plan) (x : OpId) → IsSend plans x → Contains (senders plans) x
 among_senders plans x send =
     let is_op = send_is_op plans x send in
-    let o = cases_some (op_at plans x) is_op in
+    let o = value_of_is_some (op_at plans x) is_op in
     passing_is_in_filtered (λ y. sends (op_at plans y)) (operations plans) x (among_ops plans x is_op) (ap sends o.1 ∙ ap kind_sends (kind_of_op plans x o.0 _ o.1 send.kind))
 
 pub among_receivers : (plans : List Plan) (x : OpId) → IsReceive plans x → Contains (receivers plans) x
 among_receivers plans x receive =
     let is_op = receive_is_op plans x receive in
-    let o = cases_some (op_at plans x) is_op in
+    let o = value_of_is_some (op_at plans x) is_op in
     passing_is_in_filtered (λ y. receives (op_at plans y)) (operations plans) x (among_ops plans x is_op) (ap receives o.1 ∙ ap kind_receives (kind_of_op plans x o.0 _ o.1 receive.kind))
 
 module _ (plans : List Plan) (s : StationNumbers) (n : AreNumbered plans s) where

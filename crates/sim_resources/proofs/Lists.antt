@@ -1,4 +1,4 @@
--- Elements of a list with one more at its end.
+-- Elements of a list after appending.
 use Rattle.std.proofs.Common.{ℕ, zero, suc, ◌≡◌, ◌⊎◌, inl, inr, List, [], ◌∷◌, ◌++◌, length, Some, slice_get, refl, ap, sym}
 use Rattle.std.proofs.lemmas.Option.{same_Some}
 

@@ -22,12 +22,12 @@ use Rattle.sim_resources.specs.Numbering.{IsNotAfter, AreOnce, HasNumber, HasPai
 use Rattle.sim_resources.specs.Stations.{station_by, station_of, station_as, same_station, with_station, stations_among, resources_among, cpu_alone, side_by, side_alone}
 use Rattle.sim_resources.proofs.Placing.{same_station_true, same_station_from}
 
--- what is appended to a list
+-- an appended element has the length of the list as its index
 appended_is_at_length : {X : Type 0} (xs : List X) (t : X) (more : List X) → slice_get (xs ++ t ∷ more) (length xs) ≡ Some t
 appended_is_at_length [] t more = refl
 appended_is_at_length (y ∷ xs) t more = appended_is_at_length xs t more
 
--- what is after one more is what was or the one
+-- after a station is numbered, each station was listed before or is that station
 earlier_or_numbered_station : (before after : List Station) (station : Station) (number : ℕ) → HasNumber before after station number → (i : ℕ) (s : Station) → slice_get after i ≡ Some s → (slice_get before i ≡ Some s) ⊎ (s ≡ station)
 earlier_or_numbered_station before after station number has i s e = go has.more has.by_one (subst (λ (xs : List Station). slice_get xs i ≡ Some s) has.grown e) has.of_it
   where
@@ -63,7 +63,7 @@ not_after_with_station : (before after : List Station) (station : Station) (numb
 not_after_with_station before after station number rank has was l j s e =
     elim (earlier_or_numbered_station before after station number has j s e) [ inl old ↦ was j s old | inr new ↦ omega (arith, l, ap (λ (t : Station). t.rank) new) ]
 
--- what passes a test in a list
+-- `list_any` holds exactly if an element passes the test
 list_any_has_witness : (test : Station → Bool) (xs : List Station) → list_any test xs ≡ true → (i : ℕ) × (x : Station) × (slice_get xs i ≡ Some x) × (test x ≡ true)
 list_any_has_witness test [] e = absurd (both_ways false refl e)
 list_any_has_witness test (x ∷ xs) e = elim (or_cases (test x) (list_any test xs) e) [
@@ -75,7 +75,7 @@ pub list_any_from_witness : (test : Station → Bool) (xs : List Station) (i : �
 list_any_from_witness test xs i x at e =
     list_any_at test xs i x (slice_get_within xs i x at) (ap test (get_or_from_slice_get xs i x x at) ∙ e)
 
--- the stations after one more has its number are those with it
+-- numbering a station gives the list `with_station`
 numbered_is_with_station : (before after : List Station) (station : Station) (number : ℕ) → HasNumber before after station number → AreOnce after → after ≡ with_station before station
 numbered_is_with_station before after station number has once = go has.more has.by_one has.grown has.of_it (list_any (same_station station) before) refl
   where
@@ -178,7 +178,7 @@ module _ (plans : List Plan) where
       go (inr same) = omega (arith, same.0)
 
   module _ (n : ℕ) (stations resources : List Station) (pairs : List Pair) (numbers : List ℕ) (so_far : AreNumberedTo n stations resources pairs numbers) (x : OpId) (o : Op) (at : slice_get (operations plans) n ≡ Some x) (is : op_at plans x ≡ Some o) where
-    -- one more operation has its number
+    -- another operation has its number
     pub next_operation_numbered : (after more : List Station) (pairs_after : List Pair) (number : ℕ) → IsNumbering after more pairs_after → HasNumber stations after (station_of x o) number → AreNumberedTo (n + 1) after more pairs_after (numbers ++ number ∷ [])
     next_operation_numbered after more pairs_after number numbering has = record {
       numbering = numbering;
@@ -193,7 +193,7 @@ module _ (plans : List Plan) where
         sizes : (length after ≤ length stations + 1) × (length stations ≤ length after)
         sizes = numbering_adds_one_at_most stations after (station_of x o) number has
 
-        -- with the station of one more operation
+        -- with the station of another operation
         with_one : List Station → OpId → List Station
         with_one before y = with_station before (station_as y (op_at plans y))
 

@@ -8,7 +8,7 @@ use Rattle.goal_graph.specs.declared.plan.Kind.TheVariants.{Calc, Send, Recv}
 use Rattle.goal_graph.specs.declared.plan.Op.{Op}
 use Rattle.goal_graph.specs.Schedule.{Plan, op_at, operations}
 use Rattle.goal_graph.specs.Fault.{IsOp}
-use Rattle.goal_graph.proofs.ForCallers.{cases_op, cases_some, contains_first, contains_more, is_some_from, listed_places, one_place, same_op_from}
+use Rattle.goal_graph.proofs.ForCallers.{same_or_different_op, value_of_is_some, contains_first, contains_more, is_some_from, listed_places, operation_has_one_place, same_op_from}
 use Rattle.sim_resources.specs.declared.pair.Pair.{Pair}
 use Rattle.sim_resources.specs.declared.station.Station.{Station}
 use Rattle.sim_resources.specs.declared.station.StationNumbers.{StationNumbers}
@@ -23,13 +23,13 @@ unfolding place_among
 listed_is_at_its_place [] i x e = absurd (cc e)
 listed_is_at_its_place (y ∷ ys) zero x e = rw (same_op_from y x (same_Some y x e)) e
 listed_is_at_its_place (y ∷ ys) (suc i) x e =
-    elim (cases_op y x) [
+    elim (same_or_different_op y x) [
       | inl same ↦ rw (same_op_from y x same) (ap Some same)
       | inr other ↦ rw other (listed_is_at_its_place ys i x e)
     ]
 
 pub index_is_place_among : (plans : List Plan) (i : ℕ) (x : OpId) → slice_get (operations plans) i ≡ Some x → place_among (operations plans) x ≡ i
-index_is_place_among plans i x e = one_place plans _ i x (listed_is_at_its_place (operations plans) i x e) e
+index_is_place_among plans i x e = operation_has_one_place plans _ i x (listed_is_at_its_place (operations plans) i x e) e
 
 -- the index of each operation
 pub op_is_at_its_place : (plans : List Plan) (x : OpId) → IsOp plans x → slice_get (operations plans) (place_among (operations plans) x) ≡ Some x
@@ -37,7 +37,7 @@ op_is_at_its_place plans x is_op =
     let c = (listed_places plans x).1 is_op in
     listed_is_at_its_place (operations plans) c.0 x (slice_get-get_or (operations plans) c.0 x c.1 ∙ ap Some c.2)
 
--- what is in a filtered list
+-- a filtered list has exactly the elements that pass
 pub filtered_is_listed_and_passes : (test : OpId → Bool) (xs : List OpId) (x : OpId) → Contains (filter test xs) x → Contains xs x × (test x ≡ true)
 filtered_is_listed_and_passes test [] x c = absurd (omega (arith, c.1))
 filtered_is_listed_and_passes test (y ∷ ys) x c = go (test y) refl (filtered_is_listed_and_passes test ys x)
@@ -134,18 +134,18 @@ module _ (plans : List Plan) (s : StationNumbers) (n : AreNumbered plans s) wher
   }
 
   pub operations_use_cpus : (x : OpId) → Contains (operations plans) x → Uses cpu_at (cpu_number plans s) x
-  operations_use_cpus x c = let o = cases_some (op_at plans x) ((listed_places plans x).0 c) in uses_cpu x o.0 o.1
+  operations_use_cpus x c = let o = value_of_is_some (op_at plans x) ((listed_places plans x).0 c) in uses_cpu x o.0 o.1
 
   pub senders_use_tx_sides : (x : OpId) → Contains (senders plans) x → Uses tx_at (side_number plans s) x
   senders_use_tx_sides x c =
       let f = filtered_is_listed_and_passes (λ y. sends (op_at plans y)) (operations plans) x c in
-      let o = cases_some (op_at plans x) ((listed_places plans x).0 f.0) in
+      let o = value_of_is_some (op_at plans x) ((listed_places plans x).0 f.0) in
       uses_side tx_at x o.0 o.1 (side_of_send_is_tx_at x o.0 (ap sends (sym o.1) ∙ f.1))
 
   pub receivers_use_rx_sides : (x : OpId) → Contains (receivers plans) x → Uses rx_at (side_number plans s) x
   receivers_use_rx_sides x c =
       let f = filtered_is_listed_and_passes (λ y. receives (op_at plans y)) (operations plans) x c in
-      let o = cases_some (op_at plans x) ((listed_places plans x).0 f.0) in
+      let o = value_of_is_some (op_at plans x) ((listed_places plans x).0 f.0) in
       uses_side rx_at x o.0 o.1 (side_of_receive_is_rx_at x o.0 (ap receives (sym o.1) ∙ f.1))
 
   -- resources of one number are one
@@ -213,6 +213,6 @@ module _ (plans : List Plan) (s : StationNumbers) (n : AreNumbered plans s) wher
   read_pair_is_pair_of x i number pair at below number_is pair_read =
       let first : slice_get s.numbers.items i ≡ Some number = slice_get_read s.numbers.items (length s.numbers.items) i number refl (omega (arith, below, n.each)) number_is in
       let same : station x ≡ number = ap (slice_index s.numbers.items) (index_is_place_among plans i x at) ∙ get_or_from_slice_get s.numbers.items i number 0 first in
-      let o = cases_some (op_at plans x) ((listed_places plans x).0 (i, below, get_or_from_slice_get (operations plans) i x x at)) in
+      let o = value_of_is_some (op_at plans x) ((listed_places plans x).0 (i, below, get_or_from_slice_get (operations plans) i x x at)) in
       let there : slice_get s.pairs.items number ≡ Some (pair_of plans s x) = ap (slice_get s.pairs.items) (sym same) ∙ number_has_pair_of x o.0 o.1 in
       pair_read ∙ get_or_from_slice_get s.pairs.items number (pair_of plans s x) pair there

@@ -35,7 +35,7 @@ same_station_from p q e = sym (ap (λ (t : Station). same_station t q) (sym e)) 
     itself t =
         both (t.rank == t.rank) _ (eq-eqb t.rank t.rank refl) (both (same_choice t.cpu t.cpu) _ (choice t.cpu) (both (same_choice t.sends t.sends) (same_choice t.receives t.receives) (choice t.sends) (choice t.receives)))
 
--- what stands at one place is one
+-- the rank and the place of a plain station determine it
 side_place_is_bounded : (s r : Option ℕ) → IsOneSide s r → side_place s r < 513
 side_place_is_bounded None None h = omega arith
 side_place_is_bounded None (Some n) h = omega (arith, h)
@@ -87,7 +87,7 @@ none_placed_at_start latest none = record {
 
 module _ (seen : List Station) (latest : ℕ → Option Latest) (placed : ArePlaced seen latest) where
   module _ (rank at : ℕ) (station : Station) (same_rank : station.rank ≡ rank) (same_place : place station ≡ at) where
-    -- a plain station has the number that its place tells for its rank
+    -- a plain station has the number that is noted at its place for its rank
     pub latest_gives_number_of_station : (number : ℕ) → IsPlain station → latest at ≡ Some (record { rank = rank; number = number }) → slice_get seen number ≡ Some station
     latest_gives_number_of_station number plain e =
         let told = placed.told at (record { rank = rank; number = number }) e in
@@ -141,7 +141,7 @@ module _ (seen : List Station) (latest : ℕ → Option Latest) (placed : ArePla
     placed_after_write at number is next more set others =
         placed_after_append more (ap more (sym is) ∙ set ∙ ap (λ (m : ℕ). Some (record { rank = station.rank; number = m })) next) (λ n apart. others n (λ e. apart (e ∙ is)))
 
--- what follows where there is no value
+-- if P implies Q, then `IfNone r P` implies `IfNone r Q`
 pub if_none_map : {X P Q : Type 0} (r : Option X) → (P → Q) → IfNone r P → IfNone r Q
 if_none_map None f h = f h
 if_none_map (Some x) f h = h
@@ -155,7 +155,7 @@ plain_side s p = go s.sends s.receives p.side
     go None (Some n) h = record { cpu = tt; side = h }
     go (Some m) (Some n) h = absurd h
 
--- one more is one station
+-- an appended station has the length of the list before as its number
 pub appended_station_has_number : (seen : List Station) (station : Station) → HasNumber seen (seen ++ station ∷ []) station (length seen)
 appended_station_has_number seen station = record {
   more = station ∷ [];

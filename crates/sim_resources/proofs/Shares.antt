@@ -54,6 +54,6 @@ module _ (place : Op → ℕ) (plans : List Plan) where
       go (Some o) p =
           shares-is z x o s.one p s.one_is ∙ (λ i. (z.rank == s.rank i) && (place o == s.number i)) ∙ sym (shares-is z y o s.other p s.other_is)
 
-  -- what shares with one operation shares
+  -- operations that share with the same operation share with each other
   pub shares_transitive : (x y z : OpId) → shares place plans x y ≡ true → shares place plans x z ≡ true → shares place plans y z ≡ true
   shares_transitive x y z first second = sym (shares_alike x z y second) ∙ shares_symmetric x y first

@@ -8,7 +8,7 @@ use Rattle.goal_graph.proofs.ForCallers.{contains_first, contains_more}
 use Rattle.sim_resources.specs.FreeTimes.{Hold, Holds, shares, free_at, hold, hold_cpu, hold_tx, hold_rx, SameFreeTimes}
 use Rattle.sim_resources.specs.Laws.{IsOn, HasLast, FreeTimesAreGreatest, OthersStay, HoldsAddUp}
 
--- with one more hold
+-- equal free times stay equal if both get the same hold
 free_at-more : (place : Op → ℕ) (plans plans' : List Plan) (hs hs' : List Hold) (h : Hold) (y : OpId) → plans ≡ plans' → free_at place plans hs y ≡ free_at place plans' hs' y → free_at place plans (h ∷ hs) y ≡ free_at place plans' (h ∷ hs') y
 unfolding free_at
 free_at-more place plans plans' hs hs' h y p e = λ i. max (e i) (if shares place (p i) y h.op then h.until else 0)

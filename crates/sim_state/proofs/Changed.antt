@@ -27,7 +27,7 @@ use Rattle.sim_state.proofs.Fits.{cpu_fits, tx_fits, rx_fits, bytes_fit, sends, 
 use Rattle.sim_state.proofs.FreeTimes.{free_same, free_send, free_serve}
 use Rattle.sim_state.proofs.HoldTimes.{cpu_of_data, tx_of_data, sends_at_data, cpu_of_serve, rx_of_serve}
 use Rattle.sim_state.proofs.Pairings.{served_mate}
-use Rattle.sim_state.proofs.PostsAndArrivals.{post_known, arrival_known, not_before}
+use Rattle.sim_state.proofs.PostsAndArrivals.{post_known, arrival_known, possible_not_happened_in_matcher}
 use Rattle.sim_state.proofs.Tasks.{is_message}
 
 module _ (plans : List Plan) (costs : CostModel) (h : List Timed) (a : Timed) (run : IsRun plans costs h) (within : budget plans costs < 2 ^ 63) (p : Possible plans costs h a) where
@@ -46,14 +46,14 @@ module _ (plans : List Plan) (costs : CostModel) (h : List Timed) (a : Timed) (r
   times_changed c t e known =
       subst (IsChange plans costs h a) (sym e) (record { exists = tt; known = known })
 
-  -- a post, where the matcher has told the partner
+  -- a post, where the matcher has returned the partner
   module _ (m : PostsAndArrivals) (knows : KnowsPostsAndArrivals plans costs h m) (is : a.class ≡ Post) where
     pub post_receive : IsReceive m.plans a.op
     post_receive =
         subst (λ (ps : List Plan). IsReceive ps a.op) (sym knows.same_plans) (posts plans costs h a run p is)
 
     pub post_fresh : happened Post a.op m.actions ≡ false
-    post_fresh = not_before plans costs h a m knows Post p is refl
+    post_fresh = possible_not_happened_in_matcher plans costs h a m knows Post p is refl
 
     pub post_changes : (t : Times) (partner : Option OpId) → t ≡ record before { start = Some a.time; awaited = None } → partner ≡ send_for m.plans m.actions a.op → IsChange plans costs h a (record { times = t; partner = partner })
     post_changes t partner e told =
@@ -77,7 +77,7 @@ module _ (plans : List Plan) (costs : CostModel) (h : List Timed) (a : Timed) (r
         subst (λ (ps : List Plan). IsSend ps a.op) (sym knows.same_plans) (arrives plans costs h a run p is)
 
     pub arrival_fresh : happened Arrive a.op m.actions ≡ false
-    arrival_fresh = not_before plans costs h a m knows Arrive p is refl
+    arrival_fresh = possible_not_happened_in_matcher plans costs h a m knows Arrive p is refl
 
     pub arrival_changes : (t : Times) (partner : Option OpId) → t ≡ record before { awaited = None } → partner ≡ receive_for m.plans m.actions a.op → IsChange plans costs h a (record { times = t; partner = partner })
     arrival_changes t partner e told =

@@ -18,19 +18,19 @@ use Rattle.sim_params.proofs.ForCallers.{possible_at}
 use Rattle.sim_state.specs.Enabled.{enabled_action, IsEnabledActionOf}
 use Rattle.sim_state.proofs.Started.{arrive_started, data_started}
 
--- what is not there is none
-pub none_there : {A : Type 0} (o : Option A) → is_some o ≡ false → o ≡ None
-none_there None e = refl
-none_there (Some x) e = absurd (both_ways true e refl)
+-- an option that has no value is None
+pub is_some_false_means_none : {A : Type 0} (o : Option A) → is_some o ≡ false → o ≡ None
+is_some_false_means_none None e = refl
+is_some_false_means_none (Some x) e = absurd (both_ways true e refl)
 
 -- the first of two that is there
-pub or_first : (a b : Option Timed) → is_some a ≡ true → a ≡ option_or a b
-or_first None b e = absurd (both_ways false refl e)
-or_first (Some x) b e = refl
+pub option_or_of_some : (a b : Option Timed) → is_some a ≡ true → a ≡ option_or a b
+option_or_of_some None b e = absurd (both_ways false refl e)
+option_or_of_some (Some x) b e = refl
 
-pub or_last : (a b : Option Timed) → is_some a ≡ false → b ≡ option_or a b
-or_last None b e = refl
-or_last (Some x) b e = absurd (both_ways true e refl)
+pub option_or_of_none : (a b : Option Timed) → is_some a ≡ false → b ≡ option_or a b
+option_or_of_none None b e = refl
+option_or_of_none (Some x) b e = absurd (both_ways true e refl)
 
 module _ (plans : List Plan) (costs : CostModel) (h : List Timed) (x : OpId) where
   abbrev pub Can : Class → Type 0
@@ -60,29 +60,29 @@ module _ (plans : List Plan) (costs : CostModel) (h : List Timed) (x : OpId) whe
           subst (λ (o : Option Timed). IsEnabledAction (option_or o rest)) (sym (cond-false _ (Some (at_its_time plans costs h c x)) None f)) (other (λ t. both_ways _ f t))
 
   -- the classes of each kind
-  calc_class : IsCalc plans x → (c : Class) → Can c → c ≡ Begin
-  calc_class k Begin e = refl
-  calc_class k Arrive e = absurd (not_send_calc plans x (allowed_arrive plans (is_eager plans costs) (plain h) x e).0 k)
-  calc_class k Data e = absurd (not_send_calc plans x (allowed_data plans (is_eager plans costs) (plain h) x e).0 k)
-  calc_class k Post e = absurd (not_receive_calc plans x (allowed_post plans (is_eager plans costs) (plain h) x e).0 k)
-  calc_class k Serve e = absurd (not_receive_calc plans x (allowed_serve plans (is_eager plans costs) (plain h) x e).0 k)
+  calc_may_only_begin : IsCalc plans x → (c : Class) → Can c → c ≡ Begin
+  calc_may_only_begin k Begin e = refl
+  calc_may_only_begin k Arrive e = absurd (not_send_calc plans x (allowed_arrive plans (is_eager plans costs) (plain h) x e).0 k)
+  calc_may_only_begin k Data e = absurd (not_send_calc plans x (allowed_data plans (is_eager plans costs) (plain h) x e).0 k)
+  calc_may_only_begin k Post e = absurd (not_receive_calc plans x (allowed_post plans (is_eager plans costs) (plain h) x e).0 k)
+  calc_may_only_begin k Serve e = absurd (not_receive_calc plans x (allowed_serve plans (is_eager plans costs) (plain h) x e).0 k)
 
-  send_class : IsSend plans x → (Can Begin → ⊥) → (Can Arrive → ⊥) → (c : Class) → Can c → c ≡ Data
-  send_class k b a Begin e = absurd (b e)
-  send_class k b a Arrive e = absurd (a e)
-  send_class k b a Data e = refl
-  send_class k b a Post e = absurd (not_send_receive plans x k (allowed_post plans (is_eager plans costs) (plain h) x e).0)
-  send_class k b a Serve e = absurd (not_send_receive plans x k (allowed_serve plans (is_eager plans costs) (plain h) x e).0)
+  send_may_else_only_data : IsSend plans x → (Can Begin → ⊥) → (Can Arrive → ⊥) → (c : Class) → Can c → c ≡ Data
+  send_may_else_only_data k b a Begin e = absurd (b e)
+  send_may_else_only_data k b a Arrive e = absurd (a e)
+  send_may_else_only_data k b a Data e = refl
+  send_may_else_only_data k b a Post e = absurd (not_send_receive plans x k (allowed_post plans (is_eager plans costs) (plain h) x e).0)
+  send_may_else_only_data k b a Serve e = absurd (not_send_receive plans x k (allowed_serve plans (is_eager plans costs) (plain h) x e).0)
 
-  receive_class : IsReceive plans x → (Can Post → ⊥) → (c : Class) → Can c → c ≡ Serve
-  receive_class k p Begin e = absurd (elim (allowed_begin plans (is_eager plans costs) (plain h) x e).0 [ inl calc ↦ not_receive_calc plans x k calc | inr send ↦ not_send_receive plans x send k ])
-  receive_class k p Arrive e = absurd (not_send_receive plans x (allowed_arrive plans (is_eager plans costs) (plain h) x e).0 k)
-  receive_class k p Data e = absurd (not_send_receive plans x (allowed_data plans (is_eager plans costs) (plain h) x e).0 k)
-  receive_class k p Post e = absurd (p e)
-  receive_class k p Serve e = refl
+  receive_may_else_only_serve : IsReceive plans x → (Can Post → ⊥) → (c : Class) → Can c → c ≡ Serve
+  receive_may_else_only_serve k p Begin e = absurd (elim (allowed_begin plans (is_eager plans costs) (plain h) x e).0 [ inl calc ↦ not_receive_calc plans x k calc | inr send ↦ not_send_receive plans x send k ])
+  receive_may_else_only_serve k p Arrive e = absurd (not_send_receive plans x (allowed_arrive plans (is_eager plans costs) (plain h) x e).0 k)
+  receive_may_else_only_serve k p Data e = absurd (not_send_receive plans x (allowed_data plans (is_eager plans costs) (plain h) x e).0 k)
+  receive_may_else_only_serve k p Post e = absurd (p e)
+  receive_may_else_only_serve k p Serve e = refl
 
   pub calc_choice : IsCalc plans x → (r : Option Timed) → r ≡ enabled_action plans costs h Begin x → IsEnabledAction r
-  calc_choice k r e = subst IsEnabledAction (sym e) (enabled_of_class Begin (calc_class k))
+  calc_choice k r e = subst IsEnabledAction (sym e) (enabled_of_class Begin (calc_may_only_begin k))
 
   -- a send that has not started may only begin
   only_begins : IsSend plans x → IsRun plans costs h → has_started plans x (plain h) ≡ false → (c : Class) → Can c → c ≡ Begin
@@ -99,12 +99,12 @@ module _ (plans : List Plan) (costs : CostModel) (h : List Timed) (x : OpId) whe
   pub begun_send_choice : IsSend plans x → has_started plans x (plain h) ≡ true → (a b r : Option Timed) → a ≡ enabled_action plans costs h Arrive x → b ≡ enabled_action plans costs h Data x → r ≡ option_or a b → IsEnabledAction r
   begun_send_choice k s a b r ae be re =
       let not_begin : Can Begin → ⊥ = λ e. both_ways _ (allowed_fresh plans (is_eager plans costs) (plain h) Begin x e) (sym (started_send plans (plain h) x k) ∙ s) in
-      let enabled = first_of Arrive (enabled_action plans costs h Data x) (λ na. enabled_of_class Data (send_class k not_begin na)) in
+      let enabled = first_of Arrive (enabled_action plans costs h Data x) (λ na. enabled_of_class Data (send_may_else_only_data k not_begin na)) in
       let parts : r ≡ option_or (enabled_action plans costs h Arrive x) (enabled_action plans costs h Data x) = re ∙ (λ i. option_or (ae i) (be i)) in
       subst IsEnabledAction (sym parts) enabled
 
   pub receive_choice : IsReceive plans x → (a b r : Option Timed) → a ≡ enabled_action plans costs h Post x → b ≡ enabled_action plans costs h Serve x → r ≡ option_or a b → IsEnabledAction r
   receive_choice k a b r ae be re =
-      let enabled = first_of Post (enabled_action plans costs h Serve x) (λ np. enabled_of_class Serve (receive_class k np)) in
+      let enabled = first_of Post (enabled_action plans costs h Serve x) (λ np. enabled_of_class Serve (receive_may_else_only_serve k np)) in
       let parts : r ≡ option_or (enabled_action plans costs h Post x) (enabled_action plans costs h Serve x) = re ∙ (λ i. option_or (ae i) (be i)) in
       subst IsEnabledAction (sym parts) enabled

@@ -80,8 +80,8 @@ module _ (plans : List Plan) (costs : CostModel) where
     rx_first = refl
 
   -- all is free at 0
-  pub free_first : (res : Holds) → SameFreeTimes res (unheld plans) → AreFreeTimes plans costs [] res
-  free_first res same = record {
+  pub unheld_is_free_at_start : (res : Holds) → SameFreeTimes res (unheld plans) → AreFreeTimes plans costs [] res
+  unheld_is_free_at_start res same = record {
     same_plans = same.plans;
     cpus = λ x. same.cpu x ∙ cpu_first x;
     senders = λ x. same.tx x ∙ tx_first x;
@@ -89,9 +89,9 @@ module _ (plans : List Plan) (costs : CostModel) where
   }
 
   -- a new matcher
-  pub none_known : (matcher : PostsAndArrivals) → matcher ≡ record { plans = plans; actions = [] } → KnowsPostsAndArrivals plans costs [] matcher
+  pub new_matcher_knows_empty_history : (matcher : PostsAndArrivals) → matcher ≡ record { plans = plans; actions = [] } → KnowsPostsAndArrivals plans costs [] matcher
   unfolding plain
-  none_known matcher e = record {
+  new_matcher_knows_empty_history matcher e = record {
     same_plans = ap (λ (m : PostsAndArrivals). m.plans) e;
     events = ap (λ (m : PostsAndArrivals). m.actions) e;
   }

@@ -13,7 +13,7 @@ use Rattle.goal_graph.specs.Action.{happened, plain}
 use Rattle.goal_graph.specs.Matching.{pairs, is_paired}
 use Rattle.goal_graph.specs.Allowed.{first_class, has_started, has_ended, is_ready, is_served, may, allowed}
 use Rattle.goal_graph.specs.Laws.{IsCalc}
-use Rattle.goal_graph.proofs.ForCallers.{partner_is_send, allowed_fresh, allowed_may, allowed_from, allowed_data, allowed_serve, arrived_begun, cases_some, first_of_calc, first_of_send, first_of_receive, ended_receive, last_of_eager, last_of_rendezvous}
+use Rattle.goal_graph.proofs.ForCallers.{partner_is_send, allowed_fresh, allowed_may, allowed_from, allowed_data, allowed_serve, arrived_begun, value_of_is_some, first_of_calc, first_of_send, first_of_receive, ended_receive, last_of_eager, last_of_rendezvous}
 use Rattle.sim_params.specs.Costs.{CostModel, is_eager, eager_of, latency, flight}
 use Rattle.sim_params.specs.Times.{since, mate, ready, cpu, tx, rx, paired_at, there_at, time_of, time}
 use Rattle.sim_params.specs.Run.{IsRun}
@@ -30,13 +30,13 @@ use Rattle.sim_state.proofs.Handed.{awaited_handed, awaited_unpaired, paired_arr
 use Rattle.sim_state.proofs.Tasks.{send_task}
 
 -- a number that is known, or not
-pub known_some : (b : Bool) (n m : ℕ) → (if b then Some n else None) ≡ Some m → (b ≡ true) × (n ≡ m)
-known_some true n m e = (refl, same_Some n m e)
-known_some false n m e = absurd (cc)
+pub some_only_if_test_passes : (b : Bool) (n m : ℕ) → (if b then Some n else None) ≡ Some m → (b ≡ true) × (n ≡ m)
+some_only_if_test_passes true n m e = (refl, same_Some n m e)
+some_only_if_test_passes false n m e = absurd (cc)
 
-pub is_known : (b : Bool) (n : ℕ) → is_some (if b then Some n else None) ≡ b
-is_known true n = refl
-is_known false n = refl
+pub is_some_by_test : (b : Bool) (n : ℕ) → is_some (if b then Some n else None) ≡ b
+is_some_by_test true n = refl
+is_some_by_test false n = refl
 
 module _ (plans : List Plan) (costs : CostModel) (h : List Timed) (x : OpId) where
   -- an action that may happen and has not
@@ -86,8 +86,8 @@ module _ (plans : List Plan) (costs : CostModel) (h : List Timed) (x : OpId) whe
   first_happened c b = ap (λ (d : Class). happened d x (plain h)) (sym b.first)
 
   -- when its message or its request arrives, once it has started and while it is not paired
-  pub arrival_told : IsRun plans costs h → (e : OpState) → e ≡ entry_known plans costs h x → has_started plans x (plain h) ≡ true → mate plans costs h x ≡ None → e.times.awaited ≡ time_known plans costs h Arrive x
-  arrival_told run e told s none =
+  pub started_unpaired_awaits_arrival : IsRun plans costs h → (e : OpState) → e ≡ entry_known plans costs h x → has_started plans x (plain h) ≡ true → mate plans costs h x ≡ None → e.times.awaited ≡ time_known plans costs h Arrive x
+  started_unpaired_awaits_arrival run e told s none =
       ap (λ (e : OpState). e.times.awaited) told ∙ awaited_unpaired plans costs h x run s none
 
   pub arrival_enabled : (r : Option ℕ) → r ≡ time_known plans costs h Arrive x → option_map (λ (t : ℕ). record { time = t; class = Arrive; op = x }) r ≡ enabled_action plans costs h Arrive x
@@ -101,15 +101,15 @@ module _ (plans : List Plan) (costs : CostModel) (h : List Timed) (x : OpId) whe
       go true = refl
       go false = refl
 
-  -- whether it has ended, as its entry tells it
-  end_told : (e : OpState) → e ≡ entry_known plans costs h x → has_ended plans (is_eager plans costs) x (plain h) ≡ is_some e.times.end
-  end_told e told =
-      sym (is_known (has_ended plans (is_eager plans costs) x (plain h)) _) ∙ sym (ap (λ (e : OpState). is_some e.times.end) told)
+  -- it has ended exactly if its entry has an end
+  has_ended_by_entry : (e : OpState) → e ≡ entry_known plans costs h x → has_ended plans (is_eager plans costs) x (plain h) ≡ is_some e.times.end
+  has_ended_by_entry e told =
+      sym (is_some_by_test (has_ended plans (is_eager plans costs) x (plain h)) _) ∙ sym (ap (λ (e : OpState). is_some e.times.end) told)
 
   -- a rendezvous send ends as it transfers its data
-  large_end : IsSend plans x → is_eager plans costs x ≡ false → (e : OpState) → e ≡ entry_known plans costs h x → happened Data x (plain h) ≡ is_some e.times.end
-  large_end k large e told =
-      sym (ap (λ (c : Class). happened c x (plain h)) (last_of_rendezvous plans (is_eager plans costs) x k large)) ∙ end_told e told
+  rendezvous_data_by_entry_end : IsSend plans x → is_eager plans costs x ≡ false → (e : OpState) → e ≡ entry_known plans costs h x → happened Data x (plain h) ≡ is_some e.times.end
+  rendezvous_data_by_entry_end k large e told =
+      sym (ap (λ (c : Class). happened c x (plain h)) (last_of_rendezvous plans (is_eager plans costs) x k large)) ∙ has_ended_by_entry e told
 
   -- nothing more of that class once it has started, nor while something that it needs is not there
   pub begun_not_enabled : (c : Class) → BeginsBy c → has_started plans x (plain h) ≡ true → None ≡ enabled_action plans costs h c x
@@ -117,12 +117,12 @@ module _ (plans : List Plan) (costs : CostModel) (h : List Timed) (x : OpId) whe
 
   pub unready_not_enabled : (c : Class) → BeginsBy c → (r : Option ℕ) → r ≡ ready_known plans costs h x → r ≡ None → None ≡ enabled_action plans costs h c x
   unready_not_enabled c b r told n =
-      barred_not_enabled c (b.once_ready ∙ sym (is_known (is_ready plans (is_eager plans costs) (plain h) x) _) ∙ ap is_some (sym told ∙ n))
+      barred_not_enabled c (b.once_ready ∙ sym (is_some_by_test (is_ready plans (is_eager plans costs) (plain h) x) _) ∙ ap is_some (sym told ∙ n))
 
   -- else its action is enabled
   pub ready_enabled : (c : Class) → BeginsBy c → has_started plans x (plain h) ≡ false → (r : Option ℕ) (n t : ℕ) → r ≡ ready_known plans costs h x → r ≡ Some n → (ready plans costs h x ≡ n → t ≡ time plans costs h c x) → Some (record { time = t; class = c; op = x }) ≡ enabled_action plans costs h c x
   ready_enabled c b s r n t r_known r_is at =
-      let q = known_some (is_ready plans (is_eager plans costs) (plain h) x) (ready plans costs h x) n (sym r_known ∙ r_is) in
+      let q = some_only_if_test_passes (is_ready plans (is_eager plans costs) (plain h) x) (ready plans costs h x) n (sym r_known ∙ r_is) in
       comes_enabled c t (first_happened c b ∙ s) (b.once_ready ∙ q.0) (at q.1)
 
   -- the times of each class
@@ -151,59 +151,59 @@ module _ (plans : List Plan) (costs : CostModel) (h : List Timed) (x : OpId) whe
     pub mate_is : mate plans costs h x ≡ Some p.with
     pub at_is : paired_at plans costs h x ≡ p.at
 
-  -- the partner that the entry tells
-  partner_told : (e : OpState) (o : Option OpId) → e ≡ entry_known plans costs h x → e.link.partner ≡ o → mate plans costs h x ≡ o
-  partner_told e o told is = sym (ap (λ (e : OpState). e.link.partner) told) ∙ is
+  -- the partner in the entry is the one it is paired with
+  mate_is_entry_partner : (e : OpState) (o : Option OpId) → e ≡ entry_known plans costs h x → e.link.partner ≡ o → mate plans costs h x ≡ o
+  mate_is_entry_partner e o told is = sym (ap (λ (e : OpState). e.link.partner) told) ∙ is
 
-  -- what the entry of a receive that is paired awaits tells since when it is
-  receive_since : IsRun plans costs h → IsReceive plans x → (e : OpState) (m : OpId) → e ≡ entry_known plans costs h x → e.link.partner ≡ Some m → e.times.awaited ≡ Some (paired_at plans costs h x)
-  receive_since run k e m told is =
-      ap (λ (e : OpState). e.times.awaited) told ∙ receive_waits plans costs h x run k m (partner_told e (Some m) told is)
+  -- the entry of a paired receive awaits the time of the pairing
+  paired_receive_awaits_pairing_time : IsRun plans costs h → IsReceive plans x → (e : OpState) (m : OpId) → e ≡ entry_known plans costs h x → e.link.partner ≡ Some m → e.times.awaited ≡ Some (paired_at plans costs h x)
+  paired_receive_awaits_pairing_time run k e m told is =
+      ap (λ (e : OpState). e.times.awaited) told ∙ receive_waits plans costs h x run k m (mate_is_entry_partner e (Some m) told is)
 
   pub receive_pairing : IsRun plans costs h → IsReceive plans x → (e : OpState) (m : OpId) (n : ℕ) → e ≡ entry_known plans costs h x → e.link.partner ≡ Some m → e.times.awaited ≡ Some n → IsPairing (record { with = m; at = n })
   receive_pairing run k e m n told is since_is = record {
-    mate_is = partner_told e (Some m) told is;
-    at_is = same_Some (paired_at plans costs h x) n (sym (receive_since run k e m told is) ∙ since_is);
+    mate_is = mate_is_entry_partner e (Some m) told is;
+    at_is = same_Some (paired_at plans costs h x) n (sym (paired_receive_awaits_pairing_time run k e m told is) ∙ since_is);
   }
 
-  pub since_there : IsRun plans costs h → IsReceive plans x → (e : OpState) (m : OpId) → e ≡ entry_known plans costs h x → e.link.partner ≡ Some m → e.times.awaited ≡ None → ⊥
-  since_there run k e m told is none =
-      both_ways _ (ap is_some none) (ap is_some (receive_since run k e m told is))
+  pub paired_receive_awaits_some_time : IsRun plans costs h → IsReceive plans x → (e : OpState) (m : OpId) → e ≡ entry_known plans costs h x → e.link.partner ≡ Some m → e.times.awaited ≡ None → ⊥
+  paired_receive_awaits_some_time run k e m told is none =
+      both_ways _ (ap is_some none) (ap is_some (paired_receive_awaits_pairing_time run k e m told is))
 
-  -- no Data of an eager send, or of one that is not paired
-  eager_data : is_eager plans costs x ≡ true → None ≡ enabled_action plans costs h Data x
-  eager_data e =
+  -- no Data is enabled for an eager send, or for an operation that is not paired
+  no_data_enabled_for_eager_send : is_eager plans costs x ≡ true → None ≡ enabled_action plans costs h Data x
+  no_data_enabled_for_eager_send e =
       not_enabled Data (λ p. both_ways _ (allowed_data plans (is_eager plans costs) (plain h) x p).1 e)
 
-  pub unpaired_data : mate plans costs h x ≡ None → None ≡ enabled_action plans costs h Data x
-  unpaired_data n =
+  pub no_data_enabled_for_unpaired : mate plans costs h x ≡ None → None ≡ enabled_action plans costs h Data x
+  no_data_enabled_for_unpaired n =
       not_enabled Data (λ p. both_ways _ (ap is_some n) (allowed_data plans (is_eager plans costs) (plain h) x p).2)
 
-  -- and no Arrive of one that is paired
-  pub paired_arrive : IsSend plans x → is_some (mate plans costs h x) ≡ true → None ≡ enabled_action plans costs h Arrive x
-  paired_arrive k paired = past_not_enabled Arrive (paired_arrived plans costs h x k paired)
+  -- no Arrive is enabled for a send that is paired
+  pub no_arrive_enabled_for_paired_send : IsSend plans x → is_some (mate plans costs h x) ≡ true → None ≡ enabled_action plans costs h Arrive x
+  no_arrive_enabled_for_paired_send k paired = past_not_enabled Arrive (paired_arrived plans costs h x k paired)
 
   -- the Data of a send that is paired
   module _ (run : IsRun plans costs h) (k : IsSend plans x) (paired : is_some (mate plans costs h x) ≡ true) (e : OpState) (told : e ≡ entry_known plans costs h x) where
     -- there is none once it has ended
     pub ended_data : is_some e.times.end ≡ true → None ≡ enabled_action plans costs h Data x
     ended_data s =
-        elim (cases_Bool (is_eager plans costs x)) [ inl eager ↦ eager_data eager | inr large ↦ past_not_enabled Data (large_end k large e told ∙ s) ]
+        elim (cases_Bool (is_eager plans costs x)) [ inl eager ↦ no_data_enabled_for_eager_send eager | inr large ↦ past_not_enabled Data (rendezvous_data_by_entry_end k large e told ∙ s) ]
 
     module _ (s : is_some e.times.end ≡ false) where
       -- one that has not ended is a rendezvous send, since an eager one that is paired has begun, and has not
       -- transferred its data
       unended_large : is_eager plans costs x ≡ false
       unended_large =
-          false_from_ne_true _ (λ eager. both_ways _ (sym (ap (λ (c : Class). happened c x (plain h)) (last_of_eager plans (is_eager plans costs) x k eager)) ∙ end_told e told ∙ s) (arrived_begun plans (is_eager plans costs) (plain h) x (run_interleaving plans costs h run) (paired_arrived plans costs h x k paired)))
+          false_from_ne_true _ (λ eager. both_ways _ (sym (ap (λ (c : Class). happened c x (plain h)) (last_of_eager plans (is_eager plans costs) x k eager)) ∙ has_ended_by_entry e told ∙ s) (arrived_begun plans (is_eager plans costs) (plain h) x (run_interleaving plans costs h run) (paired_arrived plans costs h x k paired)))
 
       unended_fresh : happened Data x (plain h) ≡ false
-      unended_fresh = large_end k unended_large e told ∙ s
+      unended_fresh = rendezvous_data_by_entry_end k unended_large e told ∙ s
 
-      -- what its entry awaits tells since when it is paired
+      -- its entry awaits the time of the pairing
       send_since : e.times.awaited ≡ Some (paired_at plans costs h x)
       send_since =
-          let with = cases_some (mate plans costs h x) paired in
+          let with = value_of_is_some (mate plans costs h x) paired in
           ap (λ (e : OpState). e.times.awaited) told ∙ send_waits plans costs h x run k unended_fresh with.0 with.1
 
       pub waiting_there : e.times.awaited ≡ None → ⊥
@@ -229,28 +229,28 @@ module _ (plans : List Plan) (costs : CostModel) (h : List Timed) (x : OpId) whe
   -- the message of a rendezvous send is available once it has ended, when its data reach the receive
   pub ended_message : IsRun plans costs h → IsSend plans x → is_eager plans costs x ≡ false → (at : ℕ) (e : OpState) → e ≡ entry_known plans costs h x → is_some e.times.end ≡ true → e.times.awaited ≡ message_known plans costs h (record { with = x; at = at })
   ended_message run k large at e told s =
-      ap (λ (e : OpState). e.times.awaited) told ∙ awaited_handed plans costs h x run (large_end k large e told ∙ s) ∙ sym (cond-false _ _ _ large)
+      ap (λ (e : OpState). e.times.awaited) told ∙ awaited_handed plans costs h x run (rendezvous_data_by_entry_end k large e told ∙ s) ∙ sym (cond-false _ _ _ large)
 
   -- no Serve of a receive that has ended, that is not paired, or whose message is not there
   served_receive_ended : IsReceive plans x → (e : OpState) → e ≡ entry_known plans costs h x → happened Serve x (plain h) ≡ is_some e.times.end
-  served_receive_ended k e told = sym (ended_receive plans (is_eager plans costs) (plain h) x k) ∙ end_told e told
+  served_receive_ended k e told = sym (ended_receive plans (is_eager plans costs) (plain h) x k) ∙ has_ended_by_entry e told
 
-  pub ended_serve : IsReceive plans x → (e : OpState) → e ≡ entry_known plans costs h x → is_some e.times.end ≡ true → None ≡ enabled_action plans costs h Serve x
-  ended_serve k e told s = past_not_enabled Serve (served_receive_ended k e told ∙ s)
+  pub no_serve_enabled_for_ended_receive : IsReceive plans x → (e : OpState) → e ≡ entry_known plans costs h x → is_some e.times.end ≡ true → None ≡ enabled_action plans costs h Serve x
+  no_serve_enabled_for_ended_receive k e told s = past_not_enabled Serve (served_receive_ended k e told ∙ s)
 
   unserved_not_enabled : is_served plans (is_eager plans costs) (plain h) (mate plans costs h x) ≡ false → None ≡ enabled_action plans costs h Serve x
   unserved_not_enabled n =
       not_enabled Serve (λ p. both_ways _ n (allowed_serve plans (is_eager plans costs) (plain h) x p).1)
 
-  pub unpaired_serve : (e : OpState) → e ≡ entry_known plans costs h x → e.link.partner ≡ None → None ≡ enabled_action plans costs h Serve x
-  unpaired_serve e told n =
-      unserved_not_enabled (ap (is_served plans (is_eager plans costs) (plain h)) (partner_told e None told n))
+  pub no_serve_enabled_for_unpaired : (e : OpState) → e ≡ entry_known plans costs h x → e.link.partner ≡ None → None ≡ enabled_action plans costs h Serve x
+  no_serve_enabled_for_unpaired e told n =
+      unserved_not_enabled (ap (is_served plans (is_eager plans costs) (plain h)) (mate_is_entry_partner e None told n))
 
   pub pairing_send : IsReceive plans x → (p : Pairing) → IsPairing p → IsSend plans p.with
   pairing_send k p is = partner_is_send plans (plain h) x p.with k is.mate_is
 
-  pub absent_serve : (p : Pairing) → IsPairing p → (r : Option ℕ) → r ≡ message_known plans costs h p → r ≡ None → None ≡ enabled_action plans costs h Serve x
-  absent_serve p is r told n =
+  pub no_serve_enabled_without_message : (p : Pairing) → IsPairing p → (r : Option ℕ) → r ≡ message_known plans costs h p → r ≡ None → None ≡ enabled_action plans costs h Serve x
+  no_serve_enabled_without_message p is r told n =
       unserved_not_enabled (ap (is_served plans (is_eager plans costs) (plain h)) is.mate_is ∙ go (is_eager plans costs p.with) (happened Data p.with (plain h)) (sym told ∙ n))
     where
       go : (b d : Bool) → (if b then Some p.at else (if d then Some (since (happened Data p.with) h + flight plans costs p.with) else None)) ≡ None → (b || d) ≡ false
@@ -263,8 +263,8 @@ module _ (plans : List Plan) (costs : CostModel) (h : List Timed) (x : OpId) whe
     pub served : is_served plans (is_eager plans costs) (plain h) (mate plans costs h x) ≡ true
     pub when : there_at plans costs h x (mate plans costs h x) ≡ n
 
-  pub message_is : (p : Pairing) → IsPairing p → (r : Option ℕ) (n : ℕ) → r ≡ message_known plans costs h p → r ≡ Some n → IsThere n
-  message_is p is r n told some =
+  pub known_message_is_there : (p : Pairing) → IsPairing p → (r : Option ℕ) (n : ℕ) → r ≡ message_known plans costs h p → r ≡ Some n → IsThere n
+  known_message_is_there p is r n told some =
       let q = go (is_eager plans costs p.with) (happened Data p.with (plain h)) (sym told ∙ some) in
       record {
         served = ap (is_served plans (is_eager plans costs) (plain h)) is.mate_is ∙ q.0;
@@ -288,7 +288,7 @@ pub eager_read : (plans : List Plan) (costs : CostModel) (m : OpId) (bytes to ta
 unfolding is_eager
 eager_read plans costs m bytes to tag k = sym (ap (eager_of costs.eager m.rank) k)
 
--- a send of another task than that of one that goes out whole is large
-pub other_large : (plans : List Plan) (costs : CostModel) (x : OpId) (w : Task) → w ≡ task_of plans costs x → IsSend plans x → (w ≡ task.Eager → ⊥) → is_eager plans costs x ≡ false
-other_large plans costs x w e k other =
+-- a send whose task is not Eager is a rendezvous send
+pub send_of_other_task_is_not_eager : (plans : List Plan) (costs : CostModel) (x : OpId) (w : Task) → w ≡ task_of plans costs x → IsSend plans x → (w ≡ task.Eager → ⊥) → is_eager plans costs x ≡ false
+send_of_other_task_is_not_eager plans costs x w e k other =
     false_from_ne_true _ (λ eager. other (e ∙ sym (send_task plans costs x true k (sym eager))))

@@ -11,7 +11,7 @@ use Rattle.goal_graph.specs.Fault.{IsOp}
 use Rattle.goal_graph.specs.Action.{place, same_op, is_act, happened, plain, plain_act}
 use Rattle.goal_graph.specs.Allowed.{first_class, last_class, has_started, allowed}
 use Rattle.goal_graph.specs.Laws.{IsCalc}
-use Rattle.goal_graph.proofs.ForCallers.{allowed_data, cases_op, is_act_class, same_op_true, not_arrived, not_send_receive, first_of_calc, first_of_send, first_of_receive, last_of_calc, last_of_eager, last_of_rendezvous, last_of_receive, same_tables, with_entry_same, with_entry_other, entry_written, same_op_swapped, send_is_op, receive_is_op}
+use Rattle.goal_graph.proofs.ForCallers.{allowed_data, same_or_different_op, is_act_class, same_op_true, unarrived_send_has_no_partner, not_send_receive, first_of_calc, first_of_send, first_of_receive, last_of_calc, last_of_eager, last_of_rendezvous, last_of_receive, same_tables, with_entry_same, with_entry_other, entry_written, same_op_swapped, send_is_op, receive_is_op}
 use Rattle.sim_params.specs.Costs.{CostModel, flight, flight_one, is_eager}
 use Rattle.sim_params.specs.Times.{mate, cpu_hold, Possible}
 use Rattle.sim_params.specs.Run.{IsRun}
@@ -25,11 +25,11 @@ use Rattle.sim_state.specs.Tasks.{work_of}
 use Rattle.sim_state.specs.Tables.{with_entry, with_pairing, with_partner}
 use Rattle.sim_state.specs.Represents.{times_known, link_known, entry_known, entry_then}
 use Rattle.sim_state.specs.Awaited.{unmet, awaited_known, delivered_known, paired_since}
-use Rattle.sim_state.proofs.After.{not_happened_yet, other_op, other_class, happened_same, start_same, start_new, end_same, end_new, arriving_same, arriving_calc, arriving_receive, arriving_begun, arriving_arrived, awaited_paired, awaited_same, awaited_started, none_unmet, since_none, started_then, started_this, started_still, there_same, there_new, unstarted_unpaired}
+use Rattle.sim_state.proofs.After.{not_happened_yet, newest_is_not_act_of_other_op, newest_is_not_act_of_other_class, happened_kept_by_other_action, start_kept_by_other_action, start_known_after_first_action, end_kept_by_other_action, end_known_after_last_action, arrival_kept_by_other_action, arriving_calc, arriving_receive, arriving_begun, arrived_has_no_arrive_time, awaited_paired, awaited_kept_by_other_action, awaited_started, none_unmet, unpaired_has_no_pairing_time, started_then, first_action_starts_op, started_stays_started, delivered_kept_by_other_action, delivered_known_after_data, unstarted_unpaired}
 use Rattle.sim_state.proofs.GivenMoments.{started_was_ready}
 use Rattle.sim_state.proofs.Handed.{arriving_none, or_none, paired_arrived, unarrived_unhanded, undelivered, unstarted_unhanded}
 use Rattle.sim_state.proofs.Started.{arrive_started, data_started, serve_started}
-use Rattle.sim_state.proofs.Pairings.{none_made, other_makes_none, post_none, post_some, arrive_none, arrive_some}
+use Rattle.sim_state.proofs.Pairings.{mates_kept_where_no_pair_made, other_makes_none, post_none, post_some, arrive_none, arrive_some}
 
 same_entry : (d e : OpState) → d.work ≡ e.work → d.times.start ≡ e.times.start → d.times.end ≡ e.times.end → d.times.awaited ≡ e.times.awaited → d.link ≡ e.link → d ≡ e
 same_entry d e w s n a l =
@@ -56,7 +56,7 @@ pair_written y m at e f g differ here there others = entry_written m _ first g s
 
     rest : (x : OpId) → same_op m x ≡ false → g x ≡ first x
     rest x d =
-        elim (cases_op x y) [ inl s ↦ ap g s ∙ here ∙ ap (paired_with m at) (sym (with_entry_same y e f y refl)) ∙ sym (with_entry_same y _ base x s) | inr o ↦ others x (same_op_swapped x y o) d ∙ sym (with_entry_other y _ base x o ∙ with_entry_other y e f x o) ]
+        elim (same_or_different_op x y) [ inl s ↦ ap g s ∙ here ∙ ap (paired_with m at) (sym (with_entry_same y e f y refl)) ∙ sym (with_entry_same y _ base x s) | inr o ↦ others x (same_op_swapped x y o) d ∙ sym (with_entry_other y _ base x o ∙ with_entry_other y e f x o) ]
 
 module _ (plans : List Plan) (costs : CostModel) (h : List Timed) (a : Timed) (run : IsRun plans costs h) (possible : Possible plans costs h a) where
   abbrev before : OpId → OpState
@@ -80,21 +80,21 @@ module _ (plans : List Plan) (costs : CostModel) (h : List Timed) (a : Timed) (r
   waiting x =
       record (after x) { times = record (times_known plans costs (a ∷ h) x) { awaited = awaited_then x } }
 
-  pub own_next : next a.op ≡ after a.op
-  own_next = with_entry_same a.op (after a.op) waiting a.op refl
+  pub own_entry_after_action : next a.op ≡ after a.op
+  own_entry_after_action = with_entry_same a.op (after a.op) waiting a.op refl
 
-  other_next : (x : OpId) → same_op a.op x ≡ false → next x ≡ waiting x
-  other_next x d = with_entry_other a.op (after a.op) waiting x (same_op_swapped a.op x d)
+  other_entry_after_action : (x : OpId) → same_op a.op x ≡ false → next x ≡ waiting x
+  other_entry_after_action x d = with_entry_other a.op (after a.op) waiting x (same_op_swapped a.op x d)
 
   -- what one awaits that has the partner that it had, and that another action was of
   other_awaited : (x : OpId) → mate plans costs (a ∷ h) x ≡ mate plans costs h x → same_op a.op x ≡ false → awaited_then x ≡ awaited_known plans costs h x
   other_awaited x m d =
-      elim (cases_Bool (has_started plans x (plain h))) [ inl t ↦ cond-true _ _ _ t ∙ awaited_same plans costs h a x m (other_op plans costs h a Arrive x d) (other_op plans costs h a Begin x d) (other_op plans costs h a Data x d) t | inr f ↦ cond-false _ _ _ f ]
+      elim (cases_Bool (has_started plans x (plain h))) [ inl t ↦ cond-true _ _ _ t ∙ awaited_kept_by_other_action plans costs h a x m (newest_is_not_act_of_other_op plans costs h a Arrive x d) (newest_is_not_act_of_other_op plans costs h a Begin x d) (newest_is_not_act_of_other_op plans costs h a Data x d) t | inr f ↦ cond-false _ _ _ f ]
 
   -- all that is known of it stays
-  other_same : (x : OpId) → mate plans costs (a ∷ h) x ≡ mate plans costs h x → same_op a.op x ≡ false → next x ≡ before x
-  other_same x m d =
-      other_next x d ∙ same_entry _ _ refl (start_same plans costs h a x (other_op plans costs h a (first_class (kind_at plans x)) x d)) (end_same plans costs h a run x (other_op plans costs h a (last_class (is_eager plans costs x) (kind_at plans x)) x d)) (other_awaited x m d) (ap (λ (o : Option OpId). record { unmet = unmet plans costs h x; partner = o }) m)
+  other_entry_kept_with_mate : (x : OpId) → mate plans costs (a ∷ h) x ≡ mate plans costs h x → same_op a.op x ≡ false → next x ≡ before x
+  other_entry_kept_with_mate x m d =
+      other_entry_after_action x d ∙ same_entry _ _ refl (start_kept_by_other_action plans costs h a x (newest_is_not_act_of_other_op plans costs h a (first_class (kind_at plans x)) x d)) (end_kept_by_other_action plans costs h a run x (newest_is_not_act_of_other_op plans costs h a (last_class (is_eager plans costs x) (kind_at plans x)) x d)) (other_awaited x m d) (ap (λ (o : Option OpId). record { unmet = unmet plans costs h x; partner = o }) m)
 
   -- what is paired after the action was ready before it
   paired_link : (x y : OpId) → mate plans costs (a ∷ h) x ≡ Some y → (after x).link ≡ record { unmet = 0; partner = Some y }
@@ -107,8 +107,8 @@ module _ (plans : List Plan) (costs : CostModel) (h : List Timed) (a : Timed) (r
   other_class_no_act c d x e other =
       false_from_ne_true _ (λ t. other (sym e ∙ is_act_class d x (plain_act a) t))
 
-  not_class : (c d : Class) (x : OpId) → a.class ≡ c → (place c == place d) ≡ false → is_act d x (plain_act a) ≡ false
-  not_class c d x e f = other_class plans costs h a d x (ap (λ (c : Class). place c == place d) e ∙ f)
+  newest_is_not_act_of_other_place : (c d : Class) (x : OpId) → a.class ≡ c → (place c == place d) ≡ false → is_act d x (plain_act a) ≡ false
+  newest_is_not_act_of_other_place c d x e f = newest_is_not_act_of_other_class plans costs h a d x (ap (λ (c : Class). place c == place d) e ∙ f)
 
   module _ (e : OpState) (was : e ≡ before a.op) where
     work_was : work_of plans costs a.op ≡ e.work
@@ -116,11 +116,11 @@ module _ (plans : List Plan) (costs : CostModel) (h : List Timed) (a : Timed) (r
 
     start_was : (c : Class) → a.class ≡ c → (c ≡ first_class (kind_at plans a.op) → ⊥) → start_known plans costs (a ∷ h) a.op ≡ e.times.start
     start_was c same other =
-        start_same plans costs h a a.op (other_class_no_act c (first_class (kind_at plans a.op)) a.op same other) ∙ ap (λ (d : OpState). d.times.start) (sym was)
+        start_kept_by_other_action plans costs h a a.op (other_class_no_act c (first_class (kind_at plans a.op)) a.op same other) ∙ ap (λ (d : OpState). d.times.start) (sym was)
 
     end_was : (c : Class) → a.class ≡ c → (c ≡ last_class (is_eager plans costs a.op) (kind_at plans a.op) → ⊥) → end_known plans costs (a ∷ h) a.op ≡ e.times.end
     end_was c same other =
-        end_same plans costs h a run a.op (other_class_no_act c (last_class (is_eager plans costs a.op) (kind_at plans a.op)) a.op same other) ∙ ap (λ (d : OpState). d.times.end) (sym was)
+        end_kept_by_other_action plans costs h a run a.op (other_class_no_act c (last_class (is_eager plans costs a.op) (kind_at plans a.op)) a.op same other) ∙ ap (λ (d : OpState). d.times.end) (sym was)
 
     allowed_as : (c : Class) → a.class ≡ c → allowed plans (is_eager plans costs) (plain h) c a.op ≡ true
     allowed_as c same =
@@ -130,24 +130,24 @@ module _ (plans : List Plan) (costs : CostModel) (h : List Timed) (a : Timed) (r
     awaited_now : (c : Class) → a.class ≡ c → (place c == 2) ≡ false → c ≡ first_class (kind_at plans a.op) → mate plans costs (a ∷ h) a.op ≡ mate plans costs h a.op → awaited_known plans costs (a ∷ h) a.op ≡ time_known plans costs (a ∷ h) Arrive a.op
     awaited_now c same f first m =
         let before : has_started plans a.op (plain h) ≡ false = ap (λ (d : Class). happened d a.op (plain h)) (sym first) ∙ not_happened_yet plans costs h a c possible same in
-        let none : delivered_known plans costs (a ∷ h) a.op ≡ None = there_same plans costs h a a.op (not_class c Data a.op same f) ∙ undelivered plans costs h a.op (unstarted_unhanded plans costs h a.op run before) in
-        let never : paired_since plans costs (a ∷ h) a.op ≡ None = since_none plans costs (a ∷ h) a.op (m ∙ unstarted_unpaired plans costs h a.op (run_interleaving plans costs h run) before) in
-        awaited_started plans costs h a (a ∷ h) a.op (started_this plans costs h a (same ∙ first)) ∙ (λ i. option_or (time_known plans costs (a ∷ h) Arrive a.op) (option_or (none i) (never i))) ∙ or_none (time_known plans costs (a ∷ h) Arrive a.op)
+        let none : delivered_known plans costs (a ∷ h) a.op ≡ None = delivered_kept_by_other_action plans costs h a a.op (newest_is_not_act_of_other_place c Data a.op same f) ∙ undelivered plans costs h a.op (unstarted_unhanded plans costs h a.op run before) in
+        let never : paired_since plans costs (a ∷ h) a.op ≡ None = unpaired_has_no_pairing_time plans costs (a ∷ h) a.op (m ∙ unstarted_unpaired plans costs h a.op (run_interleaving plans costs h run) before) in
+        awaited_started plans costs h a (a ∷ h) a.op (first_action_starts_op plans costs h a (same ∙ first)) ∙ (λ i. option_or (time_known plans costs (a ∷ h) Arrive a.op) (option_or (none i) (never i))) ∙ or_none (time_known plans costs (a ∷ h) Arrive a.op)
 
     -- what an arrival that pairs no one leaves it to await: nothing
     awaited_none : a.class ≡ Arrive → IsSend plans a.op → mate plans costs (a ∷ h) a.op ≡ mate plans costs h a.op → awaited_known plans costs (a ∷ h) a.op ≡ None
     awaited_none c k m =
         let not_before : happened Arrive a.op (plain h) ≡ false = not_happened_yet plans costs h a Arrive possible c in
-        let none : delivered_known plans costs (a ∷ h) a.op ≡ None = there_same plans costs h a a.op (not_class Arrive Data a.op c refl) ∙ undelivered plans costs h a.op (unarrived_unhanded plans costs h a.op run not_before) in
-        let never : paired_since plans costs (a ∷ h) a.op ≡ None = since_none plans costs (a ∷ h) a.op (m ∙ not_arrived plans (plain h) a.op k not_before) in
-        awaited_started plans costs h a (a ∷ h) a.op (started_still plans costs h a a.op (arrive_started plans costs h a.op (allowed_as Arrive c))) ∙ (λ i. option_or (arriving_arrived plans costs h a c i) (option_or (none i) (never i)))
+        let none : delivered_known plans costs (a ∷ h) a.op ≡ None = delivered_kept_by_other_action plans costs h a a.op (newest_is_not_act_of_other_place Arrive Data a.op c refl) ∙ undelivered plans costs h a.op (unarrived_unhanded plans costs h a.op run not_before) in
+        let never : paired_since plans costs (a ∷ h) a.op ≡ None = unpaired_has_no_pairing_time plans costs (a ∷ h) a.op (m ∙ unarrived_send_has_no_partner plans (plain h) a.op k not_before) in
+        awaited_started plans costs h a (a ∷ h) a.op (started_stays_started plans costs h a a.op (arrive_started plans costs h a.op (allowed_as Arrive c))) ∙ (λ i. option_or (arrived_has_no_arrive_time plans costs h a c i) (option_or (none i) (never i)))
 
     -- and what one that transfers its data awaits: that these are delivered
     awaited_there : a.class ≡ Data → awaited_known plans costs (a ∷ h) a.op ≡ Some (a.time + flight plans costs a.op)
     awaited_there c =
         let sent = allowed_data plans (is_eager plans costs) (plain h) a.op (allowed_as Data c) in
-        let arrives = arriving_same plans costs h a a.op (not_class Data Arrive a.op c refl) (not_class Data Begin a.op c refl) ∙ arriving_none plans costs h a.op (paired_arrived plans costs h a.op sent.0 sent.2) in
-        awaited_started plans costs h a (a ∷ h) a.op (started_still plans costs h a a.op (data_started plans costs h a.op run (allowed_as Data c))) ∙ (λ i. option_or (arrives i) (option_or (there_new plans costs h a possible c i) (paired_since plans costs (a ∷ h) a.op)))
+        let arrives = arrival_kept_by_other_action plans costs h a a.op (newest_is_not_act_of_other_place Data Arrive a.op c refl) (newest_is_not_act_of_other_place Data Begin a.op c refl) ∙ arriving_none plans costs h a.op (paired_arrived plans costs h a.op sent.0 sent.2) in
+        awaited_started plans costs h a (a ∷ h) a.op (started_stays_started plans costs h a a.op (data_started plans costs h a.op run (allowed_as Data c))) ∙ (λ i. option_or (arrives i) (option_or (delivered_known_after_data plans costs h a possible c i) (paired_since plans costs (a ∷ h) a.op)))
 
     -- it waits for as many moments, and may keep its partner
     link_was : mate plans costs (a ∷ h) a.op ≡ mate plans costs h a.op → (after a.op).link ≡ e.link
@@ -157,7 +157,7 @@ module _ (plans : List Plan) (costs : CostModel) (h : List Timed) (a : Timed) (r
     -- what a receive that takes its message awaited, it does still
     served_awaited : a.class ≡ Serve → mate plans costs (a ∷ h) a.op ≡ mate plans costs h a.op → awaited_known plans costs (a ∷ h) a.op ≡ e.times.awaited
     served_awaited c m =
-        awaited_same plans costs h a a.op m (not_class Serve Arrive a.op c refl) (not_class Serve Begin a.op c refl) (not_class Serve Data a.op c refl) (serve_started plans costs h a.op (allowed_as Serve c)) ∙ ap (λ (d : OpState). d.times.awaited) (sym was)
+        awaited_kept_by_other_action plans costs h a a.op m (newest_is_not_act_of_other_place Serve Arrive a.op c refl) (newest_is_not_act_of_other_place Serve Begin a.op c refl) (newest_is_not_act_of_other_place Serve Data a.op c refl) (serve_started plans costs h a.op (allowed_as Serve c)) ∙ ap (λ (d : OpState). d.times.awaited) (sym was)
 
     -- the table after an action that pairs no one
     abbrev Becomes : OpState → Type 0
@@ -165,26 +165,26 @@ module _ (plans : List Plan) (costs : CostModel) (h : List Timed) (a : Timed) (r
 
     one_written : (n : OpState) → ((x : OpId) → mate plans costs (a ∷ h) x ≡ mate plans costs h x) → after a.op ≡ n → Becomes n
     one_written n mates now =
-        same_tables _ _ (operations plans) (λ i x s. entry_written a.op n before next (own_next ∙ now) (λ x d. other_same x (mates x) d) x)
+        same_tables _ _ (operations plans) (λ i x s. entry_written a.op n before next (own_entry_after_action ∙ now) (λ x d. other_entry_kept_with_mate x (mates x) d) x)
 
     unpaired : (c : Class) → a.class ≡ c → is_post_or_arrival_class c ≡ false → (x : OpId) → mate plans costs (a ∷ h) x ≡ mate plans costs h x
-    unpaired c same f = none_made plans costs h a (other_makes_none plans costs h a (ap is_post_or_arrival_class same ∙ f))
+    unpaired c same f = mates_kept_where_no_pair_made plans costs h a (other_makes_none plans costs h a (ap is_post_or_arrival_class same ∙ f))
 
     module _ (until : ℕ) (ends : until ≡ a.time + cpu_hold plans costs h a.class a.op (kind_at plans a.op)) where
       end_now : a.class ≡ last_class (is_eager plans costs a.op) (kind_at plans a.op) → end_known plans costs (a ∷ h) a.op ≡ Some until
-      end_now last = end_new plans costs h a possible last ∙ ap Some (sym ends)
+      end_now last = end_known_after_last_action plans costs h a possible last ∙ ap Some (sym ends)
 
       -- a calc begins
       pub calc_begun : a.class ≡ Begin → IsCalc plans a.op → Becomes (record e { times = record e.times { start = Some a.time; end = Some until; awaited = None } })
       calc_begun c k =
           let mates = unpaired Begin c refl in
-          one_written _ mates (same_entry _ _ work_was (start_new plans costs h a possible (c ∙ sym (first_of_calc plans a.op k))) (end_now (c ∙ sym (last_of_calc plans (is_eager plans costs) a.op k))) (awaited_now Begin c refl (sym (first_of_calc plans a.op k)) (mates a.op) ∙ arriving_calc plans costs h a (a ∷ h) a.op k) (link_was (mates a.op)))
+          one_written _ mates (same_entry _ _ work_was (start_known_after_first_action plans costs h a possible (c ∙ sym (first_of_calc plans a.op k))) (end_now (c ∙ sym (last_of_calc plans (is_eager plans costs) a.op k))) (awaited_now Begin c refl (sym (first_of_calc plans a.op k)) (mates a.op) ∙ arriving_calc plans costs h a (a ∷ h) a.op k) (link_was (mates a.op)))
 
       -- an eager send begins
       pub eager_begun : (arrive : ℕ) → a.class ≡ Begin → IsSend plans a.op → is_eager plans costs a.op ≡ true → arrive ≡ a.time + flight plans costs a.op → Becomes (record e { times = record e.times { start = Some a.time; end = Some until; awaited = Some arrive } })
       eager_begun arrive c k eager at =
           let mates = unpaired Begin c refl in
-          one_written _ mates (same_entry _ _ work_was (start_new plans costs h a possible (c ∙ sym (first_of_send plans a.op k))) (end_now (c ∙ sym (last_of_eager plans (is_eager plans costs) a.op k eager))) (awaited_now Begin c refl (sym (first_of_send plans a.op k)) (mates a.op) ∙ arriving_begun plans costs h a run possible c k ∙ ap (λ (b : Bool). Some (a.time + (if b then flight plans costs a.op else flight_one plans costs a.op))) eager ∙ ap Some (sym at)) (link_was (mates a.op)))
+          one_written _ mates (same_entry _ _ work_was (start_known_after_first_action plans costs h a possible (c ∙ sym (first_of_send plans a.op k))) (end_now (c ∙ sym (last_of_eager plans (is_eager plans costs) a.op k eager))) (awaited_now Begin c refl (sym (first_of_send plans a.op k)) (mates a.op) ∙ arriving_begun plans costs h a run possible c k ∙ ap (λ (b : Bool). Some (a.time + (if b then flight plans costs a.op else flight_one plans costs a.op))) eager ∙ ap Some (sym at)) (link_was (mates a.op)))
 
       -- a rendezvous send transfers its data
       pub data_sent : (there : ℕ) → a.class ≡ Data → IsSend plans a.op → is_eager plans costs a.op ≡ false → there ≡ a.time + flight plans costs a.op → Becomes (record e { times = record e.times { end = Some until; awaited = Some there } })
@@ -208,7 +208,7 @@ module _ (plans : List Plan) (costs : CostModel) (h : List Timed) (a : Timed) (r
     pub request_begun : (arrive : ℕ) → a.class ≡ Begin → IsSend plans a.op → is_eager plans costs a.op ≡ false → arrive ≡ a.time + flight_one plans costs a.op → Becomes (record e { times = record e.times { start = Some a.time; awaited = Some arrive } })
     request_begun arrive c k large at =
         let mates = unpaired Begin c refl in
-        one_written _ mates (same_entry _ _ work_was (start_new plans costs h a possible (c ∙ sym (first_of_send plans a.op k))) (end_was Begin c (λ f. differ (f ∙ last_of_rendezvous plans (is_eager plans costs) a.op k large))) (awaited_now Begin c refl (sym (first_of_send plans a.op k)) (mates a.op) ∙ arriving_begun plans costs h a run possible c k ∙ ap (λ (b : Bool). Some (a.time + (if b then flight plans costs a.op else flight_one plans costs a.op))) large ∙ ap Some (sym at)) (link_was (mates a.op)))
+        one_written _ mates (same_entry _ _ work_was (start_known_after_first_action plans costs h a possible (c ∙ sym (first_of_send plans a.op k))) (end_was Begin c (λ f. differ (f ∙ last_of_rendezvous plans (is_eager plans costs) a.op k large))) (awaited_now Begin c refl (sym (first_of_send plans a.op k)) (mates a.op) ∙ arriving_begun plans costs h a run possible c k ∙ ap (λ (b : Bool). Some (a.time + (if b then flight plans costs a.op else flight_one plans costs a.op))) large ∙ ap Some (sym at)) (link_was (mates a.op)))
       where
         differ : Begin ≡ Data → ⊥
         differ f = cc
@@ -216,7 +216,7 @@ module _ (plans : List Plan) (costs : CostModel) (h : List Timed) (a : Timed) (r
     -- a receive is posted: what is known of it but what it awaits and its partner
     posted_entry : (o : Option ℕ) (l : Linked) → a.class ≡ Post → IsReceive plans a.op → awaited_known plans costs (a ∷ h) a.op ≡ o → (after a.op).link ≡ l → after a.op ≡ record e { times = record e.times { start = Some a.time; awaited = o }; link = l }
     posted_entry o l c k awaits pair =
-        same_entry _ _ work_was (start_new plans costs h a possible (c ∙ sym (first_of_receive plans a.op k))) (end_was Post c (λ f. differ (f ∙ last_of_receive plans (is_eager plans costs) a.op k))) awaits pair
+        same_entry _ _ work_was (start_known_after_first_action plans costs h a possible (c ∙ sym (first_of_receive plans a.op k))) (end_was Post c (λ f. differ (f ∙ last_of_receive plans (is_eager plans costs) a.op k))) awaits pair
       where
         differ : Post ≡ Serve → ⊥
         differ f = cc
@@ -254,12 +254,12 @@ module _ (plans : List Plan) (costs : CostModel) (h : List Timed) (a : Timed) (r
     -- it had started before, and is paired since the action
     partner_awaited : (m : OpId) → (place a.class == 2) ≡ false → same_op a.op m ≡ false → mate plans costs h m ≡ None → mate plans costs (a ∷ h) m ≡ Some a.op → awaited_then m ≡ Some a.time
     partner_awaited m f d free taken =
-        let before = sym (happened_same plans costs h a (first_class (kind_at plans m)) m (other_op plans costs h a (first_class (kind_at plans m)) m d)) ∙ started_then plans costs h a run possible m a.op taken in
+        let before = sym (happened_kept_by_other_action plans costs h a (first_class (kind_at plans m)) m (newest_is_not_act_of_other_op plans costs h a (first_class (kind_at plans m)) m d)) ∙ started_then plans costs h a run possible m a.op taken in
         cond-true _ _ _ before ∙ awaited_paired plans costs h a run possible m a.op taken f free
 
     partner_entry : (m : OpId) → (place a.class == 2) ≡ false → same_op a.op m ≡ false → mate plans costs h m ≡ None → mate plans costs (a ∷ h) m ≡ Some a.op → next m ≡ paired_with a.op a.time (before m)
     partner_entry m f d free taken =
-        other_next m d ∙ same_entry _ _ refl (start_same plans costs h a m (other_op plans costs h a (first_class (kind_at plans m)) m d)) (end_same plans costs h a run m (other_op plans costs h a (last_class (is_eager plans costs m) (kind_at plans m)) m d)) (partner_awaited m f d free taken) (paired_link m a.op taken)
+        other_entry_after_action m d ∙ same_entry _ _ refl (start_kept_by_other_action plans costs h a m (newest_is_not_act_of_other_op plans costs h a (first_class (kind_at plans m)) m d)) (end_kept_by_other_action plans costs h a run m (newest_is_not_act_of_other_op plans costs h a (last_class (is_eager plans costs m) (kind_at plans m)) m d)) (partner_awaited m f d free taken) (paired_link m a.op taken)
 
     apart : (m x : OpId) → IsSend plans m → IsReceive plans x → same_op m x ≡ false
     apart m x s r =
@@ -271,8 +271,8 @@ module _ (plans : List Plan) (costs : CostModel) (h : List Timed) (a : Timed) (r
         let differ = same_op_swapped m a.op (apart m a.op p.send p.receive) in
         let no_data = ap (λ (c : Class). place c == 2) c in
         let awaits = awaited_paired plans costs h a run possible a.op m p.receive_taken no_data p.free_receive in
-        let here = own_next ∙ posted_entry (Some a.time) _ c p.receive awaits (paired_link a.op m p.receive_taken) in
-        same_tables _ _ (operations plans) (λ i x s. pair_written a.op m a.time _ before next differ here (partner_entry m no_data differ p.free_send p.send_taken) (λ x d f. other_same x (p.others x f d) d) x)
+        let here = own_entry_after_action ∙ posted_entry (Some a.time) _ c p.receive awaits (paired_link a.op m p.receive_taken) in
+        same_tables _ _ (operations plans) (λ i x s. pair_written a.op m a.time _ before next differ here (partner_entry m no_data differ p.free_send p.send_taken) (λ x d f. other_entry_kept_with_mate x (p.others x f d) d) x)
 
     arrived_pair : (x : OpId) → a.class ≡ Arrive → receive_for plans (filter is_post_or_arrival (plain h)) a.op ≡ Some x → BecomePaired x (record e { times = record e.times { awaited = None } })
     arrived_pair x c some =
@@ -280,8 +280,8 @@ module _ (plans : List Plan) (costs : CostModel) (h : List Timed) (a : Timed) (r
         let differ = apart a.op x p.send p.receive in
         let no_data = ap (λ (c : Class). place c == 2) c in
         let awaits = awaited_paired plans costs h a run possible a.op x p.send_taken no_data p.free_send in
-        let here = own_next ∙ arrived_entry (Some a.time) _ c p.send awaits (paired_link a.op x p.send_taken) in
-        same_tables _ _ (operations plans) (λ i y s. pair_written a.op x a.time _ before next differ here (partner_entry x no_data differ p.free_receive p.receive_taken) (λ y d f. other_same y (p.others y d f) d) y)
+        let here = own_entry_after_action ∙ arrived_entry (Some a.time) _ c p.send awaits (paired_link a.op x p.send_taken) in
+        same_tables _ _ (operations plans) (λ i y s. pair_written a.op x a.time _ before next differ here (partner_entry x no_data differ p.free_receive p.receive_taken) (λ y d f. other_entry_kept_with_mate y (p.others y d f) d) y)
 
     -- whether someone is paired or not
     pub posted : (partner : Option OpId) → a.class ≡ Post → IsReceive plans a.op → partner ≡ send_for plans (filter is_post_or_arrival (plain h)) a.op → map (with_partner a.op partner a.time (with_entry a.op (record e { times = record e.times { start = Some a.time; awaited = None } }) before)) (operations plans) ≡ map next (operations plans)

@@ -9,14 +9,14 @@ use Rattle.goal_graph.specs.Schedule.{Plan, kind_at, IsSend, IsReceive}
 use Rattle.goal_graph.specs.Action.{place, is_act, happened, plain, plain_act}
 use Rattle.goal_graph.specs.Matching.{pairs, is_paired}
 use Rattle.goal_graph.specs.Allowed.{first_class, may, is_served, allowed}
-use Rattle.goal_graph.proofs.ForCallers.{arrived_begun, served_message, cases_some, allowed_from, allowed_arrive, allowed_data, allowed_post, allowed_serve, partners_mutual, partner_is_receive}
+use Rattle.goal_graph.proofs.ForCallers.{arrived_begun, served_message, value_of_is_some, allowed_from, allowed_arrive, allowed_data, allowed_post, allowed_serve, partners_mutual, partner_is_receive}
 use Rattle.sim_params.specs.Costs.{CostModel, flight, flight_one, is_eager}
 use Rattle.sim_params.specs.Times.{since, mate, cpu_hold, tx_hold, rx_hold, paired_at, there_at, time_of, time, Possible}
 use Rattle.sim_params.specs.Run.{IsRun}
 use Rattle.sim_params.specs.Budget.{budget}
 use Rattle.sim_params.specs.Laws.{at_its_time}
 use Rattle.sim_params.proofs.ForCallers.{possible_within_budget, start_at_newest, since_new, mate_stays, possible_at, run_is_each_possible, run_interleaving}
-use Rattle.sim_state.proofs.After.{happened_same, happened_this, not_happened_yet, other_class}
+use Rattle.sim_state.proofs.After.{happened_kept_by_other_action, newest_action_has_happened, not_happened_yet, newest_is_not_act_of_other_class}
 
 module _ (plans : List Plan) (costs : CostModel) (h : List Timed) (a : Timed) (run : IsRun plans costs h) (p : Possible plans costs h a) where
   -- the action releases what it holds within the budget
@@ -39,9 +39,9 @@ module _ (plans : List Plan) (costs : CostModel) (h : List Timed) (a : Timed) (r
   unfolding time
   flight_fits e s =
       let not_arrived : happened Arrive a.op (plain h) ≡ false = false_from_ne_true _ (λ t. both_ways _ (not_happened_yet plans costs h a Begin p e) (arrived_begun plans (is_eager plans costs) (plain h) a.op (run_interleaving plans costs h run) t)) in
-      let other : is_act Arrive a.op (plain_act a) ≡ false = other_class plans costs h a Arrive a.op (ap (λ (c : Class). place c == 0) e) in
-      let still : happened Arrive a.op (plain (a ∷ h)) ≡ false = happened_same plans costs h a Arrive a.op other ∙ not_arrived in
-      let may_arrive : may plans (is_eager plans costs) (plain (a ∷ h)) Arrive a.op (kind_at plans a.op) ≡ true = ap (may plans (is_eager plans costs) (plain (a ∷ h)) Arrive a.op) s.kind ∙ happened_this plans costs h a Begin e in
+      let other : is_act Arrive a.op (plain_act a) ≡ false = newest_is_not_act_of_other_class plans costs h a Arrive a.op (ap (λ (c : Class). place c == 0) e) in
+      let still : happened Arrive a.op (plain (a ∷ h)) ≡ false = happened_kept_by_other_action plans costs h a Arrive a.op other ∙ not_arrived in
+      let may_arrive : may plans (is_eager plans costs) (plain (a ∷ h)) Arrive a.op (kind_at plans a.op) ≡ true = ap (may plans (is_eager plans costs) (plain (a ∷ h)) Arrive a.op) s.kind ∙ newest_action_has_happened plans costs h a Begin e in
       let first : a.class ≡ first_class (kind_at plans a.op) = e ∙ sym (ap first_class s.kind) in
       let bound = next_fits Arrive a.op (allowed_from plans (is_eager plans costs) (plain (a ∷ h)) Arrive a.op still may_arrive) in
       let when = ap (time_of plans costs (a ∷ h) Arrive a.op) s.kind in
@@ -78,21 +78,21 @@ module _ (plans : List Plan) (costs : CostModel) (h : List Timed) (a : Timed) (r
 
       go : IsSend plans a.op × (eager a.op ≡ false) × (is_paired (pairs plans (plain h)) a.op ≡ true) → a.time + flight plans costs a.op ≤ budget plans costs
       go (s, large, paired) =
-          let with = cases_some (mate plans costs h a.op) paired in
+          let with = value_of_is_some (mate plans costs h a.op) paired in
           let x = with.0 in
           let r = partner_is_receive plans (plain h) a.op x s with.1 in
           let back : mate plans costs h x ≡ Some a.op = partners_mutual plans eager (plain h) a.op x (run_interleaving plans costs h run) with.1 in
           let back_now : mate plans costs (a ∷ h) x ≡ Some a.op = mate_stays plans costs a h x a.op back in
           let unsent = not_happened_yet plans costs h a Data p e in
           let unserved : happened Serve x (plain h) ≡ false = false_from_ne_true _ (λ t. absent large unsent (subst (λ o. is_served plans eager (plain h) o ≡ true) back (served_message plans eager (plain h) x (run_interleaving plans costs h run) t))) in
-          let other : is_act Serve x (plain_act a) ≡ false = other_class plans costs h a Serve x (ap (λ (c : Class). place c == 1) e) in
-          let still : happened Serve x (plain (a ∷ h)) ≡ false = happened_same plans costs h a Serve x other ∙ unserved in
-          let there : is_served plans eager (plain (a ∷ h)) (mate plans costs (a ∷ h) x) ≡ true = subst (λ o. is_served plans eager (plain (a ∷ h)) o ≡ true) (sym back_now) (or_right (eager a.op) _ (happened_this plans costs h a Data e)) in
+          let other : is_act Serve x (plain_act a) ≡ false = newest_is_not_act_of_other_class plans costs h a Serve x (ap (λ (c : Class). place c == 1) e) in
+          let still : happened Serve x (plain (a ∷ h)) ≡ false = happened_kept_by_other_action plans costs h a Serve x other ∙ unserved in
+          let there : is_served plans eager (plain (a ∷ h)) (mate plans costs (a ∷ h) x) ≡ true = subst (λ o. is_served plans eager (plain (a ∷ h)) o ≡ true) (sym back_now) (or_right (eager a.op) _ (newest_action_has_happened plans costs h a Data e)) in
           let may_serve : may plans eager (plain (a ∷ h)) Serve x (kind_at plans x) ≡ true = ap (may plans eager (plain (a ∷ h)) Serve x) r.kind ∙ there in
           let bound = next_fits Serve x (allowed_from plans eager (plain (a ∷ h)) Serve x still may_serve) in
           let when = ap (time_of plans costs (a ∷ h) Serve x) r.kind in
           let at : there_at plans costs (a ∷ h) x (mate plans costs (a ∷ h) x) ≡ since (happened Data a.op) (a ∷ h) + flight plans costs a.op = ap (there_at plans costs (a ∷ h) x) back_now ∙ ap (λ (b : Bool). if b then paired_at plans costs (a ∷ h) x else since (happened Data a.op) (a ∷ h) + flight plans costs a.op) large in
-          let now = since_new (happened Data a.op) a h unsent (happened_this plans costs h a Data e) in
+          let now = since_new (happened Data a.op) a h unsent (newest_action_has_happened plans costs h a Data e) in
           omega (arith, bound, when, at, now)
         where
           absent : eager a.op ≡ false → happened Data a.op (plain h) ≡ false → (eager a.op || happened Data a.op (plain h)) ≡ true → ⊥

@@ -14,7 +14,7 @@ use Rattle.sim_resources.specs.ByNumber.{side_free_of, side_free}
 use Rattle.sim_state.specs.Free.{side_of, side}
 use Rattle.sim_state.specs.Represents.{AreFreeTimes}
 
--- the two words for operations that use one cpu, or one NIC, say the same
+-- the two tests whether operations use one cpu, or one NIC, are equal
 shares_same : (place : Op → ℕ) (x y : OpId) (o p : Option Op) → shares_place place x o y p ≡ same_place place x o y p
 shares_same place x y (Some o) (Some p) = refl
 shares_same place x y (Some o) None = refl
@@ -26,52 +26,52 @@ unfolding free_at
 free_after_hold place plans old hs y x was until e f =
     ap₂ (λ (n : ℕ) (b : Bool). max n (if b then until else 0)) f (ap (λ (ps : List Plan). shares place ps x y) e ∙ shares_same place x y (op_at plans x) (op_at plans y))
 
-held_alike : (b c : Bool) (m until n : ℕ) → b ≡ true → until ≡ n → max m (if c then until else 0) ≡ max m (if b && c then n else 0)
-held_alike true c m until n e f = ap (λ (n : ℕ). max m (if c then n else 0)) f
-held_alike false c m until n e f = absurd (cc)
+max_with_held_time : (b c : Bool) (m until n : ℕ) → b ≡ true → until ≡ n → max m (if c then until else 0) ≡ max m (if b && c then n else 0)
+max_with_held_time true c m until n e f = ap (λ (n : ℕ). max m (if c then n else 0)) f
+max_with_held_time false c m until n e f = absurd (cc)
 
-not_and : (b c : Bool) (m n : ℕ) → b ≡ false → m ≡ max m (if b && c then n else 0)
-not_and true c m n e = absurd (cc)
-not_and false c m n e = omega arith
+max_without_held_time : (b c : Bool) (m n : ℕ) → b ≡ false → m ≡ max m (if b && c then n else 0)
+max_without_held_time true c m n e = absurd (cc)
+max_without_held_time false c m n e = omega arith
 
 module _ (plans : List Plan) (costs : CostModel) (h : List Timed) (a : Timed) where
   -- an action that holds nothing of a kind leaves it free when it was
-  cpu_same : holds_cpu a.class ≡ false → (x : OpId) → cpu plans costs h x ≡ cpu plans costs (a ∷ h) x
+  cpu_kept_if_not_held : holds_cpu a.class ≡ false → (x : OpId) → cpu plans costs h x ≡ cpu plans costs (a ∷ h) x
   unfolding cpu
-  cpu_same e x = not_and (holds_cpu a.class) _ _ _ e
+  cpu_kept_if_not_held e x = max_without_held_time (holds_cpu a.class) _ _ _ e
 
-  tx_same : holds_tx a.class (kind_at plans a.op) ≡ false → (x : OpId) → tx plans costs h x ≡ tx plans costs (a ∷ h) x
+  tx_kept_if_not_held : holds_tx a.class (kind_at plans a.op) ≡ false → (x : OpId) → tx plans costs h x ≡ tx plans costs (a ∷ h) x
   unfolding tx
-  tx_same e x = not_and (holds_tx a.class (kind_at plans a.op)) _ _ _ e
+  tx_kept_if_not_held e x = max_without_held_time (holds_tx a.class (kind_at plans a.op)) _ _ _ e
 
-  rx_same : holds_rx a.class ≡ false → (x : OpId) → rx plans costs h x ≡ rx plans costs (a ∷ h) x
+  rx_kept_if_not_held : holds_rx a.class ≡ false → (x : OpId) → rx plans costs h x ≡ rx plans costs (a ∷ h) x
   unfolding rx
-  rx_same e x = not_and (holds_rx a.class) _ _ _ e
+  rx_kept_if_not_held e x = max_without_held_time (holds_rx a.class) _ _ _ e
 
   module _ (r : Holds) (before : AreFreeTimes plans costs h r) (until : ℕ) where
     cpu_more : holds_cpu a.class ≡ true → until ≡ a.time + cpu_hold plans costs h a.class a.op (kind_at plans a.op) → (x : OpId) → free_at (λ (o : Op). o.cpu) r.plans (hold a.op until ∷ r.cpu) x ≡ cpu plans costs (a ∷ h) x
     unfolding cpu
     cpu_more e f x =
-        free_after_hold (λ (o : Op). o.cpu) plans r.plans r.cpu a.op x (cpu plans costs h x) until before.same_plans (before.cpus x) ∙ held_alike (holds_cpu a.class) _ _ until _ e f
+        free_after_hold (λ (o : Op). o.cpu) plans r.plans r.cpu a.op x (cpu plans costs h x) until before.same_plans (before.cpus x) ∙ max_with_held_time (holds_cpu a.class) _ _ until _ e f
 
     tx_more : holds_tx a.class (kind_at plans a.op) ≡ true → until ≡ a.time + tx_hold plans costs a.class a.op (kind_at plans a.op) → (x : OpId) → free_at (λ (o : Op). o.nic) r.plans (hold a.op until ∷ r.tx) x ≡ tx plans costs (a ∷ h) x
     unfolding tx
     tx_more e f x =
-        free_after_hold (λ (o : Op). o.nic) plans r.plans r.tx a.op x (tx plans costs h x) until before.same_plans (before.senders x) ∙ held_alike (holds_tx a.class (kind_at plans a.op)) _ _ until _ e f
+        free_after_hold (λ (o : Op). o.nic) plans r.plans r.tx a.op x (tx plans costs h x) until before.same_plans (before.senders x) ∙ max_with_held_time (holds_tx a.class (kind_at plans a.op)) _ _ until _ e f
 
     rx_more : holds_rx a.class ≡ true → until ≡ a.time + rx_hold plans costs h a.class a.op (kind_at plans a.op) → (x : OpId) → free_at (λ (o : Op). o.nic) r.plans (hold a.op until ∷ r.rx) x ≡ rx plans costs (a ∷ h) x
     unfolding rx
     rx_more e f x =
-        free_after_hold (λ (o : Op). o.nic) plans r.plans r.rx a.op x (rx plans costs h x) until before.same_plans (before.receivers x) ∙ held_alike (holds_rx a.class) _ _ until _ e f
+        free_after_hold (λ (o : Op). o.nic) plans r.plans r.rx a.op x (rx plans costs h x) until before.same_plans (before.receivers x) ∙ max_with_held_time (holds_rx a.class) _ _ until _ e f
 
   module _ (r : Holds) (before : AreFreeTimes plans costs h r) where
     -- a Post and an Arrive hold nothing
     pub free_same : holds_cpu a.class ≡ false → holds_tx a.class (kind_at plans a.op) ≡ false → holds_rx a.class ≡ false → AreFreeTimes plans costs (a ∷ h) r
     free_same e f g = record {
       same_plans = before.same_plans;
-      cpus = λ x. before.cpus x ∙ cpu_same e x;
-      senders = λ x. before.senders x ∙ tx_same f x;
-      receivers = λ x. before.receivers x ∙ rx_same g x;
+      cpus = λ x. before.cpus x ∙ cpu_kept_if_not_held e x;
+      senders = λ x. before.senders x ∙ tx_kept_if_not_held f x;
+      receivers = λ x. before.receivers x ∙ rx_kept_if_not_held g x;
     }
 
     module _ (s : Holds) (busy : ℕ) (holds : holds_cpu a.class ≡ true) (until : busy ≡ a.time + cpu_hold plans costs h a.class a.op (kind_at plans a.op)) where
@@ -80,8 +80,8 @@ module _ (plans : List Plan) (costs : CostModel) (h : List Timed) (a : Timed) wh
       free_calc after f g = record {
         same_plans = after.plans ∙ before.same_plans;
         cpus = λ x. after.cpu x ∙ cpu_more r before busy holds until x;
-        senders = λ x. after.tx x ∙ before.senders x ∙ tx_same f x;
-        receivers = λ x. after.rx x ∙ before.receivers x ∙ rx_same g x;
+        senders = λ x. after.tx x ∙ before.senders x ∙ tx_kept_if_not_held f x;
+        receivers = λ x. after.rx x ∙ before.receivers x ∙ rx_kept_if_not_held g x;
       }
 
       -- that of a send, and its Data, holds the sending side of its NIC too
@@ -90,7 +90,7 @@ module _ (plans : List Plan) (costs : CostModel) (h : List Timed) (a : Timed) wh
         same_plans = after.plans ∙ before.same_plans;
         cpus = λ x. after.cpu x ∙ cpu_more r before busy holds until x;
         senders = λ x. after.tx x ∙ tx_more r before sent f t x;
-        receivers = λ x. after.rx x ∙ before.receivers x ∙ rx_same g x;
+        receivers = λ x. after.rx x ∙ before.receivers x ∙ rx_kept_if_not_held g x;
       }
 
       -- a Serve holds the receiving side
@@ -98,7 +98,7 @@ module _ (plans : List Plan) (costs : CostModel) (h : List Timed) (a : Timed) wh
       free_serve received after f g t = record {
         same_plans = after.plans ∙ before.same_plans;
         cpus = λ x. after.cpu x ∙ cpu_more r before busy holds until x;
-        senders = λ x. after.tx x ∙ before.senders x ∙ tx_same f x;
+        senders = λ x. after.tx x ∙ before.senders x ∙ tx_kept_if_not_held f x;
         receivers = λ x. after.rx x ∙ rx_more r before received g t x;
       }
 

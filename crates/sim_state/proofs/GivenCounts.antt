@@ -16,7 +16,7 @@ use Rattle.sim_params.specs.Costs.{CostModel}
 use Rattle.sim_params.specs.Times.{greatest, met_at, Possible}
 use Rattle.sim_params.specs.Run.{IsRun}
 use Rattle.sim_state.specs.Awaited.{is_there, unmet, last_given}
-use Rattle.sim_state.proofs.GivenMoments.{gives_none, given_is_new, is_given, others_stay, own_stay, same_moment, was_there, there_now}
+use Rattle.sim_state.proofs.GivenMoments.{gives_none, given_is_new, is_given, met_kept_for_other_op, met_kept_where_none_given, same_moment, was_there, there_now}
 
 -- a test as a number
 abbrev pub one_if : Bool → ℕ
@@ -125,7 +125,7 @@ module _ (plans : List Plan) (costs : CostModel) (h : List Timed) (a : Timed) wh
 
     -- where an operation of another rank acts
     kept_apart : (d : Need) → same_op a.op (needed y d) ≡ false → is_there plans costs (a ∷ h) y d ≡ is_there plans costs h y d
-    kept_apart d e = others_stay plans costs h a d.when (needed y d) e
+    kept_apart d e = met_kept_for_other_op plans costs h a d.when (needed y d) e
 
     -- what a dependency of the rank is for y: its moment was there, or not, as it is now and no entry is given it; or it is given
     abbrev later : Dep → Bool
@@ -198,7 +198,7 @@ module _ (plans : List Plan) (costs : CostModel) (h : List Timed) (a : Timed) wh
           go : (later d ≡ true) ⊎ (later d ≡ false) → (earlier d ≡ true) ⊎ (earlier d ≡ false) → (is_given plans costs h a d.when ≡ true) ⊎ (is_given plans costs h a d.when ≡ false) → IsOneOf d
           go (inr l) e g = kept (record { unnamed = and_right _ _ (unnamed_so d l); same = λ t. absurd (both_ways _ l t) })
           go (inl l) (inr e) g = kept (record { unnamed = and_left _ _ e; same = λ t. kept_apart (earlier_of d) (needs_not d e) })
-          go (inl l) (inl e) (inr g) = kept (record { unnamed = and_right _ _ (named_so d l ∙ g); same = λ t. subst (λ (x : OpId). there_now plans costs h a d.when x ≡ was_there plans costs h a d.when x) (same_op_true a.op (needed y (earlier_of d)) (needs_so d e)) (own_stay plans costs h a d.when g) })
+          go (inl l) (inl e) (inr g) = kept (record { unnamed = and_right _ _ (named_so d l ∙ g); same = λ t. subst (λ (x : OpId). there_now plans costs h a d.when x ≡ was_there plans costs h a d.when x) (same_op_true a.op (needed y (earlier_of d)) (needs_so d e)) (met_kept_where_none_given plans costs h a d.when g) })
           go (inl l) (inl e) (inl g) =
               let is = same_op_true a.op (needed y (earlier_of d)) (needs_so d e) in
               let now = given_is_new plans costs h a run p d.when g in

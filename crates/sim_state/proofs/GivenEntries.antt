@@ -12,7 +12,7 @@ use Rattle.goal_graph.specs.Schedule.{Plan, kind_at, needed}
 use Rattle.goal_graph.specs.Concerned.{waiting_on}
 use Rattle.goal_graph.specs.Action.{same_op, plain}
 use Rattle.goal_graph.specs.Allowed.{first_class, has_started}
-use Rattle.goal_graph.proofs.ForCallers.{with_entry_same, cases_op, count-cons, entry_written, with_entry_other, same_op_itself, same_op_swapped}
+use Rattle.goal_graph.proofs.ForCallers.{with_entry_same, same_or_different_op, count-cons, entry_written, with_entry_other, same_op_itself, same_op_swapped}
 use Rattle.sim_params.specs.Costs.{CostModel}
 use Rattle.sim_params.specs.Times.{greatest, met_at, Possible}
 use Rattle.sim_params.specs.Run.{IsRun}
@@ -23,7 +23,7 @@ use Rattle.sim_state.specs.declared.entry.Times.{Times}
 use Rattle.sim_state.specs.Awaited.{unmet, last_given, awaited_known}
 use Rattle.sim_state.specs.Given.{given_times, with_given, moment_in}
 use Rattle.sim_state.specs.Represents.{times_known, link_known, entry_known, entry_then}
-use Rattle.sim_state.proofs.After.{happened_same, none_unmet, other_op}
+use Rattle.sim_state.proofs.After.{happened_kept_by_other_action, none_unmet, newest_is_not_act_of_other_op}
 use Rattle.sim_state.proofs.GivenCounts.{counted_those, given_to, greatest_none, greatest_push, greatest_uncounted, last_those, names, one_if}
 use Rattle.sim_state.proofs.GivenMoments.{is_given, started_was_ready, there_now}
 
@@ -79,16 +79,16 @@ module _ (plans : List Plan) (costs : CostModel) (h : List Timed) (a : Timed) wh
   abbrev other_then : OpId → OpState
   other_then x = entry_with x (awaited_then x) (unmet plans costs h x)
 
-  own_is : (y : OpId) → y ≡ a.op → entry_then plans costs h a y ≡ own_then y
-  own_is y e = with_entry_same a.op (own_then a.op) other_then y e ∙ ap own_then (sym e)
+  entry_then_of_own_op : (y : OpId) → y ≡ a.op → entry_then plans costs h a y ≡ own_then y
+  entry_then_of_own_op y e = with_entry_same a.op (own_then a.op) other_then y e ∙ ap own_then (sym e)
 
-  other_is : (y : OpId) → same_op y a.op ≡ false → entry_then plans costs h a y ≡ other_then y
-  other_is y d = with_entry_other a.op (own_then a.op) other_then y d
+  entry_then_of_other_op : (y : OpId) → same_op y a.op ≡ false → entry_then plans costs h a y ≡ other_then y
+  entry_then_of_other_op y d = with_entry_other a.op (own_then a.op) other_then y d
 
   -- before that it waits for as many as before the action
   unmet_then : (y : OpId) → (entry_then plans costs h a y).link.unmet ≡ unmet plans costs h y
   unmet_then y =
-      elim (cases_op y a.op) [ inl e ↦ ap (λ (d : OpState). d.link.unmet) (own_is y e) | inr d ↦ ap (λ (d : OpState). d.link.unmet) (other_is y d) ]
+      elim (same_or_different_op y a.op) [ inl e ↦ ap (λ (d : OpState). d.link.unmet) (entry_then_of_own_op y e) | inr d ↦ ap (λ (d : OpState). d.link.unmet) (entry_then_of_other_op y d) ]
 
   -- the moment of the action's operation
   known_moment : (w : When) → moment_in (times_known plans costs (a ∷ h) a.op) w ≡ (if there_now plans costs h a w a.op then Some (met_at plans costs (a ∷ h) w a.op) else None)
@@ -212,11 +212,11 @@ module _ (plans : List Plan) (costs : CostModel) (h : List Timed) (a : Timed) wh
         where
           as_before : has_started plans y (plain (a ∷ h)) ≡ has_started plans y (plain h)
           as_before =
-              happened_same plans costs h a (first_class (kind_at plans y)) y (other_op plans costs h a (first_class (kind_at plans y)) y d)
+              happened_kept_by_other_action plans costs h a (first_class (kind_at plans y)) y (newest_is_not_act_of_other_op plans costs h a (first_class (kind_at plans y)) y d)
 
       -- after the last entry
       pub entry_last : entry_so_far ws [] y ≡ entry_known plans costs (a ∷ h) y
-      entry_last = elim (cases_op y a.op) [ inl e ↦ own e | inr d ↦ other d ]
+      entry_last = elim (same_or_different_op y a.op) [ inl e ↦ own e | inr d ↦ other d ]
         where
           given : OpState → OpState
           given = given_entry (given_last ws y) (unmet_left [] y)
@@ -225,8 +225,8 @@ module _ (plans : List Plan) (costs : CostModel) (h : List Timed) (a : Timed) wh
           left = omega arith
 
           own : y ≡ a.op → entry_so_far ws [] y ≡ entry_known plans costs (a ∷ h) y
-          own e = ap given (own_is y e) ∙ ap₂ (entry_with y) own_awaited left
+          own e = ap given (entry_then_of_own_op y e) ∙ ap₂ (entry_with y) own_awaited left
 
           other : same_op y a.op ≡ false → entry_so_far ws [] y ≡ entry_known plans costs (a ∷ h) y
           other d =
-              ap given (other_is y d) ∙ ap₂ (entry_with y) (other_awaited (same_op_swapped y a.op d)) left
+              ap given (entry_then_of_other_op y d) ∙ ap₂ (entry_with y) (other_awaited (same_op_swapped y a.op d)) left

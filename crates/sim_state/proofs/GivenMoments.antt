@@ -13,13 +13,13 @@ use Rattle.goal_graph.specs.Schedule.{Plan, kind_at, IsSend}
 use Rattle.goal_graph.specs.Action.{same_op, is_act, happened, plain, plain_act}
 use Rattle.goal_graph.specs.Allowed.{first_class, last_class, has_started, is_met, is_ready, allowed}
 use Rattle.goal_graph.specs.Laws.{IsCalc}
-use Rattle.goal_graph.proofs.ForCallers.{allowed_begin, allowed_data, allowed_post, allowed_serve, ended_started, first_of_calc, first_of_send, first_of_receive, last_of_rendezvous, last_of_receive, happened_before, happened_cases, is_act_class, is_act_op, started_ready}
+use Rattle.goal_graph.proofs.ForCallers.{allowed_begin, allowed_data, allowed_post, allowed_serve, ended_started, first_of_calc, first_of_send, first_of_receive, last_of_rendezvous, last_of_receive, not_happened_before_newest, happened_cases, is_act_class, is_act_op, started_ready}
 use Rattle.sim_params.specs.Costs.{CostModel, is_eager}
 use Rattle.sim_params.specs.Times.{met_at, Possible}
 use Rattle.sim_params.specs.Run.{IsRun}
 use Rattle.sim_params.proofs.ForCallers.{start_kept, end_kept, run_is_each_possible, run_interleaving}
 use Rattle.sim_state.specs.Awaited.{gives}
-use Rattle.sim_state.proofs.After.{other_op, happened_same, not_happened_yet}
+use Rattle.sim_state.proofs.After.{newest_is_not_act_of_other_op, happened_kept_by_other_action, not_happened_yet}
 
 -- an arrival gives none
 pub gives_none : (c : Class) (w : When) → c ≡ Arrive → gives c w ≡ false
@@ -43,11 +43,11 @@ module _ (plans : List Plan) (costs : CostModel) (h : List Timed) (a : Timed) wh
   class_of AfterStart x = first_class (kind_at plans x)
 
   -- those of another operation stay
-  pub others_stay : (w : When) (x : OpId) → same_op a.op x ≡ false → there_now w x ≡ was_there w x
-  others_stay AfterEnd x e =
-      happened_same plans costs h a (class_of AfterEnd x) x (other_op plans costs h a (class_of AfterEnd x) x e)
-  others_stay AfterStart x e =
-      happened_same plans costs h a (class_of AfterStart x) x (other_op plans costs h a (class_of AfterStart x) x e)
+  pub met_kept_for_other_op : (w : When) (x : OpId) → same_op a.op x ≡ false → there_now w x ≡ was_there w x
+  met_kept_for_other_op AfterEnd x e =
+      happened_kept_by_other_action plans costs h a (class_of AfterEnd x) x (newest_is_not_act_of_other_op plans costs h a (class_of AfterEnd x) x e)
+  met_kept_for_other_op AfterStart x e =
+      happened_kept_by_other_action plans costs h a (class_of AfterStart x) x (newest_is_not_act_of_other_op plans costs h a (class_of AfterStart x) x e)
 
   -- what was there is there at the same time
   pub same_moment : IsRun plans costs h → (w : When) (x : OpId) → was_there w x ≡ true → met_at plans costs (a ∷ h) w x ≡ met_at plans costs h w x
@@ -74,26 +74,26 @@ module _ (plans : List Plan) (costs : CostModel) (h : List Timed) (a : Timed) wh
       go false (Some (Send bytes to tag)) = refl
       go b (Some (Recv room from tag)) = refl
 
-  happened_then : (c : Class) (x : OpId) → happened c x (plain (a ∷ h)) ≡ true → (happened c x (plain h) ≡ true) ⊎ (is_act c x (plain_act a) ≡ true)
+  happened_before_or_by_newest : (c : Class) (x : OpId) → happened c x (plain (a ∷ h)) ≡ true → (happened c x (plain h) ≡ true) ⊎ (is_act c x (plain_act a) ≡ true)
   unfolding plain
-  happened_then c x e = happened_cases c x (plain_act a) (plain h) e
+  happened_before_or_by_newest c x e = happened_cases c x (plain_act a) (plain h) e
 
   -- a moment of its own that is new is given
   new_is_given : (w : When) → there_now w a.op ≡ true → was_there w a.op ≡ false → gives a.class w ≡ true
   new_is_given AfterEnd t f =
-      elim (happened_then (class_of AfterEnd a.op) a.op t) [ inl before ↦ absurd (both_ways _ f before) | inr act ↦ ap (λ (c : Class). gives c AfterEnd) (is_act_class (class_of AfterEnd a.op) a.op (plain_act a) act) ∙ last_gives a.op ]
+      elim (happened_before_or_by_newest (class_of AfterEnd a.op) a.op t) [ inl before ↦ absurd (both_ways _ f before) | inr act ↦ ap (λ (c : Class). gives c AfterEnd) (is_act_class (class_of AfterEnd a.op) a.op (plain_act a) act) ∙ last_gives a.op ]
   new_is_given AfterStart t f =
-      elim (happened_then (class_of AfterStart a.op) a.op t) [ inl before ↦ absurd (both_ways _ f before) | inr act ↦ ap (λ (c : Class). gives c AfterStart) (is_act_class (class_of AfterStart a.op) a.op (plain_act a) act) ∙ first_gives a.op ]
+      elim (happened_before_or_by_newest (class_of AfterStart a.op) a.op t) [ inl before ↦ absurd (both_ways _ f before) | inr act ↦ ap (λ (c : Class). gives c AfterStart) (is_act_class (class_of AfterStart a.op) a.op (plain_act a) act) ∙ first_gives a.op ]
 
-  was_before : (w : When) (x : OpId) → there_now w x ≡ false → was_there w x ≡ false
+  unmet_now_was_unmet_before : (w : When) (x : OpId) → there_now w x ≡ false → was_there w x ≡ false
   unfolding plain
-  was_before AfterEnd x e = happened_before (class_of AfterEnd x) x (plain_act a) (plain h) e
-  was_before AfterStart x e = happened_before (class_of AfterStart x) x (plain_act a) (plain h) e
+  unmet_now_was_unmet_before AfterEnd x e = not_happened_before_newest (class_of AfterEnd x) x (plain_act a) (plain h) e
+  unmet_now_was_unmet_before AfterStart x e = not_happened_before_newest (class_of AfterStart x) x (plain_act a) (plain h) e
 
   -- where it gives none, its own stay
-  pub own_stay : (w : When) → is_given w ≡ false → there_now w a.op ≡ was_there w a.op
-  own_stay w none =
-      elim (cases_Bool (there_now w a.op)) [ inr f ↦ f ∙ sym (was_before w a.op f) | inl t ↦ elim (cases_Bool (was_there w a.op)) [ inl u ↦ t ∙ sym u | inr f ↦ absurd (both_ways _ none (ap₂ (λ (b c : Bool). b && c) (new_is_given w t f) t)) ] ]
+  pub met_kept_where_none_given : (w : When) → is_given w ≡ false → there_now w a.op ≡ was_there w a.op
+  met_kept_where_none_given w none =
+      elim (cases_Bool (there_now w a.op)) [ inr f ↦ f ∙ sym (unmet_now_was_unmet_before w a.op f) | inl t ↦ elim (cases_Bool (was_there w a.op)) [ inl u ↦ t ∙ sym u | inr f ↦ absurd (both_ways _ none (ap₂ (λ (b c : Bool). b && c) (new_is_given w t f) t)) ] ]
 
   module _ (run : IsRun plans costs h) (p : Possible plans costs h a) where
     not_started : (c : Class) → a.class ≡ c → first_class (kind_at plans a.op) ≡ c → was_there AfterStart a.op ≡ false
@@ -154,7 +154,7 @@ module _ (plans : List Plan) (costs : CostModel) (h : List Timed) (a : Timed) wh
     -- what has started was ready before the action
     pub started_was_ready : (x : OpId) → has_started plans x (plain (a ∷ h)) ≡ true → is_ready plans (is_eager plans costs) (plain h) x ≡ true
     started_was_ready x t =
-        elim (happened_then (class_of AfterStart x) x t) [ inl before ↦ started_ready plans (is_eager plans costs) (plain h) x (run_interleaving plans costs h run) before | inr act ↦ own (is_act_class (class_of AfterStart x) x (plain_act a) act) (is_act_op (class_of AfterStart x) x (plain_act a) act) ]
+        elim (happened_before_or_by_newest (class_of AfterStart x) x t) [ inl before ↦ started_ready plans (is_eager plans costs) (plain h) x (run_interleaving plans costs h run) before | inr act ↦ own (is_act_class (class_of AfterStart x) x (plain_act a) act) (is_act_op (class_of AfterStart x) x (plain_act a) act) ]
       where
         begun : (y : OpId) → a.op ≡ y → a.class ≡ Begin → is_ready plans (is_eager plans costs) (plain h) y ≡ true
         begun y o c =

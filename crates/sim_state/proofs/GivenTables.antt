@@ -1,4 +1,4 @@
--- The tables of all operations, as one entry more of those that wait for an action's operation is given its moment.
+-- How the tables of all operations change as one entry of the waiting list is given its time.
 use Rattle.std.proofs.Common.{◌≡◌, ◌≢◌, ◌+◌, ◌<◌, ℕ, Bool, true, false, List, [], ◌∷◌, map, count_by, length, get_or, take, drop, inl, inr, sym, ap, ◌∙◌, arith}
 use Rattle.std.proofs.lemmas.List.{drop_more, take_more}
 use Rattle.std.proofs.lemmas.List.Sums.{count_by_more_no, count_by_more_yes}

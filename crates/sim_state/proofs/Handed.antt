@@ -10,7 +10,7 @@ use Rattle.goal_graph.specs.declared.action.Class.TheVariants.{Arrive, Data}
 use Rattle.goal_graph.specs.Schedule.{Plan, IsSend, IsReceive}
 use Rattle.goal_graph.specs.Action.{is_act, happened, plain, plain_act}
 use Rattle.goal_graph.specs.Allowed.{has_started, allowed}
-use Rattle.goal_graph.proofs.ForCallers.{allowed_arrive, allowed_data, arrived_begun, data_paired, happened_cases, happened_none, is_act_class, is_act_op, not_arrived, not_posted, not_send_receive, started_receive, started_send}
+use Rattle.goal_graph.proofs.ForCallers.{allowed_arrive, allowed_data, arrived_begun, data_paired, happened_cases, happened_none, is_act_class, is_act_op, unarrived_send_has_no_partner, unposted_receive_has_no_partner, not_send_receive, started_receive, started_send}
 use Rattle.sim_params.specs.Costs.{CostModel, is_eager}
 use Rattle.sim_params.specs.Times.{mate, paired_at}
 use Rattle.sim_params.specs.Run.{IsRun}
@@ -38,12 +38,12 @@ module _ (plans : List Plan) (costs : CostModel) where
     -- a send that is paired has arrived
     pub paired_arrived : IsSend plans x → is_some (mate plans costs h x) ≡ true → happened Arrive x (plain h) ≡ true
     paired_arrived send e =
-        true_from_ne_false _ (λ f. both_ways _ (ap is_some (not_arrived plans (plain h) x send f)) e)
+        true_from_ne_false _ (λ f. both_ways _ (ap is_some (unarrived_send_has_no_partner plans (plain h) x send f)) e)
 
     -- a receive that is paired has been posted, and it never arrives
     paired_posted : IsReceive plans x → is_some (mate plans costs h x) ≡ true → has_started plans x (plain h) ≡ true
     paired_posted recv e =
-        started_receive plans (plain h) x recv ∙ true_from_ne_false _ (λ f. both_ways _ (ap is_some (not_posted plans (plain h) x recv f)) e)
+        started_receive plans (plain h) x recv ∙ true_from_ne_false _ (λ f. both_ways _ (ap is_some (unposted_receive_has_no_partner plans (plain h) x recv f)) e)
 
     no_arrival : IsReceive plans x → time_known plans costs h Arrive x ≡ None
     no_arrival recv =

@@ -12,7 +12,7 @@ use Rattle.goal_graph.specs.Action.{Act, same_op, happened, plain, plain_act}
 use Rattle.goal_graph.specs.Matching.{Pair, partner, is_paired, fits, new_pair, add_pair, pairs}
 use Rattle.goal_graph.specs.Allowed.{is_served, allowed}
 use Rattle.goal_graph.specs.Interleaving.{IsInterleaving}
-use Rattle.goal_graph.proofs.ForCallers.{act_of, is_some_from, allowed_fresh, fits_receive, fits_send, IsNew, new_pair_is, pairs_same, partner_other, not_arrived, not_posted, IsListed, listed_partners}
+use Rattle.goal_graph.proofs.ForCallers.{act_of, is_some_from, allowed_fresh, fits_receive, fits_send, IsNew, new_pair_is_of_action, pairs_unchanged_without_new_pair, partner_of_others_unchanged, unarrived_send_has_no_partner, unposted_receive_has_no_partner, IsListed, listed_partners}
 use Rattle.sim_params.specs.Costs.{CostModel, is_eager}
 use Rattle.sim_params.specs.Times.{mate, Possible}
 use Rattle.sim_params.specs.Run.{IsRun}
@@ -40,10 +40,10 @@ module _ (plans : List Plan) (costs : CostModel) (h : List Timed) (a : Timed) wh
   abbrev pub pair_made : Option Pair
   pair_made = new_pair plans (pairs plans (plain h)) (plain h) a.class a.op
 
-  -- where it makes none, everyone has the partner that it had
-  pub none_made : pair_made ≡ None → (x : OpId) → mate plans costs (a ∷ h) x ≡ mate plans costs h x
+  -- where it makes no pair, each operation keeps its partner
+  pub mates_kept_where_no_pair_made : pair_made ≡ None → (x : OpId) → mate plans costs (a ∷ h) x ≡ mate plans costs h x
   unfolding plain
-  none_made e x = ap (λ (ps : List Pair). partner ps x) (pairs_same plans (plain_act a) (plain h) e)
+  mates_kept_where_no_pair_made e x = ap (λ (ps : List Pair). partner ps x) (pairs_unchanged_without_new_pair plans (plain_act a) (plain h) e)
 
   -- only a Post and an Arrive make one
   pub other_makes_none : is_post_or_arrival_class a.class ≡ false → pair_made ≡ None
@@ -79,9 +79,9 @@ module _ (plans : List Plan) (costs : CostModel) (h : List Timed) (a : Timed) wh
 
         go : ((plain_act a ≡ act_of Arrive p.send) × (is_paired (pairs plans (plain h)) p.recv ≡ false)) ⊎ ((plain_act a ≡ act_of Post p.recv) × (is_paired (pairs plans (plain h)) p.send ≡ false)) → (mate plans costs h p.send ≡ None) × (mate plans costs h p.recv ≡ None)
         go (inl (e, free)) =
-            (not_arrived plans (plain h) p.send (fits_send plans p.recv p.send fit) (fresh _ e), unpaired_no_partner _ p.recv free)
+            (unarrived_send_has_no_partner plans (plain h) p.send (fits_send plans p.recv p.send fit) (fresh _ e), unpaired_no_partner _ p.recv free)
         go (inr (e, free)) =
-            (unpaired_no_partner _ p.send free, not_posted plans (plain h) p.recv (fits_receive plans p.recv p.send fit) (fresh _ e))
+            (unpaired_no_partner _ p.send free, unposted_receive_has_no_partner plans (plain h) p.recv (fits_receive plans p.recv p.send fit) (fresh _ e))
 
     listed_first : (p : Pair) → pair_made ≡ Some p → IsListed p (pairs plans (plain (a ∷ h)))
     unfolding plain pairs
@@ -89,7 +89,7 @@ module _ (plans : List Plan) (costs : CostModel) (h : List Timed) (a : Timed) wh
 
     others_same : (p : Pair) → pair_made ≡ Some p → (y : OpId) → same_op p.send y ≡ false → same_op p.recv y ≡ false → mate plans costs (a ∷ h) y ≡ mate plans costs h y
     unfolding plain
-    others_same p e y s r = partner_other plans p (plain_act a) (plain h) y e s r
+    others_same p e y s r = partner_of_others_unchanged plans p (plain_act a) (plain h) y e s r
 
     interleaving : IsInterleaving plans (is_eager plans costs) (plain (a ∷ h))
     unfolding plain
@@ -97,7 +97,7 @@ module _ (plans : List Plan) (costs : CostModel) (h : List Timed) (a : Timed) wh
 
     pub one_made : (p : Pair) → pair_made ≡ Some p → ArePaired p.send p.recv
     one_made p e =
-        let new = new_pair_is plans (plain_act a) (plain h) p e in
+        let new = new_pair_is_of_action plans (plain_act a) (plain h) p e in
         let free = free_before p new in
         let now = listed_partners plans (is_eager plans costs) (plain (a ∷ h)) p interleaving (listed_first p e) in
         record {
@@ -113,11 +113,11 @@ module _ (plans : List Plan) (costs : CostModel) (h : List Timed) (a : Timed) wh
     -- the pair of a Post has its receive, the pair of an Arrive its send
     made_by : (p : Pair) → pair_made ≡ Some p → ((a.class ≡ Arrive) × (a.op ≡ p.send)) ⊎ ((a.class ≡ Post) × (a.op ≡ p.recv))
     made_by p e =
-        elim (new_pair_is plans (plain_act a) (plain h) p e).by [ inl (f, free) ↦ inl (ap (λ (b : Act). b.class) f, ap (λ (b : Act). b.op) f) | inr (f, free) ↦ inr (ap (λ (b : Act). b.class) f, ap (λ (b : Act). b.op) f) ]
+        elim (new_pair_is_of_action plans (plain_act a) (plain h) p e).by [ inl (f, free) ↦ inl (ap (λ (b : Act). b.class) f, ap (λ (b : Act). b.op) f) | inr (f, free) ↦ inr (ap (λ (b : Act). b.class) f, ap (λ (b : Act). b.op) f) ]
 
     -- a receive that is posted takes the send that the matcher answers
     pub post_none : a.class ≡ Post → send_for plans (filter is_post_or_arrival (plain h)) a.op ≡ None → (x : OpId) → mate plans costs (a ∷ h) x ≡ mate plans costs h x
-    post_none c e = none_made (go pair_made (ap (λ (d : Class). option_map (λ (p : Pair). p.send) (new_pair plans (pairs plans (plain h)) (plain h) d a.op)) c ∙ sym (send_for_filtered plans (plain h) a.op) ∙ e))
+    post_none c e = mates_kept_where_no_pair_made (go pair_made (ap (λ (d : Class). option_map (λ (p : Pair). p.send) (new_pair plans (pairs plans (plain h)) (plain h) d a.op)) c ∙ sym (send_for_filtered plans (plain h) a.op) ∙ e))
       where
         go : (o : Option Pair) → option_map (λ (p : Pair). p.send) o ≡ None → o ≡ None
         go None f = refl
@@ -137,7 +137,7 @@ module _ (plans : List Plan) (costs : CostModel) (h : List Timed) (a : Timed) wh
 
     -- a message that arrives is taken by the receive that the matcher answers
     pub arrive_none : a.class ≡ Arrive → receive_for plans (filter is_post_or_arrival (plain h)) a.op ≡ None → (x : OpId) → mate plans costs (a ∷ h) x ≡ mate plans costs h x
-    arrive_none c e = none_made (go pair_made (ap (λ (d : Class). option_map (λ (p : Pair). p.recv) (new_pair plans (pairs plans (plain h)) (plain h) d a.op)) c ∙ sym (receive_for_filtered plans (plain h) a.op) ∙ e))
+    arrive_none c e = mates_kept_where_no_pair_made (go pair_made (ap (λ (d : Class). option_map (λ (p : Pair). p.recv) (new_pair plans (pairs plans (plain h)) (plain h) d a.op)) c ∙ sym (receive_for_filtered plans (plain h) a.op) ∙ e))
       where
         go : (o : Option Pair) → option_map (λ (p : Pair). p.recv) o ≡ None → o ≡ None
         go None f = refl

@@ -8,7 +8,7 @@ use Rattle.goal_graph.specs.declared.plan.When.TheVariants.{AfterEnd, AfterStart
 use Rattle.goal_graph.specs.Schedule.{Plan, operations}
 use Rattle.goal_graph.specs.Action.{plain}
 use Rattle.goal_graph.specs.Fault.{IsOp}
-use Rattle.goal_graph.proofs.ForCallers.{allowed_listed, with_entry_same, cases_op, with_entry_other, borrowed_whole_restored}
+use Rattle.goal_graph.proofs.ForCallers.{allowed_listed, with_entry_same, same_or_different_op, with_entry_other, borrowed_whole_restored}
 use Rattle.sim_params.specs.Costs.{CostModel, is_eager}
 use Rattle.sim_params.specs.Run.{IsNext}
 use Rattle.sim_params.proofs.ForCallers.{possible_room}
@@ -23,12 +23,12 @@ use Rattle.sim_state.specs.Given.{moment_in}
 use Rattle.sim_state.specs.Tables.{with_change, with_pairing, with_partner, with_times}
 use Rattle.sim_state.specs.Represents.{Represents, times_known, entry_known, entry_then, KnowsPostsAndArrivals, AreFreeTimes}
 use Rattle.sim_state.proofs.Changed.{at_fits}
-use Rattle.sim_state.proofs.Entries.{own_next}
+use Rattle.sim_state.proofs.Entries.{own_entry_after_action}
 use Rattle.sim_state.proofs.Places.{possible_exists}
 
 -- what is next after one of two views that are equal is next after the other
-pub next_at : {C : Type 0} (model : C → CostModel) (v w : RunSoFar C) (a : Timed) → v ≡ w → IsNext w.plans (model w.costs) w.history a → IsNext v.plans (model v.costs) v.history a
-next_at {C} model v w a e = subst (λ (u : RunSoFar C). IsNext u.plans (model u.costs) u.history a) (sym e)
+pub next_in_equal_view : {C : Type 0} (model : C → CostModel) (v w : RunSoFar C) (a : Timed) → v ≡ w → IsNext w.plans (model w.costs) w.history a → IsNext v.plans (model v.costs) v.history a
+next_in_equal_view {C} model v w a e = subst (λ (u : RunSoFar C). IsNext u.plans (model u.costs) u.history a) (sym e)
 
 -- a vector whose elements were lent and written holds what was written
 pub written_back : {X : Type 0} (count : ℕ) (written lent items : List X) → length written ≡ length lent → lent ≡ items → count ≡ length items → take count (written ++ drop (length written) items) ≡ written
@@ -50,7 +50,7 @@ moment_ignores_awaited t o AfterEnd = refl
 module _ (y : OpId) (at : ℕ) (w : When) where
   paired_moment : (x m : OpId) (f : OpId → OpState) → moment_in (with_pairing x m at f y).times w ≡ moment_in (f y).times w
   paired_moment x m f =
-      elim (cases_op y x) [ inl s ↦ ap moment (with_entry_same x _ f y s) ∙ moment_ignores_awaited (f x).times (Some at) w ∙ ap (λ (z : OpId). moment (f z)) (sym s) | inr d ↦ ap moment (with_entry_other x _ f y d) ]
+      elim (same_or_different_op y x) [ inl s ↦ ap moment (with_entry_same x _ f y s) ∙ moment_ignores_awaited (f x).times (Some at) w ∙ ap (λ (z : OpId). moment (f z)) (sym s) | inr d ↦ ap moment (with_entry_other x _ f y d) ]
     where
       moment : OpState → Option ℕ
       moment e = moment_in e.times w
@@ -85,7 +85,7 @@ module _ (plans : List Plan) (costs : CostModel) (h : List Timed) (entries : Lis
     pub change_moments : (c : Change) → IsChange plans costs h a c → (w : When) → moment_in c.times w ≡ moment_in (times_known plans costs (a ∷ h) a.op) w
     change_moments c is w =
         let listed = allowed_listed plans (is_eager plans costs) (plain h) a.class a.op next.possible.allowed in
-        sym (written_moment a.op a.time w c (entry_known plans costs h)) ∙ ap (λ (e : OpState). moment_in e.times w) (map_same_at (with_change a.op c a.time (entry_known plans costs h)) (entry_then plans costs h a) (operations plans) a.op listed is.known ∙ own_next plans costs h a m.run next.possible)
+        sym (written_moment a.op a.time w c (entry_known plans costs h)) ∙ ap (λ (e : OpState). moment_in e.times w) (map_same_at (with_change a.op c a.time (entry_known plans costs h)) (entry_then plans costs h a) (operations plans) a.op listed is.known ∙ own_entry_after_action plans costs h a m.run next.possible)
 
     pub performed : (history : List Timed) → history ≡ a ∷ h → (after : List OpState) → after ≡ map (entry_known plans costs (a ∷ h)) (operations plans) → (told : PostsAndArrivals) → KnowsPostsAndArrivals plans costs (a ∷ h) told → (held : Holds) → AreFreeTimes plans costs (a ∷ h) held → (still : ℕ → Type 0) → ((count : ℕ) → has_room count → still count) → Represents plans costs history after told held still
     performed history pushed after known told knows held free still roomy =

@@ -14,16 +14,16 @@ use Rattle.sim_state.specs.Represents.{KnowsPostsAndArrivals}
 
 module _ (plans : List Plan) (costs : CostModel) (h : List Timed) (a : Timed) (m : PostsAndArrivals) (before : KnowsPostsAndArrivals plans costs h m) where
   -- an action that is neither a post nor an arrival
-  pub other_action : is_post_or_arrival_class a.class ≡ false → KnowsPostsAndArrivals plans costs (a ∷ h) m
+  pub posts_and_arrivals_kept_by_other_action : is_post_or_arrival_class a.class ≡ false → KnowsPostsAndArrivals plans costs (a ∷ h) m
   unfolding plain
-  other_action e = record {
+  posts_and_arrivals_kept_by_other_action e = record {
     same_plans = before.same_plans;
     events = before.events ∙ sym (filtered_without_newest (plain_act a) (plain h) e);
   }
 
-  known_more : (n : PostsAndArrivals) → n.plans ≡ m.plans → n.actions ≡ plain_act a ∷ m.actions → is_post_or_arrival_class a.class ≡ true → KnowsPostsAndArrivals plans costs (a ∷ h) n
+  posts_and_arrivals_with_newest : (n : PostsAndArrivals) → n.plans ≡ m.plans → n.actions ≡ plain_act a ∷ m.actions → is_post_or_arrival_class a.class ≡ true → KnowsPostsAndArrivals plans costs (a ∷ h) n
   unfolding plain
-  known_more n e f t = record {
+  posts_and_arrivals_with_newest n e f t = record {
     same_plans = e ∙ before.same_plans;
     events = f ∙ ap (λ (l : List Act). plain_act a ∷ l) before.events ∙ sym (filtered_with_newest (plain_act a) (plain h) t);
   }
@@ -31,13 +31,13 @@ module _ (plans : List Plan) (costs : CostModel) (h : List Timed) (a : Timed) (m
   -- a post, and an arrival
   pub post_known : (n : PostsAndArrivals) → a.class ≡ Post → n ≡ with_post m a.op → KnowsPostsAndArrivals plans costs (a ∷ h) n
   post_known n c e =
-      known_more n (ap (λ (n : PostsAndArrivals). n.plans) e) (ap (λ (n : PostsAndArrivals). n.actions) e ∙ ap (λ (d : Class). record { class = d; op = a.op } ∷ m.actions) (sym c)) (ap is_post_or_arrival_class c)
+      posts_and_arrivals_with_newest n (ap (λ (n : PostsAndArrivals). n.plans) e) (ap (λ (n : PostsAndArrivals). n.actions) e ∙ ap (λ (d : Class). record { class = d; op = a.op } ∷ m.actions) (sym c)) (ap is_post_or_arrival_class c)
 
   pub arrival_known : (n : PostsAndArrivals) → a.class ≡ Arrive → n ≡ with_arrival m a.op → KnowsPostsAndArrivals plans costs (a ∷ h) n
   arrival_known n c e =
-      known_more n (ap (λ (n : PostsAndArrivals). n.plans) e) (ap (λ (n : PostsAndArrivals). n.actions) e ∙ ap (λ (d : Class). record { class = d; op = a.op } ∷ m.actions) (sym c)) (ap is_post_or_arrival_class c)
+      posts_and_arrivals_with_newest n (ap (λ (n : PostsAndArrivals). n.plans) e) (ap (λ (n : PostsAndArrivals). n.actions) e ∙ ap (λ (d : Class). record { class = d; op = a.op } ∷ m.actions) (sym c)) (ap is_post_or_arrival_class c)
 
   -- what is possible did not happen before
-  pub not_before : (c : Class) → Possible plans costs h a → a.class ≡ c → is_post_or_arrival_class c ≡ true → happened c a.op m.actions ≡ false
-  not_before c p e t =
+  pub possible_not_happened_in_matcher : (c : Class) → Possible plans costs h a → a.class ≡ c → is_post_or_arrival_class c ≡ true → happened c a.op m.actions ≡ false
+  possible_not_happened_in_matcher c p e t =
       ap (happened c a.op) before.events ∙ happened_filtered c a.op (plain h) t ∙ subst (λ (d : Class). happened d a.op (plain h) ≡ false) e (allowed_fresh plans (is_eager plans costs) (plain h) a.class a.op p.allowed)

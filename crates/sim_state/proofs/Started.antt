@@ -7,7 +7,7 @@ use Rattle.goal_graph.specs.declared.action.Class.TheVariants.{Arrive, Serve, Da
 use Rattle.goal_graph.specs.Schedule.{Plan}
 use Rattle.goal_graph.specs.Action.{happened, plain}
 use Rattle.goal_graph.specs.Allowed.{has_started, is_served, allowed}
-use Rattle.goal_graph.proofs.ForCallers.{allowed_arrive, allowed_data, allowed_serve, arrived_begun, not_arrived, not_posted, started_receive, started_send}
+use Rattle.goal_graph.proofs.ForCallers.{allowed_arrive, allowed_data, allowed_serve, arrived_begun, unarrived_send_has_no_partner, unposted_receive_has_no_partner, started_receive, started_send}
 use Rattle.sim_params.specs.Costs.{CostModel, is_eager}
 use Rattle.sim_params.specs.Run.{IsRun}
 use Rattle.sim_params.proofs.ForCallers.{run_interleaving}
@@ -20,9 +20,9 @@ module _ (plans : List Plan) (costs : CostModel) (h : List Timed) (x : OpId) whe
   pub data_started : IsRun plans costs h → allowed plans (is_eager plans costs) (plain h) Data x ≡ true → has_started plans x (plain h) ≡ true
   data_started run e =
       let r = allowed_data plans (is_eager plans costs) (plain h) x e in
-      elim (cases_Bool (happened Arrive x (plain h))) [ inl t ↦ started_send plans (plain h) x r.0 ∙ arrived_begun plans (is_eager plans costs) (plain h) x (run_interleaving plans costs h run) t | inr f ↦ absurd (both_ways _ (ap is_some (not_arrived plans (plain h) x r.0 f)) r.2) ]
+      elim (cases_Bool (happened Arrive x (plain h))) [ inl t ↦ started_send plans (plain h) x r.0 ∙ arrived_begun plans (is_eager plans costs) (plain h) x (run_interleaving plans costs h run) t | inr f ↦ absurd (both_ways _ (ap is_some (unarrived_send_has_no_partner plans (plain h) x r.0 f)) r.2) ]
 
   pub serve_started : allowed plans (is_eager plans costs) (plain h) Serve x ≡ true → has_started plans x (plain h) ≡ true
   serve_started e =
       let r = allowed_serve plans (is_eager plans costs) (plain h) x e in
-      elim (cases_Bool (happened Post x (plain h))) [ inl t ↦ started_receive plans (plain h) x r.0 ∙ t | inr f ↦ absurd (both_ways _ (ap (is_served plans (is_eager plans costs) (plain h)) (not_posted plans (plain h) x r.0 f)) r.1) ]
+      elim (cases_Bool (happened Post x (plain h))) [ inl t ↦ started_receive plans (plain h) x r.0 ∙ t | inr f ↦ absurd (both_ways _ (ap (is_served plans (is_eager plans costs) (plain h)) (unposted_receive_has_no_partner plans (plain h) x r.0 f)) r.1) ]

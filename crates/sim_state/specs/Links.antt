@@ -34,15 +34,15 @@ rank_of l = rank_in l.partner
 abbrev pub op_of : Linked → ℕ
 op_of l = op_in l.unmet l.partner
 
-pub rank_again : (rank op : ℕ) → rank_of (linked rank op) ≡ rank
-rank_again rank op = go (rank == no_rank) refl
+pub rank_of_linked : (rank op : ℕ) → rank_of (linked rank op) ≡ rank
+rank_of_linked rank op = go (rank == no_rank) refl
   where
     go : (b : Bool) → (rank == no_rank) ≡ b → rank_of (if b then record { unmet = op; partner = None } else record { unmet = 0; partner = Some (record { rank = rank; op = op }) }) ≡ rank
     go true e = sym (eqb-true rank no_rank e)
     go false e = refl
 
-pub op_again : (rank op : ℕ) → op_of (linked rank op) ≡ op
-op_again rank op = go (rank == no_rank)
+pub op_of_linked : (rank op : ℕ) → op_of (linked rank op) ≡ op
+op_of_linked rank op = go (rank == no_rank)
   where
     go : (b : Bool) → op_of (if b then record { unmet = op; partner = None } else record { unmet = 0; partner = Some (record { rank = rank; op = op }) }) ≡ op
     go true = refl

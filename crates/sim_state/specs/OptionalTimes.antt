@@ -15,8 +15,8 @@ abbrev pub nanos_of : Option ℕ → ℕ
 nanos_of None = no_time
 nanos_of (Some n) = n
 
-pub nanos_again : (n : ℕ) → nanos_of (time_of n) ≡ n
-nanos_again n = go (n == no_time) refl
+pub nanos_of_time_of : (n : ℕ) → nanos_of (time_of n) ≡ n
+nanos_of_time_of n = go (n == no_time) refl
   where
     go : (b : Bool) → (n == no_time) ≡ b → nanos_of (if b then None else Some n) ≡ n
     go true e = sym (eqb-true n no_time e)

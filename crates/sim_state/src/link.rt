@@ -19,7 +19,7 @@ pub struct Link {
 }
 
 impl Model for Link {
-    ghost use Rattle.sim_state.specs.Links.{Linked, linked, rank_of, op_of, rank_again, op_again};
+    ghost use Rattle.sim_state.specs.Links.{Linked, linked, rank_of, op_of, rank_of_linked, op_of_linked};
 
     ghost Value = { Linked };
 
@@ -27,7 +27,7 @@ impl Model for Link {
 
     ghost inverse = { λ l. record { rank = rank_of l; op = op_of l } };
 
-    ghost inverse_ok = { λ l h i. record { rank = rank_again l.rank l.op i; op = op_again l.rank l.op i } };
+    ghost inverse_ok = { λ l h i. record { rank = rank_of_linked l.rank l.op i; op = op_of_linked l.rank l.op i } };
 }
 
 impl Link {

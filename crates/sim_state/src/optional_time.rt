@@ -13,7 +13,7 @@ pub struct OptionalTime {
 
 impl Model for OptionalTime {
     ghost use Rattle.std.specs.Prelude.{ℕ, Option};
-    ghost use Rattle.sim_state.specs.OptionalTimes.{time_of, nanos_of, nanos_again};
+    ghost use Rattle.sim_state.specs.OptionalTimes.{time_of, nanos_of, nanos_of_time_of};
 
     ghost Value = { Option ℕ };
 
@@ -21,7 +21,7 @@ impl Model for OptionalTime {
 
     ghost inverse = { λ time. record { nanos = nanos_of time } };
 
-    ghost inverse_ok = { λ m h i. record { nanos = nanos_again m.nanos i } };
+    ghost inverse_ok = { λ m h i. record { nanos = nanos_of_time_of m.nanos i } };
 }
 
 impl OptionalTime {

@@ -19,13 +19,13 @@ mapped_replicate : {X Y : Type 0} (f : X → Y) (n : ℕ) (x : X) → map f (rep
 mapped_replicate f zero x = refl
 mapped_replicate f (suc n) x = ap (λ ys. f x ∷ ys) (mapped_replicate f n x)
 
-groups_from : (n : ℕ) (groups : List ℕ) → map group_of_home (map (λ p. at_home p.1 p.0) (enumerate_from n groups)) ≡ groups
-groups_from n [] = refl
-groups_from n (group ∷ groups) = ap (λ gs. group ∷ gs) (groups_from (n + 1) groups)
+groups_of_enumerated_homes : (n : ℕ) (groups : List ℕ) → map group_of_home (map (λ p. at_home p.1 p.0) (enumerate_from n groups)) ≡ groups
+groups_of_enumerated_homes n [] = refl
+groups_of_enumerated_homes n (group ∷ groups) = ap (λ gs. group ∷ gs) (groups_of_enumerated_homes (n + 1) groups)
 
 module _ (groups : List ℕ) where
   pub groups_of_homes : map group_of_home (homes_at_slots groups) ≡ groups
-  groups_of_homes = groups_from 0 groups
+  groups_of_homes = groups_of_enumerated_homes 0 groups
 
   pub length-homes : length (homes_at_slots groups) ≡ length groups
   length-homes =

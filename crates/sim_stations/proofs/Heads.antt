@@ -7,8 +7,8 @@ use Rattle.sim_queue.specs.Groups.{Grouped, IsEmptyGroup, IsLeastOf}
 use Rattle.sim_stations.specs.Stations.{at_time}
 use Rattle.sim_stations.specs.Rows.{IsHead}
 
-pub no_key : (k : Timed) → None ≡ Some k → ⊥
-no_key k e = absurd (cc)
+pub none_is_not_some_event : (k : Timed) → None ≡ Some k → ⊥
+none_is_not_some_event k e = absurd (cc)
 
 -- events of one time compare as at any other time
 pub same_time_orders_alike : (time : ℕ) (x y : Timed) → event_before (at_time time x) (at_time time y) ≡ event_before (at_time 0 x) (at_time 0 y)
@@ -36,4 +36,4 @@ module _ (waiting new : Grouped Timed) (groups : new.groups ≡ waiting.groups) 
 -- an empty group has no head
 pub empty_group_has_no_head : (rows : Grouped Timed) (group time : ℕ) (head : Option Timed) → IsHead rows group time head → IsEmptyGroup rows group → head ≡ None
 empty_group_has_no_head rows group time None h empty = refl
-empty_group_has_no_head rows group time (Some k) h empty = absurd (no_key (at_time 0 k) (sym (empty h.0.slot h.0.member) ∙ h.0.has))
+empty_group_has_no_head rows group time (Some k) h empty = absurd (none_is_not_some_event (at_time 0 k) (sym (empty h.0.slot h.0.member) ∙ h.0.has))

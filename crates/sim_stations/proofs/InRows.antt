@@ -9,13 +9,13 @@ use Rattle.sim_queue.specs.Groups.{Grouped}
 use Rattle.sim_resources.specs.declared.pair.Pair.{Pair}
 use Rattle.sim_stations.specs.Stations.{pair_at, held, held_by, AreKnown, AreTimesOf}
 use Rattle.sim_stations.specs.Rows.{place_in, side_of, seen, turned_at, IsHead, IsTold, AreBothTold, IsInRows, AreHeads}
-use Rattle.sim_stations.proofs.Sides.{side_at, place_station, place_side, place_within, not_same, not_not}
-use Rattle.sim_stations.proofs.Seen.{seen_at, seen_written, seen_turned}
-use Rattle.sim_stations.proofs.Heads.{no_key, head_stays}
+use Rattle.sim_stations.proofs.Sides.{side_at_station_place, equal_places_same_station, equal_places_same_side, place_within, not_same, not_not}
+use Rattle.sim_stations.proofs.Seen.{station_key_at_turned_place, seen_written, seen_turned}
+use Rattle.sim_stations.proofs.Heads.{none_is_not_some_event, head_stays}
 
 -- the pair of a station, as the code reads it
-pub pair_there : (pairs : List Pair) (s : ℕ) (p : Pair) → slice_get pairs s ≡ Some p → pair_at pairs s ≡ p
-pair_there pairs s p e = get_or_from_slice_get pairs s p (record { cpu = 0; side = 0 }) e
+pub pair_at_station : (pairs : List Pair) (s : ℕ) (p : Pair) → slice_get pairs s ≡ Some p → pair_at pairs s ≡ p
+pair_at_station pairs s p e = get_or_from_slice_get pairs s p (record { cpu = 0; side = 0 }) e
 
 -- a station's pair and its place, as the code reads them
 pub pair_read : (pairs : List Pair) (s : ℕ) (p : Pair) → s < length pairs → p ≡ slice_index_or pairs s p → slice_get pairs s ≡ Some p
@@ -28,9 +28,9 @@ turned_read turned s b l e = get_or_read turned s b l e false
 abbrev pub with_key : Grouped Timed → ℕ → Option Timed → Grouped Timed
 with_key rows place value = record { keys = set rows.keys place value; groups = rows.groups }
 
--- an existing key is at the time of all
-pub if_some : (o : Option Timed) → IfSome o (λ k. k.time ≡ 0) → (k : Timed) → o ≡ Some k → k.time ≡ 0
-if_some o h k e = subst (λ x. IfSome x (λ k. k.time ≡ 0)) e h
+-- a key that exists has time 0
+pub existing_key_is_at_zero : (o : Option Timed) → IfSome o (λ k. k.time ≡ 0) → (k : Timed) → o ≡ Some k → k.time ≡ 0
+existing_key_is_at_zero o h k e = subst (λ x. IfSome x (λ k. k.time ≡ 0)) e h
 
 -- there are as many resources as before
 pub held_long : (free : List ℕ) (p : Pair) (cpu side : ℕ) → length (held free p cpu side) ≡ length free
@@ -38,10 +38,10 @@ held_long free p cpu side = length-set (set free p.cpu cpu) p.side side ∙ leng
 
 -- what contracts say of the pair of a station holds of the pair that the code reads
 pub known_for_pair_read : (times : List ℕ) (pairs : List Pair) (s : ℕ) (p : Pair) → slice_get pairs s ≡ Some p → AreKnown times (pair_at pairs s) → AreKnown times p
-known_for_pair_read times pairs s p at known = subst (AreKnown times) (pair_there pairs s p at) known
+known_for_pair_read times pairs s p at known = subst (AreKnown times) (pair_at_station pairs s p at) known
 
 pub times_for_pair_read : (times free : List ℕ) (pairs : List Pair) (s : ℕ) (p : Pair) → slice_get pairs s ≡ Some p → AreTimesOf times free (pair_at pairs s) → AreTimesOf times free p
-times_for_pair_read times free pairs s p at has = subst (AreTimesOf times free) (pair_there pairs s p at) has
+times_for_pair_read times free pairs s p at has = subst (AreTimesOf times free) (pair_at_station pairs s p at) has
 
 -- a list that has the times of a pair has a time for both its resources
 pub times_known : (times free : List ℕ) (p : Pair) → AreTimesOf times free p → AreKnown times p
@@ -84,8 +84,8 @@ times_held_are_same times free p l m = record { cpu = go (cases_eq p.cpu p.side)
     go (inr n) = sym (get_or-set_other (set free p.cpu c) p.side p.cpu s 0 n ∙ get_or-set_same free p.cpu c 0 l)
 
 -- a head that is updated by one of two such lists is updated by the other
-pub told_by_same_times : (rows : Grouped Timed) (times free : List ℕ) (old new : List (Option Timed)) (p : Pair) (b : Bool) → AreSameTimes times free p → IsTold rows times old new (side_of p b) → IsTold rows free old new (side_of p b)
-told_by_same_times rows times free old new p b same told = record {
+pub head_updated_by_same_times : (rows : Grouped Timed) (times free : List ℕ) (old new : List (Option Timed)) (p : Pair) (b : Bool) → AreSameTimes times free p → IsTold rows times old new (side_of p b) → IsTold rows free old new (side_of p b)
+head_updated_by_same_times rows times free old new p b same told = record {
   each = told.each;
   here = subst (λ t. IsHead rows (side_of p b) t (key_at new (side_of p b))) (at b) told.here;
   others = told.others;
@@ -96,8 +96,8 @@ told_by_same_times rows times free old new p b same told = record {
     at true = same.side
 
 -- so are both heads of the pair
-pub both_told_by_same_times : (rows : Grouped Timed) (times free : List ℕ) (old new : List (Option Timed)) (p : Pair) → AreSameTimes times free p → AreBothTold rows times old new p → AreBothTold rows free old new p
-both_told_by_same_times rows times free old new p same told = record {
+pub both_heads_updated_by_same_times : (rows : Grouped Timed) (times free : List ℕ) (old new : List (Option Timed)) (p : Pair) → AreSameTimes times free p → AreBothTold rows times old new p → AreBothTold rows free old new p
+both_heads_updated_by_same_times rows times free old new p same told = record {
   each = told.each;
   cpu = subst (λ t. IsHead rows p.cpu t (key_at new p.cpu)) same.cpu told.cpu;
   side = subst (λ t. IsHead rows p.side t (key_at new p.side)) same.side told.side;
@@ -105,8 +105,8 @@ both_told_by_same_times rows times free old new p same told = record {
 }
 
 -- the heads after both resources of a pair were held; the others stay
-pub both_told : (rows : Grouped Timed) (heads : List (Option Timed)) (free : List ℕ) (p : Pair) → length heads ≡ length free → length free < 2 ^ 32 → (cpu side : ℕ) (now : List (Option Timed)) → AreBothTold rows (held free p cpu side) heads now p → ((r : ℕ) → r < length free → r ≢ p.cpu → r ≢ p.side → IsHead rows r (slice_index free r) (key_at heads r)) → AreHeads rows now (held free p cpu side)
-both_told rows heads free p each few cpu side now told others = record {
+pub heads_after_pair_held : (rows : Grouped Timed) (heads : List (Option Timed)) (free : List ℕ) (p : Pair) → length heads ≡ length free → length free < 2 ^ 32 → (cpu side : ℕ) (now : List (Option Timed)) → AreBothTold rows (held free p cpu side) heads now p → ((r : ℕ) → r < length free → r ≢ p.cpu → r ≢ p.side → IsHead rows r (slice_index free r) (key_at heads r)) → AreHeads rows now (held free p cpu side)
+heads_after_pair_held rows heads free p each few cpu side now told others = record {
   each = told.each ∙ each ∙ sym (held_long free p cpu side);
   few = omega (arith, few, held_long free p cpu side);
   headed = λ r l. go r (omega (arith, l, held_long free p cpu side)) (cases_eq r p.cpu) (cases_eq r p.side);
@@ -120,7 +120,7 @@ both_told rows heads free p each few cpu side now told others = record {
         subst (IsHead rows r (slice_index (held free p cpu side) r)) (sym (told.others r n m)) (subst (λ t. IsHead rows r t (key_at heads r)) (sym stays) (others r l n m))
 
 module _ (rows : Grouped Timed) (heads : List (Option Timed)) (pairs : List Pair) (turned : List Bool) (free : List ℕ) (inside : IsInRows rows pairs turned free) (are : AreHeads rows heads free) where
-  -- so are the rows, where no key is changed
+  -- the rows stay valid after a hold, which changes no key
   pub held_inside : (p : Pair) (cpu side : ℕ) → IsInRows rows pairs turned (held free p cpu side)
   held_inside p cpu side = record {
     groups = inside.groups;
@@ -133,17 +133,17 @@ module _ (rows : Grouped Timed) (heads : List (Option Timed)) (pairs : List Pair
   }
 
   pub held_heads : (p : Pair) (cpu side : ℕ) (now : List (Option Timed)) → AreBothTold rows (held free p cpu side) heads now p → AreHeads rows now (held free p cpu side)
-  held_heads p cpu side now told = both_told rows heads free p are.each are.few cpu side now told (λ r l n m. are.headed r l)
+  held_heads p cpu side now told = heads_after_pair_held rows heads free p are.each are.few cpu side now told (λ r l n m. are.headed r l)
 
   pub long : length rows.keys ≡ 2 * length turned
   long = omega (arith, inside.each, inside.both)
 
-  pub side_in : (s : ℕ) (p : Pair) (b : Bool) → slice_get pairs s ≡ Some p → side_of p b < length free
-  side_in s p false e = (inside.exist s p e).0
-  side_in s p true e = (inside.exist s p e).1
+  pub side_resource_exists : (s : ℕ) (p : Pair) (b : Bool) → slice_get pairs s ≡ Some p → side_of p b < length free
+  side_resource_exists s p false e = (inside.exist s p e).0
+  side_resource_exists s p true e = (inside.exist s p e).1
 
   pub member : (s : ℕ) (p : Pair) (b : Bool) → slice_get pairs s ≡ Some p → slice_get rows.groups (place_in s b) ≡ Some (side_of p b)
-  member s p b e = ap (λ gs. slice_get gs (place_in s b)) inside.groups ∙ side_at pairs s b p e
+  member s p b e = ap (λ gs. slice_get gs (place_in s b)) inside.groups ∙ side_at_station_place pairs s b p e
 
   module _ (s : ℕ) (p : Pair) (at : slice_get pairs s ≡ Some p) where
     station_in : s < length turned
@@ -194,8 +194,8 @@ module _ (rows : Grouped Timed) (heads : List (Option Timed)) (pairs : List Pair
         where
           differ : (t : ℕ) → place_in t (not (turned_at turned t)) ≡ here → ⊥
           differ t e =
-              let same : t ≡ s = place_station t s (not (turned_at turned t)) (turned_at turned s) e in
-              let side : not (turned_at turned t) ≡ turned_at turned s = place_side t s (not (turned_at turned t)) (turned_at turned s) e in
+              let same : t ≡ s = equal_places_same_station t s (not (turned_at turned t)) (turned_at turned s) e in
+              let side : not (turned_at turned t) ≡ turned_at turned s = equal_places_same_side t s (not (turned_at turned t)) (turned_at turned s) e in
               not_same (turned_at turned s) (ap (λ i. not (turned_at turned i)) (sym same) ∙ side)
 
       -- the heads of the other resources stay
@@ -220,7 +220,7 @@ module _ (rows : Grouped Timed) (heads : List (Option Timed)) (pairs : List Pair
 
       -- so are they after its resources were also held
       pub left_heads : (cpu side : ℕ) (now : List (Option Timed)) → AreBothTold new (held free p cpu side) heads now p → AreHeads new now (held free p cpu side)
-      left_heads cpu side now told = both_told new heads free p are.each are.few cpu side now told (λ r l n m. head_there r (slice_index free r) (key_at heads r) (not_here r (turned_at turned s) n m) (are.headed r l))
+      left_heads cpu side now told = heads_after_pair_held new heads free p are.each are.few cpu side now told (λ r l n m. head_there r (slice_index free r) (key_at heads r) (not_here r (turned_at turned s) n m) (are.headed r l))
         where
           not_here : (r : ℕ) (b : Bool) → r ≢ p.cpu → r ≢ p.side → r ≢ side_of p b
           not_here r false n m = n
@@ -228,7 +228,7 @@ module _ (rows : Grouped Timed) (heads : List (Option Timed)) (pairs : List Pair
 
     -- the key of the station is at time 0
     pub key_zero : (key : Timed) → key_at (seen turned rows.keys) s ≡ Some key → key.time ≡ 0
-    key_zero key has = inside.at_zero (place_in s (turned_at turned s)) key (sym (seen_at turned rows.keys long s) ∙ has)
+    key_zero key has = inside.at_zero (place_in s (turned_at turned s)) key (sym (station_key_at_turned_place turned rows.keys long s) ∙ has)
 
     -- The station switches with its key.
     module _ (key : Timed) (has : key_at (seen turned rows.keys) s ≡ Some key) (mid new : Grouped Timed) (is_mid : mid ≡ with_key rows (place_in s (turned_at turned s)) None) (is_new : new ≡ with_key mid (place_in s (not (turned_at turned s))) (Some key)) where
@@ -249,7 +249,7 @@ module _ (rows : Grouped Timed) (heads : List (Option Timed)) (pairs : List Pair
       groups_over = ap (λ (g : Grouped Timed). g.groups) is_new ∙ ap (λ (g : Grouped Timed). g.groups) is_mid
 
       apart_over : to ≢ from
-      apart_over e = not_same (turned_at turned s) (place_side s s (not (turned_at turned s)) (turned_at turned s) e)
+      apart_over e = not_same (turned_at turned s) (equal_places_same_side s s (not (turned_at turned s)) (turned_at turned s) e)
 
       stays_over : (slot : ℕ) → slot ≢ from → slot ≢ to → key_at new.keys slot ≡ key_at rows.keys slot
       stays_over slot n m =
@@ -270,7 +270,7 @@ module _ (rows : Grouped Timed) (heads : List (Option Timed)) (pairs : List Pair
           go (inl same) b = no_time (sym key_from ∙ ap (key_at new.keys) (sym same) ∙ e)
             where
               no_time : None ≡ Some k → k.time ≡ 0
-              no_time f = absurd (no_key k f)
+              no_time f = absurd (none_is_not_some_event k f)
           go (inr n) (inl same) = ap (λ (x : Timed). x.time) (same_Some k key (sym e ∙ ap (key_at new.keys) same ∙ key_to)) ∙ key_zero key has
           go (inr n) (inr m) = inside.at_zero slot k (sym (stays_over slot n m) ∙ e)
 
@@ -295,7 +295,7 @@ module _ (rows : Grouped Timed) (heads : List (Option Timed)) (pairs : List Pair
           go t (inl e) = ap (λ x. key_at new.keys (place_in x (not (turned_at over x)))) e ∙ ap (key_at new.keys) back ∙ key_from
           go t (inr n) =
               let stays : turned_at over t ≡ turned_at turned t = get_or-set_other turned s t (not (turned_at turned s)) false n in
-              ap (λ b. key_at new.keys (place_in t (not b))) stays ∙ stays_over (place_in t (not (turned_at turned t))) (λ e. n (place_station t s (not (turned_at turned t)) (turned_at turned s) e)) (λ e. n (place_station t s (not (turned_at turned t)) (not (turned_at turned s)) e)) ∙ inside.elsewhere t
+              ap (λ b. key_at new.keys (place_in t (not b))) stays ∙ stays_over (place_in t (not (turned_at turned t))) (λ e. n (equal_places_same_station t s (not (turned_at turned t)) (turned_at turned s) e)) (λ e. n (equal_places_same_station t s (not (turned_at turned t)) (not (turned_at turned s)) e)) ∙ inside.elsewhere t
 
       pub turned_heads : (now : List (Option Timed)) → AreBothTold new free heads now p → AreHeads new now free
       turned_heads now told = record {

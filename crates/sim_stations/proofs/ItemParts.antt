@@ -11,7 +11,7 @@ use Rattle.sim_queue.specs.Map.{key_at, IsSoleLeast}
 use Rattle.sim_queue.specs.Places.{AreOrdered, AreOrderedBut}
 use Rattle.sim_queue.specs.Sift.{AreMoved}
 use Rattle.sim_queue.specs.TopHeap.{placed, key_there, AreApart, IsTopHeap}
-use Rattle.sim_queue.proofs.ForCallers.{added_apart, added_placed, added_ordered, taken_apart, taken_placed, taken_ordered, emptied_placed, moved_apart, moved_placed, none_of}
+use Rattle.sim_queue.proofs.ForCallers.{added_apart, added_placed, added_ordered, taken_apart, taken_placed, taken_ordered, emptied_placed, moved_apart, moved_placed, key_at_no_keys}
 use Rattle.sim_stations.specs.Parts.{all_but_last}
 
 module _ {X : Type 0} (xs : List X) (some : 0 < length xs) where
@@ -25,7 +25,7 @@ module _ {X : Type 0} (xs : List X) (some : 0 < length xs) where
       let front : n ≡ length xs - 1 = omega (arith, e) in
       sym (take_all (n + 1) (set xs n y) (omega (arith, e, length-set xs n y))) ∙ take_more_set xs n y (omega (arith, e)) ∙ ap (λ m. take m xs ++ y ∷ []) front
 
-  -- the items before its last, and that
+  -- a list is the items before its last, followed by the last
   pub front_and_last : (n : ℕ) (d : X) → n + 1 ≡ length xs → xs ≡ all_but_last xs ++ get_or xs n d ∷ []
   front_and_last n d e =
       let front : n ≡ length xs - 1 = omega (arith, e) in
@@ -98,7 +98,7 @@ module _ (items front : List (Item Timed)) (last : Item Timed) (are : items ≡ 
 -- a slot without an item
 pub no_key_without_item : (slots slot : ℕ) (xs : List (Item Timed)) → ((place : ℕ) (y : Item Timed) → slice_get xs place ≡ Some y → y.slot ≢ slot) → key_at (placed slots xs) slot ≡ None
 unfolding placed
-no_key_without_item slots slot [] other = none_of slots slot
+no_key_without_item slots slot [] other = key_at_no_keys slots slot
 no_key_without_item slots slot (x ∷ xs) other =
     get_or-set_other (placed slots xs) x.slot slot (Some x.key) None (λ e. other 0 x refl (sym e))
     ∙ no_key_without_item slots slot xs (λ place y e. other (suc place) y e)

@@ -15,7 +15,7 @@ use Rattle.sim_queue.specs.Groups.{heap_at, with_key}
 use Rattle.sim_stations.specs.AtSlots.{at_home}
 use Rattle.sim_stations.specs.Parts.{room_of, keyed_of, all_but_last, ArePacked, map_of_items, maps_of_items, roomed, AreItemHeaps}
 use Rattle.sim_stations.proofs.InParts.{put_mid, part_of_written, length-keyed, first_keyed, map_written, part_with_count, part_with_new_count, packed_after, length-written, keyed_elsewhere}
-use Rattle.sim_stations.proofs.Rooms.{items_counted}
+use Rattle.sim_stations.proofs.Rooms.{items_no_more_than_keys}
 
 module _ (slots : ℕ) (parts : List Part) (items : List (Item Timed)) (heaps : AreItemHeaps event_before slots parts items) (group : ℕ) (part : Part) (at : slice_get parts group ≡ Some part) where
   -- the properties of its part
@@ -45,7 +45,7 @@ module _ (slots : ℕ) (parts : List Part) (items : List (Item Timed)) (heaps : 
   -- fewer keys than its room are fewer items than its places
   pub fewer_keys_fewer_items : count_by is_some (heap_at (maps_of_items slots parts items) group) < slice_index (map room_of parts) group → part.count < part.room
   fewer_keys_fewer_items room =
-      omega (arith, room, room_of_its_part, count_of_part, items_counted slots (keyed_of items part) heap_of_part.apart, ap (count_by is_some) map_of_part)
+      omega (arith, room, room_of_its_part, count_of_part, items_no_more_than_keys slots (keyed_of items part) heap_of_part.apart, ap (count_by is_some) map_of_part)
 
   -- its items, before one more place
   pub items_before_free_place : part.count < part.room → all_but_last (take (part.start + (part.count + 1) - part.start) (drop part.start items)) ≡ keyed_of items part

@@ -6,7 +6,7 @@ use Rattle.std.proofs.lemmas.Option.{same_Some, slice_get_within}
 use Rattle.goal_graph.specs.declared.action.OpId.{OpId}
 use Rattle.goal_graph.specs.declared.action.Timed.{Timed}
 use Rattle.goal_graph.specs.Schedule.{Plan, operations}
-use Rattle.goal_graph.proofs.ForCallers.{other_place}
+use Rattle.goal_graph.proofs.ForCallers.{operations_at_two_places_differ}
 use Rattle.sim_order.specs.Events.{event_before}
 use Rattle.sim_order.specs.EventLaws.{event_laws}
 use Rattle.sim_queue.specs.Map.{key_at, IsEmptyMap, IsLeast, IsSoleLeast}
@@ -17,19 +17,19 @@ use Rattle.sim_stations.specs.declared.key_place.KeyPlace.{KeyPlace}
 use Rattle.sim_stations.specs.Stations.{holds_cpu, at_time, both_free, earliest, when_free, pair_at, AreOfSlots}
 use Rattle.sim_stations.specs.Rows.{Rowed, side_of, turned_at, shown, IsHead}
 use Rattle.sim_stations.specs.Kept.{IsKept, seen_of, IsFound, IsSeenFirst, IsFirstOfAll}
-use Rattle.sim_stations.proofs.Heads.{no_key, same_time_orders_alike, at_own_time_is_itself}
-use Rattle.sim_stations.proofs.Times.{later_than, not_earlier, when_zero, earliest_waits}
-use Rattle.sim_stations.proofs.Slots.{merged, merged_ahead, merged_waiting, pair_here, seen_here, not_ahead, station_of}
+use Rattle.sim_stations.proofs.Heads.{none_is_not_some_event, same_time_orders_alike, at_own_time_is_itself}
+use Rattle.sim_stations.proofs.Times.{not_before_at_later_time, not_earlier, when_free_from_time_zero, earliest_waits}
+use Rattle.sim_stations.proofs.Slots.{merged, merged_ahead, merged_waiting, pair_here, seen_key_of_mapped_slot, not_ahead, station_of}
 
 -- a resource of a pair is free when both are, at the latest
-pub one_of_both : (free : List ℕ) (p : Pair) (b : Bool) → slice_index free (side_of p b) ≤ both_free free p
-one_of_both free p false = omega arith
-one_of_both free p true = omega arith
+pub one_free_within_both_free : (free : List ℕ) (p : Pair) (b : Bool) → slice_index free (side_of p b) ≤ both_free free p
+one_free_within_both_free free p false = omega arith
+one_free_within_both_free free p true = omega arith
 
 -- if one is free before both are, the other is free later
-pub other_later : (free : List ℕ) (p : Pair) (b : Bool) → slice_index free (side_of p b) < both_free free p → slice_index free (side_of p b) < slice_index free (side_of p (not b))
-other_later free p false l = omega (arith, l)
-other_later free p true l = omega (arith, l)
+pub other_free_later_than_one : (free : List ℕ) (p : Pair) (b : Bool) → slice_index free (side_of p b) < both_free free p → slice_index free (side_of p b) < slice_index free (side_of p (not b))
+other_free_later_than_one free p false l = omega (arith, l)
+other_free_later_than_one free p true l = omega (arith, l)
 
 module _ (ahead : List (Option Timed)) (waiting : Grouped Timed) (rows : Rowed) (stands : List KeyPlace) (kept : IsKept ahead waiting rows stands) where
   abbrev seen : List (Option Timed)
@@ -39,7 +39,7 @@ module _ (ahead : List (Option Timed)) (waiting : Grouped Timed) (rows : Rowed) 
   pair_for i = pair_here rows.pairs waiting i
 
   here : (i : ℕ) → key_at seen i ≡ option_map (when_free rows.free (pair_for i)) (merged ahead waiting i)
-  here i = seen_here ahead waiting rows.pairs kept.mapped rows.free i
+  here i = seen_key_of_mapped_slot ahead waiting rows.pairs kept.mapped rows.free i
 
   pub seen_ahead : (slot : ℕ) (k : Timed) → key_at ahead slot ≡ Some k → key_at seen slot ≡ Some (when_free rows.free (pair_for slot) k)
   seen_ahead slot k e =
@@ -76,16 +76,16 @@ module _ (ahead : List (Option Timed)) (waiting : Grouped Timed) (rows : Rowed) 
       time = slice_index rows.free (side_of (pair_at rows.pairs station) (turned_at rows.turned station))
 
       go : (o : Option Timed) → key_at rows.keys station ≡ o → IsHead waiting station 0 o → IsAfterShown slot k
-      go None f empty = absurd (no_key k (sym (empty slot member) ∙ e))
+      go None f empty = absurd (none_is_not_some_event k (sym (empty slot member) ∙ e))
       go (Some w) f is =
           let zero : at_time 0 k ≡ k = at_own_time_is_itself k 0 own.0 in
           let below : event_before (at_time time k) (at_time time w) ≡ false = same_time_orders_alike time k w ∙ ap (λ x. event_before x (at_time 0 w)) zero ∙ is.0.least slot k member e in
-          let true_is : when_free rows.free (pair_for slot) k ≡ at_time (both_free rows.free (pair_for slot)) k = ap (when_free rows.free (pair_for slot)) (sym zero) ∙ when_zero rows.free (pair_for slot) k own.1 in
+          let true_is : when_free rows.free (pair_for slot) k ≡ at_time (both_free rows.free (pair_for slot)) k = ap (when_free rows.free (pair_for slot)) (sym zero) ∙ when_free_from_time_zero rows.free (pair_for slot) k own.1 in
           record {
             station = station;
             head = at_time time w;
             shows = shown_at station w f;
-            not_before = ap (λ x. event_before x (at_time time w)) true_is ∙ later_than (both_free rows.free (pair_for slot)) (at_time time k) (at_time time w) (one_of_both rows.free (pair_for slot) (turned_at rows.turned station)) below;
+            not_before = ap (λ x. event_before x (at_time time w)) true_is ∙ not_before_at_later_time (both_free rows.free (pair_for slot)) (at_time time k) (at_time time w) (one_free_within_both_free rows.free (pair_for slot) (turned_at rows.turned station)) below;
           }
 
   module _ (key : Timed) (is_ahead : Bool) (first : IsFirstOfAll ahead rows key is_ahead) where
@@ -96,13 +96,13 @@ module _ (ahead : List (Option Timed)) (waiting : Grouped Timed) (rows : Rowed) 
         go : (a w : Option Timed) → key_at ahead slot ≡ a → key_at waiting.keys slot ≡ w → event_before k key ≡ false
         go (Some m) w f g =
             let same : k ≡ when_free rows.free (pair_for slot) m = same_Some k (when_free rows.free (pair_for slot) m) (sym e ∙ seen_ahead slot m f) in
-            ap (λ x. event_before x key) same ∙ later_than (earliest rows.free (pair_for slot) m) m key (not_earlier rows.free (pair_for slot) m) (first.least_ahead slot m f)
+            ap (λ x. event_before x key) same ∙ not_before_at_later_time (earliest rows.free (pair_for slot) m) m key (not_earlier rows.free (pair_for slot) m) (first.least_ahead slot m f)
         go None (Some m) f g =
             let same : k ≡ when_free rows.free (pair_for slot) m = same_Some k (when_free rows.free (pair_for slot) m) (sym e ∙ seen_waiting slot m g) in
             let after = after_shown slot m g in
             ap (λ x. event_before x key) same ∙ through event_before event_laws (when_free rows.free (pair_for slot) m) after.head key after.not_before (first.least_shown after.station after.head after.shows)
         go None None f g =
-            absurd (no_key k (sym (here slot ∙ ap (option_map (when_free rows.free (pair_for slot))) (merged_waiting ahead waiting slot f ∙ g)) ∙ e))
+            absurd (none_is_not_some_event k (sym (here slot ∙ ap (option_map (when_free rows.free (pair_for slot))) (merged_waiting ahead waiting slot f ∙ g)) ∙ e))
 
     pub in_ahead : is_ahead ≡ true → (slot : ℕ) × (key_at ahead slot ≡ Some key)
     in_ahead e = subst (IsSeenFirst ahead rows key) e first.seen
@@ -148,7 +148,7 @@ module _ (ahead : List (Option Timed)) (waiting : Grouped Timed) (rows : Rowed) 
 
             go : (o : Option Timed) → key_at rows.keys is.0 ≡ o → IsShownOf
             go None f =
-                absurd (no_key key (sym (ap (option_map (at_time time)) f) ∙ is.1))
+                absurd (none_is_not_some_event key (sym (ap (option_map (at_time time)) f) ∙ is.1))
             go (Some w) f =
                 found w f (subst (IsHead waiting is.0 0) f (kept.shown is.0 (omega (arith, key_within rows.keys is.0 w f, kept.keyed))))
 
@@ -159,7 +159,7 @@ module _ (ahead : List (Option Timed)) (waiting : Grouped Timed) (rows : Rowed) 
         where
           go : (one ≡ slot) ⊎ (one ≢ slot) → one ≡ slot
           go (inl s) = s
-          go (inr d) = absurd (other_place plans one slot k.op key.op (of_slots one k e) is_slot d f)
+          go (inr d) = absurd (operations_at_two_places_differ plans one slot k.op key.op (of_slots one k e) is_slot d f)
 
       pub slot_within : slot < length waiting.keys
       slot_within = go is_ahead refl
@@ -250,11 +250,11 @@ module _ (ahead : List (Option Timed)) (waiting : Grouped Timed) (rows : Rowed) 
                 let time_is : max key.time (both_free rows.free p) ≡ key.time = sym (earliest_waits rows.free p key waits) ∙ ap (λ (x : Timed). x.time) due in
                 let at_place : key.time ≡ slice_index rows.free (side_of (pair_at rows.pairs was.station) (turned_at rows.turned was.station)) = ap (λ (x : Timed). x.time) was.is in
                 let p_is : pair_at rows.pairs was.station ≡ p = ap (pair_at rows.pairs) (station_is e) in
-                let bound = one_of_both rows.free (pair_at rows.pairs was.station) (turned_at rows.turned was.station) in
+                let bound = one_free_within_both_free rows.free (pair_at rows.pairs was.station) (turned_at rows.turned was.station) in
                 let both_is : both_free rows.free (pair_at rows.pairs was.station) ≡ both_free rows.free p = ap (both_free rows.free) p_is in
                 let same : both_free rows.free p ≡ key.time = omega (arith, time_is, at_place, bound, both_is) in
                 let zero : at_time 0 was.own ≡ was.own = at_own_time_is_itself was.own 0 was.zero in
-                let own_is : when_free rows.free p was.own ≡ at_time (both_free rows.free p) was.own = ap (when_free rows.free p) (sym zero) ∙ when_zero rows.free p was.own was.waits in
+                let own_is : when_free rows.free p was.own ≡ at_time (both_free rows.free p) was.own = ap (when_free rows.free p) (sym zero) ∙ when_free_from_time_zero rows.free p was.own was.waits in
                 let back : at_time key.time was.own ≡ key = ap (λ t. at_time t was.own) at_place ∙ sym was.is in
                 has ∙ ap Some (ap (λ q. when_free rows.free q was.own) pair_is ∙ own_is ∙ ap (λ t. at_time t was.own) same ∙ back)
 
@@ -269,7 +269,7 @@ module _ (ahead : List (Option Timed)) (waiting : Grouped Timed) (rows : Rowed) 
         turn_late e l =
             let was = shown_of e in
             let at_place : key.time ≡ slice_index rows.free (side_of (pair_at rows.pairs station) (turned_at rows.turned station)) = ap (λ (x : Timed). x.time) was.is ∙ ap (λ s. slice_index rows.free (side_of (pair_at rows.pairs s) (turned_at rows.turned s))) (station_is e) in
-            other_later rows.free (pair_at rows.pairs station) (turned_at rows.turned station) (omega (arith, l, at_place))
+            other_free_later_than_one rows.free (pair_at rows.pairs station) (turned_at rows.turned station) (omega (arith, l, at_place))
 
     -- some slot has a key
     pub not_empty : IsEmptyMap seen → ⊥
@@ -277,10 +277,10 @@ module _ (ahead : List (Option Timed)) (waiting : Grouped Timed) (rows : Rowed) 
       where
         go : (b : Bool) → is_ahead ≡ b → ⊥
         go true e =
-            let was = in_ahead e in no_key (when_free rows.free (pair_for was.0) key) (sym (empty was.0) ∙ seen_ahead was.0 key was.1)
+            let was = in_ahead e in none_is_not_some_event (when_free rows.free (pair_for was.0) key) (sym (empty was.0) ∙ seen_ahead was.0 key was.1)
         go false e =
             let was = shown_of e in
-            no_key (when_free rows.free (pair_for was.slot) was.own) (sym (empty was.slot) ∙ seen_waiting was.slot was.own was.has)
+            none_is_not_some_event (when_free rows.free (pair_for was.slot) was.own) (sym (empty was.slot) ∙ seen_waiting was.slot was.own was.has)
 
     -- the operation of the key belongs to some slot
     pub listed : (ops : List OpId) → AreOfSlots ops seen → (slot : ℕ) × (slice_get ops slot ≡ Some key.op)
@@ -293,12 +293,12 @@ module _ (ahead : List (Option Timed)) (waiting : Grouped Timed) (rows : Rowed) 
             (was.slot, of_slots was.slot (when_free rows.free (pair_for was.slot) was.own) (seen_waiting was.slot was.own was.has) ∙ ap Some (sym (ap (λ (x : Timed). x.op) was.is)))
 
   -- if neither has a key, no slot has one
-  pub empty_both : IsEmptyMap ahead → IsEmptyMap rows.keys → IsEmptyMap seen
-  empty_both none no_row slot = go (key_at waiting.keys slot) refl
+  pub seen_empty_if_both_empty : IsEmptyMap ahead → IsEmptyMap rows.keys → IsEmptyMap seen
+  seen_empty_if_both_empty none no_row slot = go (key_at waiting.keys slot) refl
     where
       go : (o : Option Timed) → key_at waiting.keys slot ≡ o → key_at seen slot ≡ None
       go None e =
           here slot ∙ ap (option_map (when_free rows.free (pair_for slot))) (merged_waiting ahead waiting slot (none slot) ∙ e)
       go (Some k) e =
           let after = after_shown slot k e in
-          absurd (no_key after.head (sym (ap (option_map (at_time (slice_index rows.free (side_of (pair_at rows.pairs after.station) (turned_at rows.turned after.station))))) (no_row after.station)) ∙ after.shows))
+          absurd (none_is_not_some_event after.head (sym (ap (option_map (at_time (slice_index rows.free (side_of (pair_at rows.pairs after.station) (turned_at rows.turned after.station))))) (no_row after.station)) ∙ after.shows))

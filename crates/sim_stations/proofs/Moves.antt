@@ -10,24 +10,24 @@ use Rattle.sim_stations.specs.Moves.{one_if, HasReturned, HaveReturned, HaveMove
 use Rattle.sim_stations.specs.Rows.{side_of, turned_at}
 
 -- the switches of a station are bounded by the holds of its resources
-one_bound : (free holds : List ℕ) (p : Pair) (b : Bool) (n : ℕ) → HasReturned free holds p b n → 2 * n + one_if b ≤ 1 + 2 * min (slice_index holds p.cpu) (slice_index holds p.side)
-one_bound free holds p false n r = omega (arith, r.to_cpu, r.to_side)
-one_bound free holds p true n r = omega (arith, r.to_cpu, r.to_side)
+station_changes_within_holds : (free holds : List ℕ) (p : Pair) (b : Bool) (n : ℕ) → HasReturned free holds p b n → 2 * n + one_if b ≤ 1 + 2 * min (slice_index holds p.cpu) (slice_index holds p.side)
+station_changes_within_holds free holds p false n r = omega (arith, r.to_cpu, r.to_side)
+station_changes_within_holds free holds p true n r = omega (arith, r.to_cpu, r.to_side)
 
-all_bound : (free holds : List ℕ) (pairs : List Pair) (turned : List Bool) (returns : List ℕ) → length turned ≡ length pairs → length returns ≡ length pairs → ((s : ℕ) (p : Pair) → slice_get pairs s ≡ Some p → HasReturned free holds p (slice_index_or turned s false) (slice_index returns s)) → changes turned returns ≤ most_changes holds pairs
-all_bound free holds [] [] [] l m each = omega arith
-all_bound free holds (p ∷ pairs) (b ∷ turned) (n ∷ returns) l m each =
-    let here = one_bound free holds p b n (each 0 p refl) in
-    let rest = all_bound free holds pairs turned returns (omega (arith, l)) (omega (arith, m)) (λ s q e. each (suc s) q e) in
+changes_within_most_changes : (free holds : List ℕ) (pairs : List Pair) (turned : List Bool) (returns : List ℕ) → length turned ≡ length pairs → length returns ≡ length pairs → ((s : ℕ) (p : Pair) → slice_get pairs s ≡ Some p → HasReturned free holds p (slice_index_or turned s false) (slice_index returns s)) → changes turned returns ≤ most_changes holds pairs
+changes_within_most_changes free holds [] [] [] l m each = omega arith
+changes_within_most_changes free holds (p ∷ pairs) (b ∷ turned) (n ∷ returns) l m each =
+    let here = station_changes_within_holds free holds p b n (each 0 p refl) in
+    let rest = changes_within_most_changes free holds pairs turned returns (omega (arith, l)) (omega (arith, m)) (λ s q e. each (suc s) q e) in
     let sum = sum_by-cons (λ (q : Pair). 1 + 2 * min (slice_index holds q.cpu) (slice_index holds q.side)) p pairs in
     omega (arith, here, rest, sum)
-all_bound free holds [] (b ∷ turned) returns l m each = absurd (omega (arith, l))
-all_bound free holds [] [] (n ∷ returns) l m each = absurd (omega (arith, m))
-all_bound free holds (p ∷ pairs) [] returns l m each = absurd (omega (arith, l))
-all_bound free holds (p ∷ pairs) (b ∷ turned) [] l m each = absurd (omega (arith, m))
+changes_within_most_changes free holds [] (b ∷ turned) returns l m each = absurd (omega (arith, l))
+changes_within_most_changes free holds [] [] (n ∷ returns) l m each = absurd (omega (arith, m))
+changes_within_most_changes free holds (p ∷ pairs) [] returns l m each = absurd (omega (arith, l))
+changes_within_most_changes free holds (p ∷ pairs) (b ∷ turned) [] l m each = absurd (omega (arith, m))
 
 pub few_changes : ChangesAreFew
-few_changes pairs turned free holds returns have = all_bound free holds pairs turned returns have.both have.each have.station
+few_changes pairs turned free holds returns have = changes_within_most_changes free holds pairs turned returns have.both have.each have.station
 
 -- one station switches
 pub changes_set : (turned : List Bool) (returns : List ℕ) (s : ℕ) (b : Bool) (n : ℕ) → length turned ≡ length returns → s < length turned → changes (set turned s b) (set returns s n) + (2 * slice_index returns s + one_if (turned_at turned s)) ≡ changes turned returns + (2 * n + one_if b)
@@ -47,14 +47,14 @@ next_change true n = omega arith
 
 module _ (free holds : List ℕ) (p : Pair) where
   -- a station switches only to a resource that is free later
-  one_turn : (b : Bool) (n : ℕ) → HasReturned free holds p b n → slice_index free (side_of p b) < slice_index free (side_of p (not b)) → HasReturned free holds p (not b) (next b n)
-  one_turn false n r late = record {
+  returned_after_switch : (b : Bool) (n : ℕ) → HasReturned free holds p b n → slice_index free (side_of p b) < slice_index free (side_of p (not b)) → HasReturned free holds p (not b) (next b n)
+  returned_after_switch false n r late = record {
     to_cpu = r.to_cpu;
     to_side = r.may_go refl late;
     may_go = λ e l. absurd (cc);
     may_return = λ e l. absurd (omega (arith, l, late));
   }
-  one_turn true n r late = record {
+  returned_after_switch true n r late = record {
     to_cpu = r.may_return refl late;
     to_side = omega (arith, r.to_side);
     may_go = λ e l. absurd (omega (arith, l, late));
@@ -62,8 +62,8 @@ module _ (free holds : List ℕ) (p : Pair) where
   }
 
 module _ (pairs : List Pair) (free holds : List ℕ) where
-  pub turned_once : (turned : List Bool) (returns : List ℕ) → HaveReturned pairs turned free holds returns → (s : ℕ) (p : Pair) → slice_get pairs s ≡ Some p → slice_index free (side_of p (turned_at turned s)) < slice_index free (side_of p (not (turned_at turned s))) → (moves : ℕ) → HaveMoved pairs free holds turned (set turned s (not (turned_at turned s))) returns moves (moves + 1)
-  turned_once turned returns have s p at late moves = record {
+  pub moved_by_one_switch : (turned : List Bool) (returns : List ℕ) → HaveReturned pairs turned free holds returns → (s : ℕ) (p : Pair) → slice_get pairs s ≡ Some p → slice_index free (side_of p (turned_at turned s)) < slice_index free (side_of p (not (turned_at turned s))) → (moves : ℕ) → HaveMoved pairs free holds turned (set turned s (not (turned_at turned s))) returns moves (moves + 1)
+  moved_by_one_switch turned returns have s p at late moves = record {
     now = now;
     have = record {
       each = length-set returns s (next b n) ∙ have.each;
@@ -92,7 +92,7 @@ module _ (pairs : List Pair) (free holds : List ℕ) where
           let is : p ≡ q = same_Some p q (sym at ∙ ap (slice_get pairs) (sym same) ∙ e) in
           let turned_now : slice_index_or (set turned s (not b)) t false ≡ not b = ap (λ x. slice_index_or (set turned s (not b)) x false) same ∙ get_or-set_same turned s (not b) false within in
           let now_is : slice_index now t ≡ next b n = ap (slice_index now) same ∙ get_or-set_same returns s (next b n) 0 (omega (arith, within, have.both, have.each)) in
-          let turn : HasReturned free holds q (not b) (next b n) = subst (λ x. HasReturned free holds x (not b) (next b n)) is (one_turn free holds p b n (have.station s p at) late) in
+          let turn : HasReturned free holds q (not b) (next b n) = subst (λ x. HasReturned free holds x (not b) (next b n)) is (returned_after_switch free holds p b n (have.station s p at) late) in
           subst (λ x. HasReturned free holds q x (slice_index now t)) (sym turned_now) (subst (HasReturned free holds q (not b)) (sym now_is) turn)
       go t q e (inr d) =
           let turned_now : slice_index_or (set turned s (not b)) t false ≡ slice_index_or turned t false = get_or-set_other turned s t (not b) false d in
@@ -103,8 +103,8 @@ module _ (pairs : List Pair) (free holds : List ℕ) where
   pub unmoved : (turned : List Bool) (returns : List ℕ) → HaveReturned pairs turned free holds returns → (moves : ℕ) → HaveMoved pairs free holds turned turned returns moves moves
   unmoved turned returns have moves = record { now = returns; have = have; counted = refl }
 
-  pub moved_again : (old mid new : List Bool) (returns : List ℕ) (before then after : ℕ) → (m : HaveMoved pairs free holds old mid returns before then) → HaveMoved pairs free holds mid new m.now then after → HaveMoved pairs free holds old new returns before after
-  moved_again old mid new returns before then after m k = record { now = k.now; have = k.have; counted = omega (arith, m.counted, k.counted) }
+  pub have_moved_transitive : (old mid new : List Bool) (returns : List ℕ) (before then after : ℕ) → (m : HaveMoved pairs free holds old mid returns before then) → HaveMoved pairs free holds mid new m.now then after → HaveMoved pairs free holds old new returns before after
+  have_moved_transitive old mid new returns before then after m k = record { now = k.now; have = k.have; counted = omega (arith, m.counted, k.counted) }
 
 -- what a hold changes
 module _ (free holds : List ℕ) (p : Pair) (cpu side : ℕ) (later : IsLater free p cpu side) (same : length holds ≡ length free) where
@@ -119,8 +119,8 @@ module _ (free holds : List ℕ) (p : Pair) (cpu side : ℕ) (later : IsLater fr
     pub not_fewer : slice_index holds r ≤ slice_index more r
     pub either_way : (slice_index now r ≡ slice_index free r) ⊎ (slice_index holds r + 1 ≤ slice_index more r)
 
-  pub touched : (r : ℕ) → r < length free → IsTouched r
-  touched r l = go (cases_eq r p.side) (cases_eq r p.cpu)
+  pub hold_effect_on_resource : (r : ℕ) → r < length free → IsTouched r
+  hold_effect_on_resource r l = go (cases_eq r p.side) (cases_eq r p.cpu)
     where
       go : (r ≡ p.side) ⊎ (r ≢ p.side) → (r ≡ p.cpu) ⊎ (r ≢ p.cpu) → IsTouched r
       go (inl e) b =
@@ -146,34 +146,34 @@ module _ (free holds : List ℕ) (p : Pair) (cpu side : ℕ) (later : IsLater fr
           let more_is : slice_index more r ≡ slice_index holds r = get_or-set_other (set holds p.cpu (slice_index holds p.cpu + 1)) p.side r (slice_index holds p.side + 1) 0 d ∙ get_or-set_other holds p.cpu r (slice_index holds p.cpu + 1) 0 f in
           record { not_earlier = omega (arith, now_is); not_fewer = omega (arith, more_is); either_way = inl now_is }
 
-  one_held : (q : Pair) (b : Bool) (n : ℕ) → q.cpu < length free → q.side < length free → HasReturned free holds q b n → HasReturned now more q b n
-  one_held q b n l m r = record {
-    to_cpu = omega (arith, r.to_cpu, (touched q.cpu l).not_fewer);
-    to_side = omega (arith, r.to_side, (touched q.side m).not_fewer);
-    may_go = λ e h. go e h (touched q.side m).either_way;
-    may_return = λ e h. back e h (touched q.cpu l).either_way;
+  returned_after_hold : (q : Pair) (b : Bool) (n : ℕ) → q.cpu < length free → q.side < length free → HasReturned free holds q b n → HasReturned now more q b n
+  returned_after_hold q b n l m r = record {
+    to_cpu = omega (arith, r.to_cpu, (hold_effect_on_resource q.cpu l).not_fewer);
+    to_side = omega (arith, r.to_side, (hold_effect_on_resource q.side m).not_fewer);
+    may_go = λ e h. go e h (hold_effect_on_resource q.side m).either_way;
+    may_return = λ e h. back e h (hold_effect_on_resource q.cpu l).either_way;
   }
     where
       go : b ≡ false → slice_index now q.cpu < slice_index now q.side → (slice_index now q.side ≡ slice_index free q.side) ⊎ (slice_index holds q.side + 1 ≤ slice_index more q.side) → n + 1 ≤ slice_index more q.side
       go e h (inl f) =
-          let was = r.may_go e (omega (arith, h, f, (touched q.cpu l).not_earlier)) in
-          omega (arith, was, (touched q.side m).not_fewer)
+          let was = r.may_go e (omega (arith, h, f, (hold_effect_on_resource q.cpu l).not_earlier)) in
+          omega (arith, was, (hold_effect_on_resource q.side m).not_fewer)
       go e h (inr f) = omega (arith, f, r.to_side)
 
       back : b ≡ true → slice_index now q.side < slice_index now q.cpu → (slice_index now q.cpu ≡ slice_index free q.cpu) ⊎ (slice_index holds q.cpu + 1 ≤ slice_index more q.cpu) → n + 1 ≤ slice_index more q.cpu
       back e h (inl f) =
-          let was = r.may_return e (omega (arith, h, f, (touched q.side m).not_earlier)) in
-          omega (arith, was, (touched q.cpu l).not_fewer)
+          let was = r.may_return e (omega (arith, h, f, (hold_effect_on_resource q.side m).not_earlier)) in
+          omega (arith, was, (hold_effect_on_resource q.cpu l).not_fewer)
       back e h (inr f) = omega (arith, f, r.to_cpu)
 
 -- holding the resources of a pair leaves the places unchanged
-pub held_returned : (pairs : List Pair) (turned : List Bool) (free holds returns : List ℕ) → HaveReturned pairs turned free holds returns → (p : Pair) (cpu side : ℕ) → IsLater free p cpu side → HaveReturned pairs turned (held free p cpu side) (held_once_more holds p) returns
-held_returned pairs turned free holds returns have p cpu side later = record {
+pub have_returned_after_hold : (pairs : List Pair) (turned : List Bool) (free holds returns : List ℕ) → HaveReturned pairs turned free holds returns → (p : Pair) (cpu side : ℕ) → IsLater free p cpu side → HaveReturned pairs turned (held free p cpu side) (held_once_more holds p) returns
+have_returned_after_hold pairs turned free holds returns have p cpu side later = record {
   each = have.each;
   both = have.both;
   resources = length-set (set holds p.cpu (slice_index holds p.cpu + 1)) p.side (slice_index holds p.side + 1) ∙ length-set holds p.cpu (slice_index holds p.cpu + 1) ∙ have.resources ∙ sym long;
   exist = λ s q e. let was = have.exist s q e in (omega (arith, was.0, long), omega (arith, was.1, long));
-  station = λ s q e. let was = have.exist s q e in one_held free holds p cpu side later have.resources q (slice_index_or turned s false) (slice_index returns s) was.0 was.1 (have.station s q e);
+  station = λ s q e. let was = have.exist s q e in returned_after_hold free holds p cpu side later have.resources q (slice_index_or turned s false) (slice_index returns s) was.0 was.1 (have.station s q e);
 }
   where
     long : length (held free p cpu side) ≡ length free

@@ -7,7 +7,7 @@ use Rattle.std.proofs.lemmas.List.Elements.{All-get_or}
 use Rattle.std.proofs.lemmas.Option.{slice_get_within, get_or_from_slice_get}
 use Rattle.goal_graph.specs.declared.action.Timed.{Timed}
 use Rattle.sim_queue.specs.Map.{either, key_at, no_keys}
-use Rattle.sim_queue.proofs.ForCallers.{none_of, same_maps}
+use Rattle.sim_queue.proofs.ForCallers.{key_at_no_keys, same_maps}
 use Rattle.sim_queue.specs.Groups.{Grouped}
 use Rattle.sim_resources.specs.declared.pair.Pair.{Pair}
 use Rattle.sim_stations.specs.declared.key_place.KeyPlace.{KeyPlace}
@@ -16,11 +16,11 @@ use Rattle.sim_stations.specs.Stations.{DoExist, when_free, pair_at}
 use Rattle.sim_stations.specs.Moves.{one_if, HaveReturned, HasReturned}
 use Rattle.sim_stations.specs.Rows.{Rowed, IsHead}
 use Rattle.sim_stations.specs.Kept.{seen_of, stand_of, IsKept}
-use Rattle.sim_stations.proofs.Heads.{no_key}
-use Rattle.sim_stations.proofs.Slots.{seen_at, seen_length}
+use Rattle.sim_stations.proofs.Heads.{none_is_not_some_event}
+use Rattle.sim_stations.proofs.Slots.{seen_key_at_slot, seen_keys_length}
 use Rattle.sim_stations.proofs.Changed.{view}
 
--- all are the same
+-- any entry of a replicated list is its element, if that is also the default
 alike : {X : Type 0} (n i : ℕ) (x : X) → get_or (replicate n x) i x ≡ x
 alike {X = X} n i x = go (cases_lt i n)
   where
@@ -53,13 +53,13 @@ module _ (numbers : List ℕ) (pairs : List Pair) (resources : ℕ) (few_station
           λ slot s e.
           let l : slot < n = slice_get_within numbers slot s e in
           omega (arith, All-get_or (λ x. x < length pairs) numbers slot 0 l within, get_or_from_slice_get numbers slot s 0 e);
-      apart = λ slot k e. none_of n slot;
-      waits = λ slot k e. absurd (no_key k (sym (none_of n slot) ∙ e));
+      apart = λ slot k e. key_at_no_keys n slot;
+      waits = λ slot k e. absurd (none_is_not_some_event k (sym (key_at_no_keys n slot) ∙ e));
     };
-    shown = λ s l. subst (IsHead idle s 0) (sym (none_of (length pairs) s)) (λ slot e. none_of n slot);
+    shown = λ s l. subst (IsHead idle s 0) (sym (key_at_no_keys (length pairs) s)) (λ slot e. key_at_no_keys n slot);
     stood = record {
       each = length-replicate {A = KeyPlace} n Nowhere ∙ sym long;
-      tells = λ slot. alike n slot Nowhere ∙ sym (ap (λ o. stand_of o (key_at none slot)) (none_of n slot) ∙ ap (stand_of None) (none_of n slot));
+      tells = λ slot. alike n slot Nowhere ∙ sym (ap (λ o. stand_of o (key_at none slot)) (key_at_no_keys n slot) ∙ ap (stand_of None) (key_at_no_keys n slot));
     };
     keyed = length-replicate {A = Option Timed} (length pairs) None;
     placed = length-replicate {A = Bool} (length pairs) false;
@@ -67,8 +67,8 @@ module _ (numbers : List ℕ) (pairs : List Pair) (resources : ℕ) (few_station
     few_resources = omega (arith, few_resources, long, length-replicate {A = ℕ} resources 0);
   }
 
-  seen_none : seen_of none idle at_first ≡ none
-  seen_none = same_maps (seen_of none idle at_first) none (seen_length (replicate resources 0) pairs none none numbers refl (sym long)) (λ i l. seen_at (replicate resources 0) pairs none none numbers refl (sym long) i ∙ ap (option_map (when_free (replicate resources 0) (pair_at pairs (slice_index numbers i)))) (ap (λ o. either o (key_at none i)) (none_of n i) ∙ none_of n i) ∙ sym (none_of n i))
+  no_slot_seen_at_start : seen_of none idle at_first ≡ none
+  no_slot_seen_at_start = same_maps (seen_of none idle at_first) none (seen_keys_length (replicate resources 0) pairs none none numbers refl (sym long)) (λ i l. seen_key_at_slot (replicate resources 0) pairs none none numbers refl (sym long) i ∙ ap (option_map (when_free (replicate resources 0) (pair_at pairs (slice_index numbers i)))) (ap (λ o. either o (key_at none i)) (key_at_no_keys n i) ∙ key_at_no_keys n i) ∙ sym (key_at_no_keys n i))
 
   unturned : HaveReturned pairs (replicate (length pairs) false) (replicate resources 0) (replicate resources 0) (replicate (length pairs) 0)
   unturned = record {
@@ -99,7 +99,7 @@ module _ (numbers : List ℕ) (pairs : List Pair) (resources : ℕ) (few_station
 
     keys : seen_of ahead waiting rows ≡ none
     keys =
-        ap (λ x. seen_of x waiting rows) a ∙ ap (λ x. seen_of none x rows) w ∙ ap (seen_of none idle) r ∙ seen_none
+        ap (λ x. seen_of x waiting rows) a ∙ ap (λ x. seen_of none x rows) w ∙ ap (seen_of none idle) r ∙ no_slot_seen_at_start
 
     pub new_view : view ahead waiting rows stands None ≡ record { keys = none; stations = numbers; stands = replicate n Nowhere; pairs = pairs; turned = replicate (length pairs) false; free = replicate resources 0; found = None }
     new_view i = record { keys = keys i; stations = (w i).groups; stands = t i; pairs = (r i).pairs; turned = (r i).turned; free = (r i).free; found = None }

@@ -13,7 +13,7 @@ use Rattle.sim_queue.proofs.ForCallers.{length-placed}
 use Rattle.sim_stations.specs.AtSlots.{members, AreCounts}
 use Rattle.sim_stations.proofs.ItemParts.{no_key_without_item}
 
--- what another number that passes a test, or does not, adds to a count
+-- what another number adds to a count: 1 if it passes the test, otherwise 0
 abbrev one_if : Bool → ℕ
 one_if passes = cond passes 1 0
 
@@ -60,17 +60,17 @@ module _ {K : Type 0} where
       all other l e (inr n) = only other l (sym (get_or-set_other keys slot other (Some k) None n) ∙ e)
 
 -- there are at most as many items as keys
-pub items_counted : (slots : ℕ) (items : List (Item Timed)) → AreApart slots items → length items ≤ count_by is_some (placed slots items)
+pub items_no_more_than_keys : (slots : ℕ) (items : List (Item Timed)) → AreApart slots items → length items ≤ count_by is_some (placed slots items)
 unfolding placed
-items_counted slots [] are = omega arith
-items_counted slots (x ∷ items) are =
+items_no_more_than_keys slots [] are = omega arith
+items_no_more_than_keys slots (x ∷ items) are =
     let rest : AreApart slots items = record {
       within = λ place y e. are.within (suc place) y e;
       apart = λ one other y z e f s. omega (arith, are.apart (suc one) (suc other) y z e f s);
     } in
     let free = no_key_without_item slots x.slot items (λ place y e s. omega (arith, are.apart (suc place) 0 y x e refl s)) in
     let more = key_count_after_put (placed slots items) x.slot x.key (omega (arith, are.within 0 x refl, length-placed slots items)) free in
-    omega (arith, more, items_counted slots items rest)
+    omega (arith, more, items_no_more_than_keys slots items rest)
 
 -- another number is counted
 module _ (numbers counts : List ℕ) (index : ℕ) (within : index < length numbers) (counted : AreCounts (take index numbers) counts) where

@@ -12,9 +12,9 @@ use Rattle.sim_resources.specs.declared.pair.Pair.{Pair}
 use Rattle.sim_stations.specs.Stations.{at_time, pair_at}
 use Rattle.sim_stations.specs.Rows.{Rowed, place_in, side_of, seen, turned_at, shown, IsFirst, IsHead, IsInRows, AreHeads}
 use Rattle.sim_stations.proofs.Sides.{IsPlace, place_of}
-use Rattle.sim_stations.proofs.Seen.{seen_at, seen_length}
-use Rattle.sim_stations.proofs.Heads.{no_key, same_time_orders_alike, at_own_time_is_itself}
-use Rattle.sim_stations.proofs.InRows.{pair_there, long, side_in, member}
+use Rattle.sim_stations.proofs.Seen.{station_key_at_turned_place, station_keys_length}
+use Rattle.sim_stations.proofs.Heads.{none_is_not_some_event, same_time_orders_alike, at_own_time_is_itself}
+use Rattle.sim_stations.proofs.InRows.{pair_at_station, long, side_resource_exists, member}
 
 same_or_not : (b c : Bool) → (b ≡ c) ⊎ (b ≡ not c)
 same_or_not false false = inl refl
@@ -39,26 +39,26 @@ module _ (rows : Grouped Timed) (heads : List (Option Timed)) (pairs : List Pair
 
   stands : (s : ℕ) (k : Timed) → key_at keys s ≡ Some k → IsStanding s k
   stands s k e =
-      let l : s < length pairs = omega (arith, key_within keys s k e, seen_length turned rows.keys (long rows heads pairs turned free inside are), inside.both) in
+      let l : s < length pairs = omega (arith, key_within keys s k e, station_keys_length turned rows.keys (long rows heads pairs turned free inside are), inside.both) in
       let p : Pair = pair_at pairs s in
       let at : slice_get pairs s ≡ Some p = slice_get-get_or pairs s (record { cpu = 0; side = 0 }) l in
       record {
         pair = p;
         at = at;
-        has = sym (seen_at turned rows.keys (long rows heads pairs turned free inside are) s) ∙ e;
+        has = sym (station_key_at_turned_place turned rows.keys (long rows heads pairs turned free inside are) s) ∙ e;
         there = member rows heads pairs turned free inside are s p (turned_at turned s) at;
-        exists = side_in rows heads pairs turned free inside are s p (turned_at turned s) at;
+        exists = side_resource_exists rows heads pairs turned free inside are s p (turned_at turned s) at;
       }
 
-  pub empty_seen : IsEmptyMap heads → IsEmptyMap keys
-  empty_seen none s = go (key_at keys s) refl
+  pub seen_empty_if_heads_empty : IsEmptyMap heads → IsEmptyMap keys
+  seen_empty_if_heads_empty none s = go (key_at keys s) refl
     where
       go : (o : Option Timed) → key_at keys s ≡ o → o ≡ None
       go None e = refl
       go (Some k) e =
           let t = stands s k e in
           let empty = subst (IsHead rows (side_of t.pair (turned_at turned s)) (slice_index free (side_of t.pair (turned_at turned s)))) (none (side_of t.pair (turned_at turned s))) (are.headed (side_of t.pair (turned_at turned s)) t.exists) in
-          absurd (no_key k (sym (empty (place_in s (turned_at turned s)) t.there) ∙ t.has))
+          absurd (none_is_not_some_event k (sym (empty (place_in s (turned_at turned s)) t.there) ∙ t.has))
 
   -- the head of a resource is the key of a station in its row
   record IsOfHead (r : ℕ) (h : Timed) : Type 0 where
@@ -73,8 +73,8 @@ module _ (rows : Grouped Timed) (heads : List (Option Timed)) (pairs : List Pair
   headed_at r h e =
       subst (IsHead rows r (slice_index free r)) e (are.headed r (omega (arith, key_within heads r h e, are.each)))
 
-  of_head : (r : ℕ) (h : Timed) → key_at heads r ≡ Some h → IsOfHead r h
-  of_head r h e = go (place_of pairs i r (sym (ap (λ gs. slice_get gs i) inside.groups) ∙ is.0.member))
+  head_is_key_of_station : (r : ℕ) (h : Timed) → key_at heads r ≡ Some h → IsOfHead r h
+  head_is_key_of_station r h e = go (place_of pairs i r (sym (ap (λ gs. slice_get gs i) inside.groups) ∙ is.0.member))
     where
       is : IsLeastOf event_before rows r (at_time 0 h) × (h.time ≡ slice_index free r)
       is = headed_at r h e
@@ -91,18 +91,18 @@ module _ (rows : Grouped Timed) (heads : List (Option Timed)) (pairs : List Pair
             pair = p.pair;
             at = p.at;
             side = p.side ∙ ap (side_of p.pair) same;
-            has = seen_at turned rows.keys (long rows heads pairs turned free inside are) p.station ∙ ap (λ b. key_at rows.keys (place_in p.station b)) (sym same) ∙ ap (key_at rows.keys) (sym p.place) ∙ is.0.has;
+            has = station_key_at_turned_place turned rows.keys (long rows heads pairs turned free inside are) p.station ∙ ap (λ b. key_at rows.keys (place_in p.station b)) (sym same) ∙ ap (key_at rows.keys) (sym p.place) ∙ is.0.has;
             time = is.1;
           }
           cases (inr differ) =
-              absurd (no_key (at_time 0 h) (sym (inside.elsewhere p.station) ∙ ap (λ b. key_at rows.keys (place_in p.station b)) (sym differ) ∙ ap (key_at rows.keys) (sym p.place) ∙ is.0.has))
+              absurd (none_is_not_some_event (at_time 0 h) (sym (inside.elsewhere p.station) ∙ ap (λ b. key_at rows.keys (place_in p.station b)) (sym differ) ∙ ap (key_at rows.keys) (sym p.place) ∙ is.0.has))
 
-  pub not_empty : (r : ℕ) (h : Timed) → key_at heads r ≡ Some h → IsEmptyMap keys → ⊥
-  not_empty r h e empty = let o = of_head r h e in no_key (at_time 0 h) (sym (empty o.station) ∙ o.has)
+  pub seen_not_empty_if_head : (r : ℕ) (h : Timed) → key_at heads r ≡ Some h → IsEmptyMap keys → ⊥
+  seen_not_empty_if_head r h e empty = let o = head_is_key_of_station r h e in none_is_not_some_event (at_time 0 h) (sym (empty o.station) ∙ o.has)
 
   shows : (s : ℕ) (p : Pair) (k : Timed) → slice_get pairs s ≡ Some p → key_at keys s ≡ Some k → shown all s ≡ Some (at_time (slice_index free (side_of p (turned_at turned s))) k)
   shows s p k at has =
-      ap (λ x. option_map (at_time (slice_index free (side_of x (turned_at turned s)))) (key_at keys s)) (pair_there pairs s p at) ∙ ap (option_map (at_time (slice_index free (side_of p (turned_at turned s))))) has
+      ap (λ x. option_map (at_time (slice_index free (side_of x (turned_at turned s)))) (key_at keys s)) (pair_at_station pairs s p at) ∙ ap (option_map (at_time (slice_index free (side_of p (turned_at turned s))))) has
 
   -- what a station shows is not before the head of its resource
   record IsNotBefore (k : Timed) : Type 0 where
@@ -127,7 +127,7 @@ module _ (rows : Grouped Timed) (heads : List (Option Timed)) (pairs : List Pair
       w_zero = at_own_time_is_itself w 0 (inside.at_zero (place_in s (turned_at turned s)) w t.has)
 
       go : (o : Option Timed) → key_at heads r ≡ o → IsHead rows r (slice_index free r) o → IsNotBefore k
-      go None g empty = absurd (no_key w (sym (empty (place_in s (turned_at turned s)) t.there) ∙ t.has))
+      go None g empty = absurd (none_is_not_some_event w (sym (empty (place_in s (turned_at turned s)) t.there) ∙ t.has))
       go (Some h) g is = record {
         resource = r;
         head = h;
@@ -143,11 +143,11 @@ module _ (rows : Grouped Timed) (heads : List (Option Timed)) (pairs : List Pair
   }
     where
       o : IsOfHead r h
-      o = of_head r h least.has
+      o = head_is_key_of_station r h least.has
 
       others : (one : ℕ) (k : Timed) → shown all one ≡ Some k → (w : Option Timed) → key_at keys one ≡ w → event_before k h ≡ false
       others one k e None f =
-          absurd (no_key k (sym (ap (option_map (at_time (slice_index free (side_of (pair_at pairs one) (turned_at turned one))))) f) ∙ e))
+          absurd (none_is_not_some_event k (sym (ap (option_map (at_time (slice_index free (side_of (pair_at pairs one) (turned_at turned one))))) f) ∙ e))
       others one k e (Some w) f =
           let c = compared one w f k e in
           through event_before event_laws k c.head h c.not_before (least.least c.resource c.head c.is_head)

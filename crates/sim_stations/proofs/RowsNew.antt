@@ -4,14 +4,14 @@ use Rattle.std.proofs.lemmas.List.{length-replicate}
 use Rattle.std.proofs.lemmas.Option.{slice_get-get_or}
 use Rattle.goal_graph.specs.declared.action.Timed.{Timed}
 use Rattle.sim_queue.specs.Map.{no_keys}
-use Rattle.sim_queue.proofs.ForCallers.{none_of, same_maps}
+use Rattle.sim_queue.proofs.ForCallers.{key_at_no_keys, same_maps}
 use Rattle.sim_queue.specs.Groups.{Grouped}
 use Rattle.sim_resources.specs.declared.pair.Pair.{Pair}
 use Rattle.sim_stations.specs.Stations.{DoExist}
 use Rattle.sim_stations.specs.Rows.{Rowed, sides, place_in, side_of, seen, turned_at, IsHead, IsInRows, AreHeads}
 use Rattle.sim_stations.proofs.Sides.{IsPlace, place_of, sides_length}
-use Rattle.sim_stations.proofs.Seen.{seen_at, seen_length}
-use Rattle.sim_stations.proofs.Heads.{no_key}
+use Rattle.sim_stations.proofs.Seen.{station_key_at_turned_place, station_keys_length}
+use Rattle.sim_stations.proofs.Heads.{none_is_not_some_event}
 
 pub sides_within : (pairs : List Pair) (resources : ℕ) → DoExist pairs resources → (k d : ℕ) → k < length (sides pairs) → get_or (sides pairs) k d < resources
 sides_within pairs resources exist k d l = go (place_of pairs k (get_or (sides pairs) k d) (slice_get-get_or (sides pairs) k d l))
@@ -49,19 +49,19 @@ module _ (pairs : List Pair) (resources : ℕ) (exist : DoExist pairs resources)
     both = long_here;
     few = few;
     exist = λ s p e. let was = exist s p e in (omega (arith, was.0, long_free), omega (arith, was.1, long_free));
-    elsewhere = λ s. none_of (length (sides pairs)) (place_in s (not (turned_at here s)));
-    at_zero = λ slot k e. absurd (no_key k (sym (none_of (length (sides pairs)) slot) ∙ e));
+    elsewhere = λ s. key_at_no_keys (length (sides pairs)) (place_in s (not (turned_at here s)));
+    at_zero = λ slot k e. absurd (none_is_not_some_event k (sym (key_at_no_keys (length (sides pairs)) slot) ∙ e));
   }
 
   heads_none : AreHeads idle (no_keys resources) at_zero
   heads_none = record {
     each = length-replicate {A = Option Timed} resources None ∙ sym long_free;
     few = omega (arith, many, long_free);
-    headed = λ r l. subst (IsHead idle r (slice_index at_zero r)) (sym (none_of resources r)) (λ slot e. none_of (length (sides pairs)) slot);
+    headed = λ r l. subst (IsHead idle r (slice_index at_zero r)) (sym (key_at_no_keys resources r)) (λ slot e. key_at_no_keys (length (sides pairs)) slot);
   }
 
-  seen_none : seen here idle.keys ≡ no_keys (length pairs)
-  seen_none = same_maps (seen here idle.keys) (no_keys (length pairs)) (seen_length here idle.keys (omega (arith, long_keys, long_here)) ∙ long_here ∙ sym (length-replicate {A = Option Timed} (length pairs) None)) (λ s l. seen_at here idle.keys (omega (arith, long_keys, long_here)) s ∙ none_of (length (sides pairs)) (place_in s (turned_at here s)) ∙ sym (none_of (length pairs) s))
+  no_station_seen_at_start : seen here idle.keys ≡ no_keys (length pairs)
+  no_station_seen_at_start = same_maps (seen here idle.keys) (no_keys (length pairs)) (station_keys_length here idle.keys (omega (arith, long_keys, long_here)) ∙ long_here ∙ sym (length-replicate {A = Option Timed} (length pairs) None)) (λ s l. station_key_at_turned_place here idle.keys (omega (arith, long_keys, long_here)) s ∙ key_at_no_keys (length (sides pairs)) (place_in s (turned_at here s)) ∙ sym (key_at_no_keys (length pairs) s))
 
   module _ (rows : Grouped Timed) (heads : List (Option Timed)) (kept : List Pair) (turned : List Bool) (free : List ℕ) (r : rows ≡ idle) (h : heads ≡ no_keys resources) (p : kept ≡ pairs) (t : turned ≡ here) (f : free ≡ at_zero) where
     pub new_inside : IsInRows rows kept turned free
@@ -73,7 +73,7 @@ module _ (pairs : List Pair) (resources : ℕ) (exist : DoExist pairs resources)
         subst (λ x. AreHeads x heads free) (sym r) (subst (λ x. AreHeads idle x free) (sym h) (subst (AreHeads idle (no_keys resources)) (sym f) heads_none))
 
     keys : seen turned rows.keys ≡ no_keys (length pairs)
-    keys = ap (λ x. seen x rows.keys) t ∙ ap (λ (x : Grouped Timed). seen here x.keys) r ∙ seen_none
+    keys = ap (λ x. seen x rows.keys) t ∙ ap (λ (x : Grouped Timed). seen here x.keys) r ∙ no_station_seen_at_start
 
     abbrev view : Rowed
     view = record { keys = seen turned rows.keys; pairs = kept; turned = turned; free = free }

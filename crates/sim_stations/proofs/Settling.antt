@@ -12,11 +12,11 @@ use Rattle.sim_stations.specs.Stations.{pair_at, AreTimesOf, count_ahead, cost_o
 use Rattle.sim_stations.specs.Moves.{one_if, HaveReturned, HaveMoved}
 use Rattle.sim_stations.specs.Rows.{Rowed, side_of, turned_at}
 use Rattle.sim_stations.specs.Kept.{seen_of, AreShown, IsKept, is_late, count_late}
-use Rattle.sim_stations.proofs.Moves.{turned_once, unmoved, moved_again}
-use Rattle.sim_stations.proofs.Joined.{kept_now}
+use Rattle.sim_stations.proofs.Moves.{moved_by_one_switch, unmoved, have_moved_transitive}
+use Rattle.sim_stations.proofs.Joined.{kept_with_new_slots_and_rows}
 
-pub one_more : (n m : ℕ) → (n + 1) * m ≡ n * m + m
-one_more n m = ap (λ x. x * m) (add-one n) ∙ suc-mul n m
+pub successor_times : (n m : ℕ) → (n + 1) * m ≡ n * m + m
+successor_times n m = ap (λ x. x * m) (add-one n) ∙ suc-mul n m
 
 pub twice : (k : ℕ) → 2 ^ (k + 1) ≡ 2 * 2 ^ k
 twice k = ap (λ n. 2 ^ n) (add-one k) ∙ pow-succ' 2 k
@@ -49,24 +49,24 @@ settling ahead waiting rows stands steps moves kept = record {
 }
 
 -- the station that switches is no longer late, and no other changes
-lt_false : (m n : ℕ) → m < n → nat_lt n m ≡ false
-lt_false m n l = le-ltb n m (omega (arith, l))
+greater_is_not_less : (m n : ℕ) → m < n → nat_lt n m ≡ false
+greater_is_not_less m n l = le-ltb n m (omega (arith, l))
 
-late_one : (free : List ℕ) (p : Pair) (b : Bool) → slice_index free (side_of p b) < slice_index free (side_of p (not b)) → one_if (is_late free p (not b)) + 1 ≡ one_if (is_late free p b)
-late_one free p false l =
-    ap (λ x. one_if x + 1) (lt_false (slice_index free p.cpu) (slice_index free p.side) l) ∙ sym (ap one_if (lt-ltb (slice_index free p.cpu) (slice_index free p.side) l))
-late_one free p true l =
-    ap (λ x. one_if x + 1) (lt_false (slice_index free p.side) (slice_index free p.cpu) l) ∙ sym (ap one_if (lt-ltb (slice_index free p.side) (slice_index free p.cpu) l))
+late_station_not_late_after_switch : (free : List ℕ) (p : Pair) (b : Bool) → slice_index free (side_of p b) < slice_index free (side_of p (not b)) → one_if (is_late free p (not b)) + 1 ≡ one_if (is_late free p b)
+late_station_not_late_after_switch free p false l =
+    ap (λ x. one_if x + 1) (greater_is_not_less (slice_index free p.cpu) (slice_index free p.side) l) ∙ sym (ap one_if (lt-ltb (slice_index free p.cpu) (slice_index free p.side) l))
+late_station_not_late_after_switch free p true l =
+    ap (λ x. one_if x + 1) (greater_is_not_less (slice_index free p.side) (slice_index free p.cpu) l) ∙ sym (ap one_if (lt-ltb (slice_index free p.side) (slice_index free p.cpu) l))
 
-pub late_set : (free : List ℕ) (pairs : List Pair) (turned : List Bool) (s : ℕ) (p : Pair) → slice_get pairs s ≡ Some p → length turned ≡ length pairs → slice_index free (side_of p (turned_at turned s)) < slice_index free (side_of p (not (turned_at turned s))) → count_late free pairs (set turned s (not (turned_at turned s))) + 1 ≡ count_late free pairs turned
-late_set free [] turned s p e l h = absurd (omega (arith, slice_get_within [] s p e))
-late_set free (q ∷ pairs) [] s p e l h = absurd (omega (arith, l))
-late_set free (q ∷ pairs) (b ∷ turned) zero p e l h =
+pub one_fewer_late_after_switch : (free : List ℕ) (pairs : List Pair) (turned : List Bool) (s : ℕ) (p : Pair) → slice_get pairs s ≡ Some p → length turned ≡ length pairs → slice_index free (side_of p (turned_at turned s)) < slice_index free (side_of p (not (turned_at turned s))) → count_late free pairs (set turned s (not (turned_at turned s))) + 1 ≡ count_late free pairs turned
+one_fewer_late_after_switch free [] turned s p e l h = absurd (omega (arith, slice_get_within [] s p e))
+one_fewer_late_after_switch free (q ∷ pairs) [] s p e l h = absurd (omega (arith, l))
+one_fewer_late_after_switch free (q ∷ pairs) (b ∷ turned) zero p e l h =
     let same : p ≡ q = same_Some p q (sym e) in
-    let one : one_if (is_late free q (not b)) + 1 ≡ one_if (is_late free q b) = subst (λ x. one_if (is_late free x (not b)) + 1 ≡ one_if (is_late free x b)) same (late_one free p b h) in
+    let one : one_if (is_late free q (not b)) + 1 ≡ one_if (is_late free q b) = subst (λ x. one_if (is_late free x (not b)) + 1 ≡ one_if (is_late free x b)) same (late_station_not_late_after_switch free p b h) in
     omega (arith, one)
-late_set free (q ∷ pairs) (b ∷ turned) (suc s) p e l h =
-    let rest = late_set free pairs turned s p e (omega (arith, l)) h in omega (arith, rest)
+one_fewer_late_after_switch free (q ∷ pairs) (b ∷ turned) (suc s) p e l h =
+    let rest = one_fewer_late_after_switch free pairs turned s p e (omega (arith, l)) h in omega (arith, rest)
 
 module _ (ahead : List (Option Timed)) (waiting : Grouped Timed) (rows : Rowed) (stands : List KeyPlace) (steps moves : ℕ) (mid_ahead : List (Option Timed)) (mid_waiting : Grouped Timed) (mid_rows : Rowed) (mid_stands : List KeyPlace) (then moves_then : ℕ) (so_far : IsSettling ahead waiting rows stands steps moves mid_ahead mid_waiting mid_rows mid_stands then moves_then) where
   -- the times are still those at which the resources of the slots are free
@@ -95,7 +95,7 @@ module _ (ahead : List (Option Timed)) (waiting : Grouped Timed) (rows : Rowed) 
         all k l =
             let was = so_far.counted k l in
             let step = counted k (omega (arith, l, so_far.long)) in
-            let one : cost_of_waiting k mid_stands ≡ cost_of_waiting k new_stands + (8 * k + 12) = ap (λ n. n * (8 * k + 12)) (sym fewer) ∙ one_more (count_ahead new_stands) (8 * k + 12) in
+            let one : cost_of_waiting k mid_stands ≡ cost_of_waiting k new_stands + (8 * k + 12) = ap (λ n. n * (8 * k + 12)) (sym fewer) ∙ successor_times (count_ahead new_stands) (8 * k + 12) in
             omega (arith, was, step, one, look)
 
     pub waited_less : count_ahead new_stands + count_late new_rows.free new_rows.pairs new_rows.turned < count_ahead mid_stands + count_late mid_rows.free mid_rows.pairs mid_rows.turned
@@ -112,7 +112,7 @@ module _ (ahead : List (Option Timed)) (waiting : Grouped Timed) (rows : Rowed) 
     pair = slice_get-get_or mid_rows.pairs station (record { cpu = 0; side = 0 }) exists
 
     pub turned_kept : IsKept mid_ahead mid_waiting new_rows mid_stands
-    turned_kept = kept_now mid_ahead mid_waiting mid_rows mid_stands mid_ahead mid_waiting new_rows mid_stands so_far.kept refl so_far.kept.mapped (subst (λ (r : Rowed). AreShown mid_waiting r.keys (length r.pairs)) (sym is_new) so_far.kept.shown) (subst (λ (r : Rowed). length r.keys ≡ length r.pairs) (sym is_new) so_far.kept.keyed) so_far.kept.stood (ap (λ (r : Rowed). r.pairs) is_new) (ap (λ (r : Rowed). length r.turned) is_new ∙ length-set mid_rows.turned station (not (turned_at mid_rows.turned station))) (ap (λ (r : Rowed). length r.free) is_new)
+    turned_kept = kept_with_new_slots_and_rows mid_ahead mid_waiting mid_rows mid_stands mid_ahead mid_waiting new_rows mid_stands so_far.kept refl so_far.kept.mapped (subst (λ (r : Rowed). AreShown mid_waiting r.keys (length r.pairs)) (sym is_new) so_far.kept.shown) (subst (λ (r : Rowed). length r.keys ≡ length r.pairs) (sym is_new) so_far.kept.keyed) so_far.kept.stood (ap (λ (r : Rowed). r.pairs) is_new) (ap (λ (r : Rowed). length r.turned) is_new ∙ length-set mid_rows.turned station (not (turned_at mid_rows.turned station))) (ap (λ (r : Rowed). length r.free) is_new)
 
     pub went_over : IsSettling ahead waiting rows stands steps moves mid_ahead mid_waiting new_rows mid_stands now moves_now
     went_over = record {
@@ -131,7 +131,7 @@ module _ (ahead : List (Option Timed)) (waiting : Grouped Timed) (rows : Rowed) 
             let was = so_far.counted k l in
             let double : 2 ^ (k + 1) ≡ 2 * 2 ^ k = twice k in
             let step = counted (k + 1) (omega (arith, l, so_far.long, so_far.kept.few_stations, double)) (omega (arith, l, so_far.long, so_far.kept.few_resources, double)) in
-            let one : cost_of_moves k moves_now ≡ cost_of_moves k moves_then + (8 * k + 15) = ap (λ n. n * (8 * k + 15)) ticked ∙ one_more moves_then (8 * k + 15) in
+            let one : cost_of_moves k moves_now ≡ cost_of_moves k moves_then + (8 * k + 15) = ap (λ n. n * (8 * k + 15)) ticked ∙ successor_times moves_then (8 * k + 15) in
             omega (arith, was, step, one, look)
 
         moved_now : (holds returns : List ℕ) → HaveReturned rows.pairs rows.turned rows.free holds returns → HaveMoved rows.pairs rows.free holds rows.turned new_rows.turned returns moves moves_now
@@ -139,12 +139,12 @@ module _ (ahead : List (Option Timed)) (waiting : Grouped Timed) (rows : Rowed) 
             let m = so_far.moved holds returns have in
             let at : slice_get rows.pairs station ≡ Some (pair_at mid_rows.pairs station) = ap (λ ps. slice_get ps station) (sym so_far.pairs) ∙ pair in
             let late_then = subst (λ f. slice_index f (side_of (pair_at mid_rows.pairs station) (turned_at mid_rows.turned station)) < slice_index f (side_of (pair_at mid_rows.pairs station) (not (turned_at mid_rows.turned station)))) so_far.free late in
-            let k = turned_once rows.pairs rows.free holds mid_rows.turned m.now m.have station (pair_at mid_rows.pairs station) at late_then moves_then in
-            let all = moved_again rows.pairs rows.free holds rows.turned mid_rows.turned over returns moves moves_then (moves_then + 1) m k in
+            let k = moved_by_one_switch rows.pairs rows.free holds mid_rows.turned m.now m.have station (pair_at mid_rows.pairs station) at late_then moves_then in
+            let all = have_moved_transitive rows.pairs rows.free holds rows.turned mid_rows.turned over returns moves moves_then (moves_then + 1) m k in
             subst (HaveMoved rows.pairs rows.free holds rows.turned new_rows.turned returns moves) (sym ticked) (subst (λ bs. HaveMoved rows.pairs rows.free holds rows.turned bs returns moves (moves_then + 1)) (sym (ap (λ (r : Rowed). r.turned) is_new)) all)
 
     pub over_less : count_ahead mid_stands + count_late new_rows.free new_rows.pairs new_rows.turned < count_ahead mid_stands + count_late mid_rows.free mid_rows.pairs mid_rows.turned
     over_less =
         let now_is : count_late new_rows.free new_rows.pairs new_rows.turned ≡ count_late mid_rows.free mid_rows.pairs over = ap (λ (r : Rowed). count_late r.free r.pairs r.turned) is_new in
-        let less = late_set mid_rows.free mid_rows.pairs mid_rows.turned station (pair_at mid_rows.pairs station) pair so_far.kept.placed late in
+        let less = one_fewer_late_after_switch mid_rows.free mid_rows.pairs mid_rows.turned station (pair_at mid_rows.pairs station) pair so_far.kept.placed late in
         omega (arith, now_is, less)

@@ -12,12 +12,12 @@ use Rattle.sim_queue.specs.Groups.{Grouped}
 use Rattle.sim_stations.specs.Stations.{at_time}
 use Rattle.sim_stations.specs.Rows.{IsHead}
 use Rattle.sim_stations.specs.Kept.{AreShown, IsBeforeAll, HasOneBefore}
-use Rattle.sim_stations.proofs.Heads.{no_key, head_stays}
+use Rattle.sim_stations.proofs.Heads.{none_is_not_some_event, head_stays}
 use Rattle.sim_stations.proofs.InRows.{with_key}
 
 module _ (waiting : Grouped Timed) (slot station : ℕ) (member : slice_get waiting.groups slot ≡ Some station) (within : slot < length waiting.keys) (value : Option Timed) (new : Grouped Timed) (is_new : new ≡ with_key waiting slot value) where
-  groups_are : new.groups ≡ waiting.groups
-  groups_are = ap (λ (g : Grouped Timed). g.groups) is_new
+  groups_unchanged_by_key : new.groups ≡ waiting.groups
+  groups_unchanged_by_key = ap (λ (g : Grouped Timed). g.groups) is_new
 
   key_of_other_slot : (one : ℕ) → one ≢ slot → key_at new.keys one ≡ key_at waiting.keys one
   key_of_other_slot one n = ap (λ (g : Grouped Timed). key_at g.keys one) is_new ∙ get_or-set_other waiting.keys slot one value None n
@@ -26,12 +26,12 @@ module _ (waiting : Grouped Timed) (slot station : ℕ) (member : slice_get wait
   key_of_changed_slot = ap (λ (g : Grouped Timed). key_at g.keys slot) is_new ∙ get_or-set_same waiting.keys slot value None within
 
   member_after_change : slice_get new.groups slot ≡ Some station
-  member_after_change = ap (λ gs. slice_get gs slot) groups_are ∙ member
+  member_after_change = ap (λ gs. slice_get gs slot) groups_unchanged_by_key ∙ member
 
   -- other stations keep theirs
   pub head_of_other_station : (one time : ℕ) (head : Option Timed) → one ≢ station → IsHead waiting one time head → IsHead new one time head
   head_of_other_station one time head n =
-      head_stays waiting new groups_are one (λ s e. key_of_other_slot s (λ same. n (same_Some one station (sym e ∙ ap (slice_get waiting.groups) same ∙ member)))) time head
+      head_stays waiting new groups_unchanged_by_key one (λ s e. key_of_other_slot s (λ same. n (same_Some one station (sym e ∙ ap (slice_get waiting.groups) same ∙ member)))) time head
 
   -- the station gets its least key
   pub shown_after_new_head : (keys : List (Option Timed)) (stations : ℕ) → station < length keys → AreShown waiting keys stations → (head : Option Timed) → IsHead new station 0 head → AreShown new (set keys station head) stations
@@ -72,17 +72,17 @@ module _ (waiting : Grouped Timed) (slot station : ℕ) (member : slice_get wait
             let same : k ≡ key = same_Some k key (sym has ∙ ap (key_at new.keys) s ∙ key_of_changed_slot ∙ is_key) in
             ap (λ x. event_before x key) same ∙ event_laws.irreflexive key
         go one k e has (inr n) =
-            before one k (ap (λ gs. slice_get gs one) (sym groups_are) ∙ e) (sym (key_of_other_slot one n) ∙ has)
+            before one k (ap (λ gs. slice_get gs one) (sym groups_unchanged_by_key) ∙ e) (sym (key_of_other_slot one n) ∙ has)
 
     -- a key after another of the station is not the least
     pub later_keeps_least : HasOneBefore waiting station key → (head : Option Timed) → IsHead waiting station 0 head → IsHead new station 0 head
     later_keeps_least other None empty =
-        absurd (no_key other.first (sym (empty other.least.slot other.least.member) ∙ other.least.has))
+        absurd (none_is_not_some_event other.first (sym (empty other.least.slot other.least.member) ∙ other.least.has))
     later_keeps_least other (Some h) is = (
       record {
         slot = is.0.slot;
-        member = ap (λ gs. slice_get gs is.0.slot) groups_are ∙ is.0.member;
-        has = key_of_other_slot is.0.slot (λ e. no_key (at_time 0 h) (sym idle ∙ ap (key_at waiting.keys) (sym e) ∙ is.0.has)) ∙ is.0.has;
+        member = ap (λ gs. slice_get gs is.0.slot) groups_unchanged_by_key ∙ is.0.member;
+        has = key_of_other_slot is.0.slot (λ e. none_is_not_some_event (at_time 0 h) (sym idle ∙ ap (key_at waiting.keys) (sym e) ∙ is.0.has)) ∙ is.0.has;
         least = λ one k e has. go one k e has (cases_eq one slot);
       },
       is.1,
@@ -94,4 +94,4 @@ module _ (waiting : Grouped Timed) (slot station : ℕ) (member : slice_get wait
             let below : event_before other.first (at_time 0 h) ≡ false = is.0.least other.least.slot other.first other.least.member other.least.has in
             ap (λ x. event_before x (at_time 0 h)) same ∙ through event_before event_laws key other.first (at_time 0 h) other.before below
         go one k e has (inr n) =
-            is.0.least one k (ap (λ gs. slice_get gs one) (sym groups_are) ∙ e) (sym (key_of_other_slot one n) ∙ has)
+            is.0.least one k (ap (λ gs. slice_get gs one) (sym groups_unchanged_by_key) ∙ e) (sym (key_of_other_slot one n) ∙ has)

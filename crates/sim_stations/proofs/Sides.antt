@@ -20,20 +20,20 @@ pub sides_append : (xs ys : List Pair) → sides (xs ++ ys) ≡ sides xs ++ side
 sides_append [] ys = refl
 sides_append (x ∷ xs) ys = ap (λ ns. x.cpu ∷ x.side ∷ ns) (sides_append xs ys)
 
-at_place : (pairs : List Pair) (s : ℕ) (b : Bool) (p : Pair) → slice_get pairs s ≡ Some p → (i : ℕ) → i ≡ place_in s b → slice_get (sides pairs) i ≡ Some (side_of p b)
-at_place [] s b p e i h = absurd (omega (arith, slice_get_within [] s p e))
-at_place (q ∷ pairs) zero false p e zero h = ap (option_map cpu_of) e
-at_place (q ∷ pairs) zero false p e (suc i) h = absurd (omega (arith, h))
-at_place (q ∷ pairs) zero true p e zero h = absurd (omega (arith, h))
-at_place (q ∷ pairs) zero true p e (suc zero) h = ap (option_map second_of) e
-at_place (q ∷ pairs) zero true p e (suc (suc i)) h = absurd (omega (arith, h))
-at_place (q ∷ pairs) (suc s) b p e zero h = absurd (omega (arith, h))
-at_place (q ∷ pairs) (suc s) b p e (suc zero) h = absurd (omega (arith, h))
-at_place (q ∷ pairs) (suc s) b p e (suc (suc i)) h = at_place pairs s b p e i (omega (arith, h))
+side_at_equal_place : (pairs : List Pair) (s : ℕ) (b : Bool) (p : Pair) → slice_get pairs s ≡ Some p → (i : ℕ) → i ≡ place_in s b → slice_get (sides pairs) i ≡ Some (side_of p b)
+side_at_equal_place [] s b p e i h = absurd (omega (arith, slice_get_within [] s p e))
+side_at_equal_place (q ∷ pairs) zero false p e zero h = ap (option_map cpu_of) e
+side_at_equal_place (q ∷ pairs) zero false p e (suc i) h = absurd (omega (arith, h))
+side_at_equal_place (q ∷ pairs) zero true p e zero h = absurd (omega (arith, h))
+side_at_equal_place (q ∷ pairs) zero true p e (suc zero) h = ap (option_map second_of) e
+side_at_equal_place (q ∷ pairs) zero true p e (suc (suc i)) h = absurd (omega (arith, h))
+side_at_equal_place (q ∷ pairs) (suc s) b p e zero h = absurd (omega (arith, h))
+side_at_equal_place (q ∷ pairs) (suc s) b p e (suc zero) h = absurd (omega (arith, h))
+side_at_equal_place (q ∷ pairs) (suc s) b p e (suc (suc i)) h = side_at_equal_place pairs s b p e i (omega (arith, h))
 
 -- the resource at a place of a station
-pub side_at : (pairs : List Pair) (s : ℕ) (b : Bool) (p : Pair) → slice_get pairs s ≡ Some p → slice_get (sides pairs) (place_in s b) ≡ Some (side_of p b)
-side_at pairs s b p e = at_place pairs s b p e (place_in s b) refl
+pub side_at_station_place : (pairs : List Pair) (s : ℕ) (b : Bool) (p : Pair) → slice_get pairs s ≡ Some p → slice_get (sides pairs) (place_in s b) ≡ Some (side_of p b)
+side_at_station_place pairs s b p e = side_at_equal_place pairs s b p e (place_in s b) refl
 
 -- a place belongs to a station, on one of its sides
 pub record IsPlace (pairs : List Pair) (i r : ℕ) : Type 0 where
@@ -57,14 +57,14 @@ one_if_le false = omega arith
 one_if_le true = omega arith
 
 -- places differ
-pub place_station : (s t : ℕ) (b c : Bool) → place_in s b ≡ place_in t c → s ≡ t
-place_station s t b c e = omega (arith, e, one_if_le b, one_if_le c)
+pub equal_places_same_station : (s t : ℕ) (b c : Bool) → place_in s b ≡ place_in t c → s ≡ t
+equal_places_same_station s t b c e = omega (arith, e, one_if_le b, one_if_le c)
 
-pub place_side : (s t : ℕ) (b c : Bool) → place_in s b ≡ place_in t c → b ≡ c
-place_side s t false false e = refl
-place_side s t true true e = refl
-place_side s t false true e = absurd (omega (arith, e))
-place_side s t true false e = absurd (omega (arith, e))
+pub equal_places_same_side : (s t : ℕ) (b c : Bool) → place_in s b ≡ place_in t c → b ≡ c
+equal_places_same_side s t false false e = refl
+equal_places_same_side s t true true e = refl
+equal_places_same_side s t false true e = absurd (omega (arith, e))
+equal_places_same_side s t true false e = absurd (omega (arith, e))
 
 pub not_not : (b : Bool) → not (not b) ≡ b
 not_not false = refl

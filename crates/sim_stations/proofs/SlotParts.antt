@@ -10,7 +10,7 @@ use Rattle.sim_queue.specs.Map.{key_at}
 use Rattle.sim_queue.specs.Places.{AreOrdered, AreOrderedBut}
 use Rattle.sim_queue.specs.Sift.{AreMoved, AreNotedBut, IsPlaceOf, IsElsewhere}
 use Rattle.sim_queue.specs.TopHeap.{placed, key_there, slot_of_item, AreApart, ArePlaced, IsSlotHeap}
-use Rattle.sim_queue.proofs.ForCallers.{added_apart, added_ordered, added_placed, get_set_other, items_fit, known_but_last, left_apart, left_ordered, left_placed, left_where, no_key, replaced_apart, replaced_ordered, replaced_placed, rest_apart, rest_ordered, rest_placed, rest_at_their_places, settled_heap, settled_keys}
+use Rattle.sim_queue.proofs.ForCallers.{added_apart, added_ordered, added_placed, get_set_other, items_fit, known_but_last, left_apart, left_ordered, left_placed, left_where, no_key_if_item_elsewhere, replaced_apart, replaced_ordered, replaced_placed, rest_apart, rest_ordered, rest_placed, rest_at_their_places, settled_heap, settled_keys}
 
 -- the last of the first places is written
 pub take_with_entered : {X : Type 0} (xs : List X) (n : ℕ) (y : X) → n < length xs → set (take (n + 1) xs) n y ≡ take n xs ++ y ∷ []
@@ -20,9 +20,9 @@ take_with_entered xs n y h =
     ∙ take_more_set (take (n + 1) xs) n y (omega (arith, long))
     ∙ ap (λ ys. ys ++ y ∷ []) (take-take n (n + 1) xs (omega arith))
 
--- the first places, before the last of them, and that
-pub before_last : {X : Type 0} (xs : List X) (n : ℕ) (y : X) → 0 < n → n ≤ length xs → slice_get xs (n - 1) ≡ Some y → take n xs ≡ take (n - 1) xs ++ y ∷ []
-before_last xs n y some room e =
+-- the first n places are the first n - 1, followed by the last of them
+pub take_is_front_and_last : {X : Type 0} (xs : List X) (n : ℕ) (y : X) → 0 < n → n ≤ length xs → slice_get xs (n - 1) ≡ Some y → take n xs ≡ take (n - 1) xs ++ y ∷ []
+take_is_front_and_last xs n y some room e =
     let more : n ≡ n - 1 + 1 = omega (arith, some) in
     ap (λ m. take m xs) more ∙ take_more xs (n - 1) y (omega (arith, some, room)) ∙ ap (λ z. take (n - 1) xs ++ z ∷ []) (get_or_from_slice_get xs (n - 1) y y e)
 
@@ -75,7 +75,7 @@ module _ (front : List (Item Timed)) (places : List ℕ) (capacity : ℕ) (heap 
   -- another item
   module _ (x : Item Timed) (same : x.slot ≡ slot) (slot_in : slot < slots) (elsewhere : IsElsewhere slot_of_item front places slot) where
     free : key_at (placed slots front) x.slot ≡ None
-    free = ap (key_at (placed slots front)) same ∙ no_key slots front places slot slot_in heap.noted elsewhere
+    free = ap (key_at (placed slots front)) same ∙ no_key_if_item_elsewhere slots front places slot slot_in heap.noted elsewhere
 
     x_in : x.slot < slots
     x_in = subst (λ s. s < slots) (sym same) slot_in

@@ -52,18 +52,18 @@ module _ (parts : List Part) (items : List (Item Timed)) (places : List ℕ) (he
   count_of_part : length (keyed_of items part) ≡ part.count
   count_of_part = length-keyed items part (omega (arith, part_in, part_fits))
 
-  apart_there : AreApart part.room (keyed_of items part)
-  apart_there = subst (λ n. AreApart n (keyed_of items part)) places_long (heaps.heap group part at).apart
+  keyed_items_apart : AreApart part.room (keyed_of items part)
+  keyed_items_apart = subst (λ n. AreApart n (keyed_of items part)) places_long (heaps.heap group part at).apart
 
   -- its least
   pub none_of_part : part.count ≡ 0 → IsEmptyMap (heap_at (maps_of_slots parts items) group)
   none_of_part none =
-      subst IsEmptyMap (sym map_of_part) (empty_items event_before event_laws part.room (keyed_of items part) apart_there (heaps.heap group part at).ordered (omega (arith, count_of_part, none)))
+      subst IsEmptyMap (sym map_of_part) (empty_items event_before event_laws part.room (keyed_of items part) keyed_items_apart (heaps.heap group part at).ordered (omega (arith, count_of_part, none)))
 
   pub least_of_part : (top : Item Timed) → 0 < part.count → slice_get items part.start ≡ Some top → IsLeast event_before (heap_at (maps_of_slots parts items) group) top.slot top.key
   least_of_part top some e =
       subst (λ h. IsLeast event_before h top.slot top.key) (sym map_of_part)
-      (top_is_least event_before event_laws part.room (keyed_of items part) apart_there (heaps.heap group part at).ordered top (first_keyed items part top (omega (arith, part_in, part_fits)) some e))
+      (top_is_least event_before event_laws part.room (keyed_of items part) keyed_items_apart (heaps.heap group part at).ordered top (first_keyed items part top (omega (arith, part_in, part_fits)) some e))
 
   -- it is written, and this number of its places have a key
   module _ (k : ℕ) (whole : k ≡ part.room) (ys : List (Item Timed)) (ps : List ℕ) (items_each : length ys ≡ k) (places_each : length ps ≡ k) (count : ℕ) (few : count ≤ length ys) where

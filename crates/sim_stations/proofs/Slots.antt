@@ -13,7 +13,7 @@ use Rattle.sim_stations.specs.declared.key_place.KeyPlace.{KeyPlace}
 use Rattle.sim_stations.specs.declared.key_place.KeyPlace.TheVariants.{Nowhere}
 use Rattle.sim_stations.specs.Stations.{holds_cpu, when_free, pair_at}
 use Rattle.sim_stations.specs.Kept.{seen_keys, stand_of, AreMapped, AreStands}
-use Rattle.sim_stations.proofs.Heads.{no_key}
+use Rattle.sim_stations.proofs.Heads.{none_is_not_some_event}
 
 -- what a slot has
 abbrev pub merged : List (Option Timed) → Grouped Timed → ℕ → Option Timed
@@ -23,24 +23,24 @@ merged ahead waiting i = either (key_at ahead i) (key_at waiting.keys i)
 abbrev pub pair_here : List Pair → Grouped Timed → ℕ → Pair
 pair_here pairs waiting i = pair_at pairs (slice_index waiting.groups i)
 
-pub seen_length : (free : List ℕ) (pairs : List Pair) (ahead waiting : List (Option Timed)) (groups : List ℕ) → length ahead ≡ length waiting → length groups ≡ length waiting → length (seen_keys free pairs ahead waiting groups) ≡ length waiting
+pub seen_keys_length : (free : List ℕ) (pairs : List Pair) (ahead waiting : List (Option Timed)) (groups : List ℕ) → length ahead ≡ length waiting → length groups ≡ length waiting → length (seen_keys free pairs ahead waiting groups) ≡ length waiting
 unfolding seen_keys
-seen_length free pairs [] [] [] e f = refl
-seen_length free pairs (a ∷ xs) (w ∷ ws) (g ∷ gs) e f = ap suc (seen_length free pairs xs ws gs (omega (arith, e)) (omega (arith, f)))
-seen_length free pairs [] [] (g ∷ gs) e f = absurd (omega (arith, f))
-seen_length free pairs [] (w ∷ ws) gs e f = absurd (omega (arith, e))
-seen_length free pairs (a ∷ xs) [] gs e f = absurd (omega (arith, e))
-seen_length free pairs (a ∷ xs) (w ∷ ws) [] e f = absurd (omega (arith, f))
+seen_keys_length free pairs [] [] [] e f = refl
+seen_keys_length free pairs (a ∷ xs) (w ∷ ws) (g ∷ gs) e f = ap suc (seen_keys_length free pairs xs ws gs (omega (arith, e)) (omega (arith, f)))
+seen_keys_length free pairs [] [] (g ∷ gs) e f = absurd (omega (arith, f))
+seen_keys_length free pairs [] (w ∷ ws) gs e f = absurd (omega (arith, e))
+seen_keys_length free pairs (a ∷ xs) [] gs e f = absurd (omega (arith, e))
+seen_keys_length free pairs (a ∷ xs) (w ∷ ws) [] e f = absurd (omega (arith, f))
 
-pub seen_at : (free : List ℕ) (pairs : List Pair) (ahead waiting : List (Option Timed)) (groups : List ℕ) → length ahead ≡ length waiting → length groups ≡ length waiting → (i : ℕ) → key_at (seen_keys free pairs ahead waiting groups) i ≡ option_map (when_free free (pair_at pairs (slice_index groups i))) (either (key_at ahead i) (key_at waiting i))
+pub seen_key_at_slot : (free : List ℕ) (pairs : List Pair) (ahead waiting : List (Option Timed)) (groups : List ℕ) → length ahead ≡ length waiting → length groups ≡ length waiting → (i : ℕ) → key_at (seen_keys free pairs ahead waiting groups) i ≡ option_map (when_free free (pair_at pairs (slice_index groups i))) (either (key_at ahead i) (key_at waiting i))
 unfolding seen_keys
-seen_at free pairs [] [] [] e f i = refl
-seen_at free pairs (a ∷ xs) (w ∷ ws) (g ∷ gs) e f zero = refl
-seen_at free pairs (a ∷ xs) (w ∷ ws) (g ∷ gs) e f (suc i) = seen_at free pairs xs ws gs (omega (arith, e)) (omega (arith, f)) i
-seen_at free pairs [] [] (g ∷ gs) e f i = absurd (omega (arith, f))
-seen_at free pairs [] (w ∷ ws) gs e f i = absurd (omega (arith, e))
-seen_at free pairs (a ∷ xs) [] gs e f i = absurd (omega (arith, e))
-seen_at free pairs (a ∷ xs) (w ∷ ws) [] e f i = absurd (omega (arith, f))
+seen_key_at_slot free pairs [] [] [] e f i = refl
+seen_key_at_slot free pairs (a ∷ xs) (w ∷ ws) (g ∷ gs) e f zero = refl
+seen_key_at_slot free pairs (a ∷ xs) (w ∷ ws) (g ∷ gs) e f (suc i) = seen_key_at_slot free pairs xs ws gs (omega (arith, e)) (omega (arith, f)) i
+seen_key_at_slot free pairs [] [] (g ∷ gs) e f i = absurd (omega (arith, f))
+seen_key_at_slot free pairs [] (w ∷ ws) gs e f i = absurd (omega (arith, e))
+seen_key_at_slot free pairs (a ∷ xs) [] gs e f i = absurd (omega (arith, e))
+seen_key_at_slot free pairs (a ∷ xs) (w ∷ ws) [] e f i = absurd (omega (arith, f))
 
 pub merged_ahead : (ahead : List (Option Timed)) (waiting : Grouped Timed) (i : ℕ) (k : Timed) → key_at ahead i ≡ Some k → merged ahead waiting i ≡ Some k
 merged_ahead ahead waiting i k e = ap (λ o. either o (key_at waiting.keys i)) e
@@ -59,11 +59,11 @@ pub record IsStep (slot : ℕ) (ahead new_ahead : List (Option Timed)) (waiting 
   pub waits : (k : Timed) → key_at new_waiting.keys slot ≡ Some k → (k.time ≡ 0) × (holds_cpu k.class ≡ true)
 
 module _ (ahead : List (Option Timed)) (waiting : Grouped Timed) (pairs : List Pair) (mapped : AreMapped ahead waiting pairs) where
-  pub seen_here : (free : List ℕ) (i : ℕ) → key_at (seen_keys free pairs ahead waiting.keys waiting.groups) i ≡ option_map (when_free free (pair_here pairs waiting i)) (merged ahead waiting i)
-  seen_here free i = seen_at free pairs ahead waiting.keys waiting.groups mapped.each mapped.grouped i
+  pub seen_key_of_mapped_slot : (free : List ℕ) (i : ℕ) → key_at (seen_keys free pairs ahead waiting.keys waiting.groups) i ≡ option_map (when_free free (pair_here pairs waiting i)) (merged ahead waiting i)
+  seen_key_of_mapped_slot free i = seen_key_at_slot free pairs ahead waiting.keys waiting.groups mapped.each mapped.grouped i
 
-  pub seen_long : (free : List ℕ) → length (seen_keys free pairs ahead waiting.keys waiting.groups) ≡ length waiting.keys
-  seen_long free = seen_length free pairs ahead waiting.keys waiting.groups mapped.each mapped.grouped
+  pub seen_keys_length_of_mapped : (free : List ℕ) → length (seen_keys free pairs ahead waiting.keys waiting.groups) ≡ length waiting.keys
+  seen_keys_length_of_mapped free = seen_keys_length free pairs ahead waiting.keys waiting.groups mapped.each mapped.grouped
 
   -- a slot that waits has nothing ahead
   pub not_ahead : (slot : ℕ) (k : Timed) → key_at waiting.keys slot ≡ Some k → key_at ahead slot ≡ None
@@ -71,7 +71,7 @@ module _ (ahead : List (Option Timed)) (waiting : Grouped Timed) (pairs : List P
     where
       go : (o : Option Timed) → key_at ahead slot ≡ o → o ≡ None
       go None f = refl
-      go (Some q) f = absurd (no_key k (sym (mapped.apart slot q f) ∙ e))
+      go (Some q) f = absurd (none_is_not_some_event k (sym (mapped.apart slot q f) ∙ e))
 
   pub station_of : (slot : ℕ) → slot < length waiting.keys → slice_get waiting.groups slot ≡ Some (slice_index waiting.groups slot)
   station_of slot l = slice_get-get_or waiting.groups slot 0 (omega (arith, l, mapped.grouped))
@@ -105,19 +105,19 @@ module _ (ahead : List (Option Timed)) (waiting : Grouped Timed) (pairs : List P
     -- the key of another slot, at these free times
     pub seen_there : (now : List ℕ) (one : ℕ) → one ≢ slot → key_at (seen_keys now pairs new_ahead new_waiting.keys new_waiting.groups) one ≡ option_map (when_free now (pair_here pairs waiting one)) (merged ahead waiting one)
     seen_there now one n =
-        seen_at now pairs new_ahead new_waiting.keys new_waiting.groups still_mapped.each still_mapped.grouped one ∙ ap (λ p. option_map (when_free now p) (merged new_ahead new_waiting one)) (pair_now one) ∙ ap (option_map (when_free now (pair_here pairs waiting one))) (merged_there one n)
+        seen_key_at_slot now pairs new_ahead new_waiting.keys new_waiting.groups still_mapped.each still_mapped.grouped one ∙ ap (λ p. option_map (when_free now p) (merged new_ahead new_waiting one)) (pair_now one) ∙ ap (option_map (when_free now (pair_here pairs waiting one))) (merged_there one n)
 
     pub seen_slot : (now : List ℕ) → key_at (seen_keys now pairs new_ahead new_waiting.keys new_waiting.groups) slot ≡ option_map (when_free now (pair_here pairs waiting slot)) (merged new_ahead new_waiting slot)
     seen_slot now =
-        seen_at now pairs new_ahead new_waiting.keys new_waiting.groups still_mapped.each still_mapped.grouped slot ∙ ap (λ p. option_map (when_free now p) (merged new_ahead new_waiting slot)) (pair_now slot)
+        seen_key_at_slot now pairs new_ahead new_waiting.keys new_waiting.groups still_mapped.each still_mapped.grouped slot ∙ ap (λ p. option_map (when_free now p) (merged new_ahead new_waiting slot)) (pair_now slot)
 
     pub long_now : (now : List ℕ) → length (seen_keys now pairs new_ahead new_waiting.keys new_waiting.groups) ≡ length waiting.keys
     long_now now =
-        seen_length now pairs new_ahead new_waiting.keys new_waiting.groups still_mapped.each still_mapped.grouped ∙ step.each_waiting
+        seen_keys_length now pairs new_ahead new_waiting.keys new_waiting.groups still_mapped.each still_mapped.grouped ∙ step.each_waiting
 
     -- at the same free times one key is changed
     pub seen_changed : (free : List ℕ) → slot < length waiting.keys → (value : Option Timed) → option_map (when_free free (pair_here pairs waiting slot)) (merged new_ahead new_waiting slot) ≡ value → seen_keys free pairs new_ahead new_waiting.keys new_waiting.groups ≡ set (seen_keys free pairs ahead waiting.keys waiting.groups) slot value
-    seen_changed free within value is = same_maps new (set old slot value) (long_now free ∙ sym (seen_long free) ∙ sym (length-set old slot value)) (λ i l. each i (cases_eq i slot))
+    seen_changed free within value is = same_maps new (set old slot value) (long_now free ∙ sym (seen_keys_length_of_mapped free) ∙ sym (length-set old slot value)) (λ i l. each i (cases_eq i slot))
       where
         old : List (Option Timed)
         old = seen_keys free pairs ahead waiting.keys waiting.groups
@@ -127,9 +127,9 @@ module _ (ahead : List (Option Timed)) (waiting : Grouped Timed) (pairs : List P
 
         each : (i : ℕ) → (i ≡ slot) ⊎ (i ≢ slot) → key_at new i ≡ key_at (set old slot value) i
         each i (inl s) =
-            let here : key_at (set old slot value) slot ≡ value = get_or-set_same old slot value None (omega (arith, within, seen_long free)) in
+            let here : key_at (set old slot value) slot ≡ value = get_or-set_same old slot value None (omega (arith, within, seen_keys_length_of_mapped free)) in
             ap (key_at new) s ∙ seen_slot free ∙ is ∙ sym here ∙ ap (key_at (set old slot value)) (sym s)
-        each i (inr n) = seen_there free i n ∙ sym (seen_here free i) ∙ sym (get_or-set_other old slot i value None n)
+        each i (inr n) = seen_there free i n ∙ sym (seen_key_of_mapped_slot free i) ∙ sym (get_or-set_other old slot i value None n)
 
     -- the place of each slot's key is known
     pub stood_now : (stands : List KeyPlace) → AreStands stands ahead waiting → slot < length waiting.keys → (stand : KeyPlace) → stand ≡ stand_of (key_at new_ahead slot) (key_at new_waiting.keys slot) → AreStands (set stands slot stand) new_ahead new_waiting
@@ -153,11 +153,11 @@ module _ (ahead : List (Option Timed)) (waiting : Grouped Timed) (pairs : List P
     ahead_stays = λ one n. get_or-set_other ahead slot one value None n;
     waiting_stays = λ one n. refl;
     apart = λ k e. idle;
-    waits = λ k e. absurd (no_key k (sym idle ∙ e));
+    waits = λ k e. absurd (none_is_not_some_event k (sym idle ∙ e));
   }
 
-  pub here_ahead : (slot : ℕ) (value : Option Timed) → slot < length waiting.keys → key_at (set ahead slot value) slot ≡ value
-  here_ahead slot value l = get_or-set_same ahead slot value None (omega (arith, l, mapped.each))
+  pub ahead_key_after_set : (slot : ℕ) (value : Option Timed) → slot < length waiting.keys → key_at (set ahead slot value) slot ≡ value
+  ahead_key_after_set slot value l = get_or-set_same ahead slot value None (omega (arith, l, mapped.each))
 
   -- a waiting slot gets another key, or none, and has nothing ahead
   pub step_waiting : (slot : ℕ) (now : List (Option Timed)) (value : Option Timed) (new : Grouped Timed) → slot < length waiting.keys → length now ≡ length ahead → ((one : ℕ) → one ≢ slot → key_at now one ≡ key_at ahead one) → key_at now slot ≡ None → ((k : Timed) → value ≡ Some k → (k.time ≡ 0) × (holds_cpu k.class ≡ true)) → new ≡ record { keys = set waiting.keys slot value; groups = waiting.groups } → IsStep slot ahead now waiting new
@@ -167,13 +167,13 @@ module _ (ahead : List (Option Timed)) (waiting : Grouped Timed) (pairs : List P
     groups = ap (λ (q : Grouped Timed). q.groups) is;
     ahead_stays = stays;
     waiting_stays = λ one n. ap (λ (q : Grouped Timed). key_at q.keys one) is ∙ get_or-set_other waiting.keys slot one value None n;
-    apart = λ k e. absurd (no_key k (sym idle ∙ e));
+    apart = λ k e. absurd (none_is_not_some_event k (sym idle ∙ e));
     waits = λ k e. waits k (sym here ∙ e);
   }
     where
       here : key_at new.keys slot ≡ value
       here = ap (λ (q : Grouped Timed). key_at q.keys slot) is ∙ get_or-set_same waiting.keys slot value None l
 
-  pub here_waiting : (slot : ℕ) (value : Option Timed) (new : Grouped Timed) → slot < length waiting.keys → new ≡ record { keys = set waiting.keys slot value; groups = waiting.groups } → key_at new.keys slot ≡ value
-  here_waiting slot value new l is =
+  pub waiting_key_after_set : (slot : ℕ) (value : Option Timed) (new : Grouped Timed) → slot < length waiting.keys → new ≡ record { keys = set waiting.keys slot value; groups = waiting.groups } → key_at new.keys slot ≡ value
+  waiting_key_after_set slot value new l is =
       ap (λ (q : Grouped Timed). key_at q.keys slot) is ∙ get_or-set_same waiting.keys slot value None l

@@ -25,8 +25,8 @@ later_not_before t k l =
     go false = refl
 
 -- an event not before another is not before it at a later time either
-pub later_than : (t : ℕ) (k x : Timed) → k.time ≤ t → event_before k x ≡ false → event_before (at_time t k) x ≡ false
-later_than t k x l e = through event_before event_laws (at_time t k) k x (later_not_before t k l) e
+pub not_before_at_later_time : (t : ℕ) (k x : Timed) → k.time ≤ t → event_before k x ≡ false → event_before (at_time t k) x ≡ false
+not_before_at_later_time t k x l e = through event_before event_laws (at_time t k) k x (later_not_before t k l) e
 
 module _ (free : List ℕ) (p : Pair) where
   pub earliest_waits : (k : Timed) → holds_cpu k.class ≡ true → earliest free p k ≡ max k.time (both_free free p)
@@ -43,26 +43,26 @@ module _ (free : List ℕ) (p : Pair) where
       go false e = rw (earliest_at_once k e) (omega arith)
 
   -- a waiting event's own time does not matter if its resources are free later
-  pub forgotten : (k : Timed) → holds_cpu k.class ≡ true → k.time ≤ both_free free p → when_free free p (at_time 0 k) ≡ when_free free p k
-  forgotten k w l =
+  pub own_time_forgotten_if_free_later : (k : Timed) → holds_cpu k.class ≡ true → k.time ≤ both_free free p → when_free free p (at_time 0 k) ≡ when_free free p k
+  own_time_forgotten_if_free_later k w l =
       let left : earliest free p (at_time 0 k) ≡ max 0 (both_free free p) = earliest_waits (at_time 0 k) w in
       let same : max 0 (both_free free p) ≡ max k.time (both_free free p) = omega (arith, l) in
       ap (λ t. at_time t k) (left ∙ same ∙ sym (earliest_waits k w))
 
-  pub when_zero : (k : Timed) → holds_cpu k.class ≡ true → when_free free p (at_time 0 k) ≡ at_time (both_free free p) k
-  when_zero k w =
+  pub when_free_from_time_zero : (k : Timed) → holds_cpu k.class ≡ true → when_free free p (at_time 0 k) ≡ at_time (both_free free p) k
+  when_free_from_time_zero k w =
       let same : max 0 (both_free free p) ≡ both_free free p = omega arith in
       ap (λ t. at_time t k) (earliest_waits (at_time 0 k) w ∙ same)
 
-  -- an event is due where its resources are free by its own moment
-  pub due_itself : (k : Timed) → holds_cpu k.class ≡ true → both_free free p ≤ k.time → when_free free p k ≡ k
-  due_itself k w l =
+  -- an event keeps its time if its resources are free by then
+  pub due_event_keeps_its_time : (k : Timed) → holds_cpu k.class ≡ true → both_free free p ≤ k.time → when_free free p k ≡ k
+  due_event_keeps_its_time k w l =
       let same : max k.time (both_free free p) ≡ k.time = omega (arith, l) in
       at_own_time_is_itself k (earliest free p k) (sym (earliest_waits k w ∙ same))
 
--- it is raised where its resources are free later
-pub raised_again : (free now : List ℕ) (p : Pair) → both_free free p ≤ both_free now p → (k : Timed) → when_free now p k ≡ when_free now p (when_free free p k)
-raised_again free now p l k = go (holds_cpu k.class) refl
+-- raising an event to an earlier free time first makes no difference
+pub when_free_absorbs_earlier_when_free : (free now : List ℕ) (p : Pair) → both_free free p ≤ both_free now p → (k : Timed) → when_free now p k ≡ when_free now p (when_free free p k)
+when_free_absorbs_earlier_when_free free now p l k = go (holds_cpu k.class) refl
   where
     go : (b : Bool) → holds_cpu k.class ≡ b → when_free now p k ≡ when_free now p (when_free free p k)
     go true e =

@@ -6,9 +6,9 @@ use Rattle.std.proofs.lemmas.List.Elements.{All-contains, All-filter, All-contai
 use Rattle.goal_graph.proofs.ForCallers.{contains_first, contains_more}
 
 -- what is found in the elements that a filter keeps passes both tests
-pub find_kept : {X : Type 0} (p q : X → Bool) (xs : List X) → find p (filter q xs) ≡ find (λ (x : X). p x && q x) xs
-find_kept p q [] = refl
-find_kept {X} p q (x ∷ xs) = go (q x) (p x) refl (find_kept p q xs)
+pub find_in_filtered : {X : Type 0} (p q : X → Bool) (xs : List X) → find p (filter q xs) ≡ find (λ (x : X). p x && q x) xs
+find_in_filtered p q [] = refl
+find_in_filtered {X} p q (x ∷ xs) = go (q x) (p x) refl (find_in_filtered p q xs)
   where
     go : (b c : Bool) → p x ≡ c → find p (filter q xs) ≡ find (λ (x : X). p x && q x) xs → find p (cond b (x ∷ filter q xs) (filter q xs)) ≡ cond (c && b) (Some x) (find (λ (x : X). p x && q x) xs)
     go true true e rest = ap (λ (t : Bool). cond t (Some x) (find p (filter q xs))) e
@@ -27,8 +27,8 @@ module _ {X : Type 0} (p : X → Bool) (xs : List X) (i : ℕ) (d : X) (kept : L
       sym (append-nil kept) ∙ ap₂ (λ (ys : List X) (b : Bool). ys ++ cond b (get_or xs i d ∷ []) []) so_far (sym e) ∙ sym (filter_more p xs i d low)
 
 -- the value of the element at i comes after those of the elements before it
-pub one_mapped : {X Y : Type 0} (f : X → Y) (xs : List X) (i : ℕ) (d : X) (so_far more : List Y) (y : Y) → i < length xs → so_far ≡ map f (take i xs) → more ≡ so_far ++ y ∷ [] → y ≡ f (get_or xs i d) → more ≡ map f (take (i + 1) xs)
-one_mapped {X} {Y} f xs i d so_far more y low e pushed is =
+pub map_with_next_element : {X Y : Type 0} (f : X → Y) (xs : List X) (i : ℕ) (d : X) (so_far more : List Y) (y : Y) → i < length xs → so_far ≡ map f (take i xs) → more ≡ so_far ++ y ∷ [] → y ≡ f (get_or xs i d) → more ≡ map f (take (i + 1) xs)
+map_with_next_element {X} {Y} f xs i d so_far more y low e pushed is =
     pushed ∙ ap₂ (λ (ys : List Y) (z : Y). ys ++ z ∷ []) e is ∙ sym (ap (map f) (take_more xs i d low) ∙ map-append f (take i xs) (get_or xs i d ∷ []))
 
 contains_cases : {X : Type 0} (y : X) (xs : List X) (x : X) → Contains (y ∷ xs) x → (y ≡ x) ⊎ Contains xs x

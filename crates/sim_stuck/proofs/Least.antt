@@ -18,8 +18,8 @@ use Rattle.goal_graph.specs.Keys.{op_cmp}
 use Rattle.sim_match.specs.Patterns.{pattern_cmp}
 use Rattle.sim_match.proofs.ForCallers.{pattern_cmp_is_eq}
 use Rattle.sim_stuck.specs.Patterns.{is_for, is_by, least, AreFirsts}
-use Rattle.sim_stuck.proofs.PatternFacts.{four, exact_of, any_tag_of, any_source_of, any_of}
-use Rattle.goal_graph.proofs.ForCallers.{find_all, find_agree}
+use Rattle.sim_stuck.proofs.PatternFacts.{accepts_iff_one_of_four_patterns, exact_of, any_tag_of, any_source_of, any_of}
+use Rattle.goal_graph.proofs.ForCallers.{found_item_has_property, find_agree}
 
 find_nothing : {X : Type 0} (xs : List X) → find (λ (x : X). false) xs ≡ None
 find_nothing [] = refl
@@ -60,8 +60,8 @@ find_either p q (e ∷ es) order = go (p e) (q e) (find_either p q es (order_tai
 
     go : (s t : Bool) → find (λ (e : OpId). p e || q e) es ≡ least (find p es) (find q es) → cond (s || t) (Some e) (find (λ (e : OpId). p e || q e) es) ≡ least (cond s (Some e) (find p es)) (cond t (Some e) (find q es))
     go true true rest = itself (is_lt (op_cmp e e))
-    go true false rest = here_first (find q es) (λ z f. find_all (IsBefore e) q es z (order_head e es order) f)
-    go false true rest = here_second (find p es) (λ z f. find_all (IsBefore e) p es z (order_head e es order) f)
+    go true false rest = here_first (find q es) (λ z f. found_item_has_property (IsBefore e) q es z (order_head e es order) f)
+    go false true rest = here_second (find p es) (λ z f. found_item_has_property (IsBefore e) p es z (order_head e es order) f)
     go false false rest = rest
 
 module _ (plans : List Plan) (ids : List OpId) (firsts : Firsts) (are : AreFirsts plans ids firsts) (x : OpId) where
@@ -114,15 +114,15 @@ module _ (plans : List Plan) (ids : List OpId) (firsts : Firsts) (are : AreFirst
       at y (Some (Calc nanos)) = refl
       at y (Some (Send other target with_tag)) = refl
       at y (Some (Recv room from wanted)) =
-          ap₂ (λ (b c : Bool). b || c) (ap₂ (λ (b c : Bool). b || c) (pattern_cmp_is_eq q e) (pattern_cmp_is_eq q t)) (ap₂ (λ (b c : Bool). b || c) (pattern_cmp_is_eq q s) (pattern_cmp_is_eq q a)) ∙ sym (four q x.rank to tag)
+          ap₂ (λ (b c : Bool). b || c) (ap₂ (λ (b c : Bool). b || c) (pattern_cmp_is_eq q e) (pattern_cmp_is_eq q t)) (ap₂ (λ (b c : Bool). b || c) (pattern_cmp_is_eq q s) (pattern_cmp_is_eq q a)) ∙ sym (accepts_iff_one_of_four_patterns q x.rank to tag)
         where
           q : Pattern
           q = record { rank = y.rank; from = from; tag = wanted }
 
   -- no operation fits a calculation
-  pub none_found : (nanos : ℕ) → kind_at plans x ≡ Some (Calc nanos) → None ≡ find (λ (y : OpId). fits plans x y || fits plans y x) ids
+  pub nothing_fits_calc : (nanos : ℕ) → kind_at plans x ≡ Some (Calc nanos) → None ≡ find (λ (y : OpId). fits plans x y || fits plans y x) ids
   unfolding fits
-  none_found nanos is =
+  nothing_fits_calc nanos is =
       sym (find_nothing ids) ∙ find_agree (λ (y : OpId). false) (λ (y : OpId). fits plans x y || fits plans y x) (λ y. at y (kind_at plans y) ∙ ap (λ (k : Option Kind). fits_kinds x k y (kind_at plans y) || fits_kinds y (kind_at plans y) x k) (sym is)) ids
     where
       at : (y : OpId) (k : Option Kind) → false ≡ (fits_kinds x (Some (Calc nanos)) y k || fits_kinds y k x (Some (Calc nanos)))
@@ -132,12 +132,12 @@ module _ (plans : List Plan) (ids : List OpId) (firsts : Firsts) (are : AreFirst
       at y (Some (Recv room from tag)) = refl
 
 -- one operation before the others
-pub put_more : (plans : List Plan) (ids : List OpId) (i n : ℕ) (d : OpId) (kind : Kind) (old new : Firsts) → n ≡ suc i → n ≤ length ids → AreFirsts plans (drop n ids) old
+pub firsts_after_put : (plans : List Plan) (ids : List OpId) (i n : ℕ) (d : OpId) (kind : Kind) (old new : Firsts) → n ≡ suc i → n ≤ length ids → AreFirsts plans (drop n ids) old
     → kind_at plans (get_or ids i d) ≡ Some kind
     → ((q : Pattern) → get pattern_cmp new.sends q ≡ cond (is_for q (get_or ids i d) (Some kind)) (Some (get_or ids i d)) (get pattern_cmp old.sends q))
     → ((q : Pattern) → get pattern_cmp new.receives q ≡ cond (is_by q (get_or ids i d) (Some kind)) (Some (get_or ids i d)) (get pattern_cmp old.receives q))
     → AreFirsts plans (drop i ids) new
-put_more plans ids i n d kind old new next within were is sends receives =
+firsts_after_put plans ids i n d kind old new next within were is sends receives =
     subst (λ (xs : List OpId). AreFirsts plans xs new) (sym (drop-cons ids i d (omega (arith, next, within)))) (record {
       sends = λ q. sends q ∙ ap₂ (λ (k : Option Kind) (o : Option OpId). cond (is_for q (get_or ids i d) k) (Some (get_or ids i d)) o) (sym is) (are.sends q);
       receives = λ q. receives q ∙ ap₂ (λ (k : Option Kind) (o : Option OpId). cond (is_by q (get_or ids i d) k) (Some (get_or ids i d)) o) (sym is) (are.receives q);

@@ -36,9 +36,9 @@ module _ (plans : List Plan) (costs : CostModel) (h : List Timed) where
   ops_listed = ops_of_reasons (filter (lacks_end plans costs h) (operations plans))
 
   -- a stuck operation with its reason is one of the schedule
-  listed_is : (s : Stuck) → Contains (stuck_list plans costs h) s → (x : OpId) × Contains (operations plans) x × (lacks_end plans costs h x ≡ true) × (with_reason plans costs h x ≡ s)
+  listed_is_stuck_op_with_reason : (s : Stuck) → Contains (stuck_list plans costs h) s → (x : OpId) × Contains (operations plans) x × (lacks_end plans costs h x ≡ true) × (with_reason plans costs h x ≡ s)
   unfolding stuck_list
-  listed_is s c =
+  listed_is_stuck_op_with_reason s c =
       let source = contains_source (with_reason plans costs h) (filter (lacks_end plans costs h) (operations plans)) s c in
       let kept = kept_contained (lacks_end plans costs h) (operations plans) source.0 source.1 in
       (source.0, kept.0, kept.1, source.2)
@@ -64,21 +64,21 @@ module _ (plans : List Plan) (costs : CostModel) (h : List Timed) where
     where
       go : (s.why ≡ why.Op y) ⊎ (s.why ≡ why.Partner y) → IsOp plans y × IsStuck plans (is_eager plans costs) (plain h) y
       go (inl e) =
-          let l = listed_is s c in
+          let l = listed_is_stuck_op_with_reason s c in
           let named = ap (λ (t : Stuck). t.why) l.3 ∙ e in
           let unmet = op_is_unmet plans (is_eager plans costs) (plain h) l.0 y named in
           let exist = needs-exist plans l.0 accepted.plain ((listed_places plans l.0).0 l.1) in
           let found = All-contains (λ (d : Need). IsOp plans (needed l.0 d)) (needs plans l.0) unmet.need exist unmet.listed in
           (subst (IsOp plans) (sym unmet.names) found, op_is_stuck plans (is_eager plans costs) (plain h) l.0 y each named)
       go (inr e) =
-          let l = listed_is s c in
+          let l = listed_is_stuck_op_with_reason s c in
           let named = ap (λ (t : Stuck). t.why) l.3 ∙ e in
           let absent = partner_is_absent plans (is_eager plans costs) (plain h) l.0 y named in
           ((listed_places plans y).0 absent.listed, partner_is_stuck plans (is_eager plans costs) (plain h) l.0 y each named)
 
   pub alone_are_alone : IsCompleteInterleaving plans (is_eager plans costs) (plain h) → AloneAreAlone plans costs h (stuck_list plans costs h)
   alone_are_alone complete s y c e fit =
-      let l = listed_is s c in
+      let l = listed_is_stuck_op_with_reason s c in
       let same = ap (λ (t : Stuck). t.op) l.3 in
       let alone = ap (λ (t : Stuck). t.why) l.3 ∙ e in
       subst (λ (z : OpId). (has_started plans y (plain h) ≡ true) × IsTaken plans (plain h) y z) same (partners_of_alone_taken plans (is_eager plans costs) (plain h) complete l.0 y (not-true _ l.2) alone (subst (λ (z : OpId). are_fit plans (is_eager plans costs) z y ≡ true) (sym same) fit))
@@ -90,21 +90,21 @@ none_listed plans costs h (x ∷ xs) list none e = absurd (omega (arith, none))
 
 -- the list of all operations without an end, of a schedule that was read
 module _ (plans read : List Plan) (costs : CostModel) (h : List Timed) (stuck : List OpId) (list : List Stuck) (same : plans ≡ read) (are_all : stuck ≡ filter (lacks_end plans costs h) (operations plans)) (listed : list ≡ map (with_reason plans costs h) stuck) where
-  pub list_is : list ≡ stuck_list read costs h
+  pub list_is_stuck_list : list ≡ stuck_list read costs h
   unfolding stuck_list
-  list_is =
+  list_is_stuck_list =
       listed ∙ ap (map (with_reason plans costs h)) are_all ∙ ap (λ (ps : List Plan). map (with_reason ps costs h) (filter (lacks_end ps costs h) (operations ps))) same
 
   pub list_stuck : ListsStuck read costs h list
-  list_stuck = subst (λ (xs : List Stuck). ListsStuck read costs h xs) (sym list_is) (lists_stuck read costs h)
+  list_stuck = subst (λ (xs : List Stuck). ListsStuck read costs h xs) (sym list_is_stuck_list) (lists_stuck read costs h)
 
   pub list_order : IsInOrder list
-  list_order = subst (λ (xs : List Stuck). IsInOrder xs) (sym list_is) (in_order read costs h)
+  list_order = subst (λ (xs : List Stuck). IsInOrder xs) (sym list_is_stuck_list) (in_order read costs h)
 
   pub list_named : IsAccepted plans → IsRun plans costs h → NamesListed list
   list_named accepted run =
-      subst (λ (xs : List Stuck). NamesListed xs) (sym list_is) (subst (λ (ps : List Plan). NamesListed (stuck_list ps costs h)) same (names_listed plans costs h accepted (run_interleaving plans costs h run)))
+      subst (λ (xs : List Stuck). NamesListed xs) (sym list_is_stuck_list) (subst (λ (ps : List Plan). NamesListed (stuck_list ps costs h)) same (names_listed plans costs h accepted (run_interleaving plans costs h run)))
 
   pub list_alone : IsRun plans costs h → IsFinished plans costs h → AloneAreAlone read costs h list
   list_alone run finished =
-      subst (λ (xs : List Stuck). AloneAreAlone read costs h xs) (sym list_is) (subst (λ (ps : List Plan). AloneAreAlone ps costs h (stuck_list ps costs h)) same (alone_are_alone plans costs h (complete_interleaving plans costs h (record { run = run; finished = finished }))))
+      subst (λ (xs : List Stuck). AloneAreAlone read costs h xs) (sym list_is_stuck_list) (subst (λ (ps : List Plan). AloneAreAlone ps costs h (stuck_list ps costs h)) same (alone_are_alone plans costs h (complete_interleaving plans costs h (record { run = run; finished = finished }))))

@@ -21,8 +21,8 @@ abbrev pub any_of : ℕ → Pattern
 any_of to = record { rank = to; from = None; tag = None }
 
 -- a pattern accepts a message exactly if it is one of the message's four
-pub four : (q : Pattern) (source to with_tag : ℕ) → ((to == q.rank) && accepts q.from source && accepts q.tag with_tag) ≡ ((same_pattern q (exact_of source to with_tag) || same_pattern q (any_tag_of source to)) || (same_pattern q (any_source_of to with_tag) || same_pattern q (any_of to)))
-four q source to with_tag =
+pub accepts_iff_one_of_four_patterns : (q : Pattern) (source to with_tag : ℕ) → ((to == q.rank) && accepts q.from source && accepts q.tag with_tag) ≡ ((same_pattern q (exact_of source to with_tag) || same_pattern q (any_tag_of source to)) || (same_pattern q (any_source_of to with_tag) || same_pattern q (any_of to)))
+accepts_iff_one_of_four_patterns q source to with_tag =
     ap (λ (s : Bool). s && accepts q.from source && accepts q.tag with_tag) (eqb-swapped to q.rank) ∙ go (q.rank == to) q.from q.tag
   where
     none_none : (s : Bool) → (s && true && true) ≡ (((s && (false && false)) || (s && (false && true))) || ((s && (true && false)) || (s && (true && true))))
@@ -57,31 +57,31 @@ choice_swapped None (Some n) = refl
 choice_swapped (Some k) None = refl
 choice_swapped (Some k) (Some n) = eqb-swapped k n
 
-alike_turned : (p q : Pattern) → is_eq (pattern_cmp p q) ≡ same_pattern q p
-alike_turned p q =
+pattern_cmp_equal_iff_same : (p q : Pattern) → is_eq (pattern_cmp p q) ≡ same_pattern q p
+pattern_cmp_equal_iff_same p q =
     pattern_cmp_is_eq p q ∙ ap₂ (λ (s t : Bool). s && t) (eqb-swapped p.rank q.rank) (ap₂ (λ (s t : Bool). s && t) (choice_swapped p.from q.from) (choice_swapped p.tag q.tag))
 
-put_once : {X : Type 0} (a b c d : Bool) (x y : X) → cond d x (cond c x (cond b x (cond a x y))) ≡ cond ((a || b) || (c || d)) x y
-put_once a b c true x y = ap (λ (t : Bool). cond t x y) (sym (last a b c))
+nested_conds_are_one_or : {X : Type 0} (a b c d : Bool) (x y : X) → cond d x (cond c x (cond b x (cond a x y))) ≡ cond ((a || b) || (c || d)) x y
+nested_conds_are_one_or a b c true x y = ap (λ (t : Bool). cond t x y) (sym (last a b c))
   where
     last : (a b c : Bool) → ((a || b) || (c || true)) ≡ true
     last true b c = refl
     last false true c = refl
     last false false true = refl
     last false false false = refl
-put_once a b true false x y = ap (λ (t : Bool). cond t x y) (sym (third a b))
+nested_conds_are_one_or a b true false x y = ap (λ (t : Bool). cond t x y) (sym (third a b))
   where
     third : (a b : Bool) → ((a || b) || true) ≡ true
     third true b = refl
     third false true = refl
     third false false = refl
-put_once true true false false x y = refl
-put_once true false false false x y = refl
-put_once false true false false x y = refl
-put_once false false false false x y = refl
+nested_conds_are_one_or true true false false x y = refl
+nested_conds_are_one_or true false false false x y = refl
+nested_conds_are_one_or false true false false x y = refl
+nested_conds_are_one_or false false false false x y = refl
 
 -- what is put at each of a message's four patterns is at the patterns that accept the message
-pub four_put : (q : Pattern) (source to with_tag : ℕ) {X : Type 0} (x y : X) → cond (is_eq (pattern_cmp (any_of to) q)) x (cond (is_eq (pattern_cmp (any_source_of to with_tag) q)) x (cond (is_eq (pattern_cmp (any_tag_of source to) q)) x (cond (is_eq (pattern_cmp (exact_of source to with_tag) q)) x y))) ≡ cond ((to == q.rank) && accepts q.from source && accepts q.tag with_tag) x y
-four_put q source to with_tag x y =
-    put_once (is_eq (pattern_cmp (exact_of source to with_tag) q)) (is_eq (pattern_cmp (any_tag_of source to) q)) (is_eq (pattern_cmp (any_source_of to with_tag) q)) (is_eq (pattern_cmp (any_of to) q)) x y
-    ∙ ap (λ (t : Bool). cond t x y) (ap₂ (λ (s t : Bool). s || t) (ap₂ (λ (s t : Bool). s || t) (alike_turned (exact_of source to with_tag) q) (alike_turned (any_tag_of source to) q)) (ap₂ (λ (s t : Bool). s || t) (alike_turned (any_source_of to with_tag) q) (alike_turned (any_of to) q)) ∙ sym (four q source to with_tag))
+pub put_at_four_patterns_where_accepted : (q : Pattern) (source to with_tag : ℕ) {X : Type 0} (x y : X) → cond (is_eq (pattern_cmp (any_of to) q)) x (cond (is_eq (pattern_cmp (any_source_of to with_tag) q)) x (cond (is_eq (pattern_cmp (any_tag_of source to) q)) x (cond (is_eq (pattern_cmp (exact_of source to with_tag) q)) x y))) ≡ cond ((to == q.rank) && accepts q.from source && accepts q.tag with_tag) x y
+put_at_four_patterns_where_accepted q source to with_tag x y =
+    nested_conds_are_one_or (is_eq (pattern_cmp (exact_of source to with_tag) q)) (is_eq (pattern_cmp (any_tag_of source to) q)) (is_eq (pattern_cmp (any_source_of to with_tag) q)) (is_eq (pattern_cmp (any_of to) q)) x y
+    ∙ ap (λ (t : Bool). cond t x y) (ap₂ (λ (s t : Bool). s || t) (ap₂ (λ (s t : Bool). s || t) (pattern_cmp_equal_iff_same (exact_of source to with_tag) q) (pattern_cmp_equal_iff_same (any_tag_of source to) q)) (ap₂ (λ (s t : Bool). s || t) (pattern_cmp_equal_iff_same (any_source_of to with_tag) q) (pattern_cmp_equal_iff_same (any_of to) q)) ∙ sym (accepts_iff_one_of_four_patterns q source to with_tag))

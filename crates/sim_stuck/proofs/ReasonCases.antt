@@ -18,7 +18,7 @@ use Rattle.goal_graph.proofs.ForCallers.{listed_exist, operations_in_order}
 use Rattle.sim_params.specs.Stuck.{first_unmet, first_absent, partner_or_alone, reason_by, reason}
 use Rattle.sim_stuck.specs.declared.partner.Firsts.{Firsts}
 use Rattle.sim_stuck.specs.Patterns.{AreFirsts}
-use Rattle.sim_stuck.proofs.Kept.{find_kept}
+use Rattle.sim_stuck.proofs.Kept.{find_in_filtered}
 
 abbrev pub is_unstarted : List Plan → List Act → OpId → Bool
 is_unstarted plans h y = not (has_started plans y h)
@@ -45,7 +45,7 @@ module _ (plans : List Plan) (eager : OpId → Bool) (h : List Act) where
         → partner_or_alone plans eager r ≡ reason plans eager h x
     unfolding reason first_absent
     met_reason read firsts r same are e f =
-        ap (partner_or_alone plans eager) (found ∙ ap (λ (ps : List Plan). find (λ (y : OpId). fits ps x y || fits ps y x) absent) same ∙ find_kept (λ (y : OpId). fits plans x y || fits plans y x) (is_unstarted plans h) (operations plans)) ∙ go (first_unmet plans eager h x) e
+        ap (partner_or_alone plans eager) (found ∙ ap (λ (ps : List Plan). find (λ (y : OpId). fits ps x y || fits ps y x) absent) same ∙ find_in_filtered (λ (y : OpId). fits plans x y || fits plans y x) (is_unstarted plans h) (operations plans)) ∙ go (first_unmet plans eager h x) e
       where
         absent : List OpId
         absent = filter (is_unstarted plans h) (operations plans)

@@ -127,9 +127,9 @@ unfolding less least run_of op_at kind_at deps_at needs places_of_rank places_fr
 finest_gap_ends_later = refl
 
 -- one byte over the threshold S needs a handshake
-least_large : outcome (one_message 65536) usual_costs ≡ ends_at 8000 405210
+smallest_rendezvous : outcome (one_message 65536) usual_costs ≡ ends_at 8000 405210
 unfolding less least run_of op_at kind_at deps_at needs places_of_rank places_from happened oldest plain partner fits pairs is_ready allowed is_eager since greatest cpu tx rx ready time rounded_up least_up_to
-least_large = refl
+smallest_rendezvous = refl
 
 abbrev acts : List Timed → List (ℕ × Class × OpId)
 acts h = map (λ (a : Timed). (a.time, a.class, a.op)) h

@@ -54,17 +54,17 @@ shorter first (p ∷ plans) (suc rank) =
     omega (arith, length-append own (places_from (first + 1) (take rank plans)), length-append own (places_from (first + 1) plans), shorter (first + 1) plans rank)
 
 module _ (plans : List Plan) where
-  pub before_more : (rank : ℕ) → before_rank plans (rank + 1) ≡ before_rank plans rank + length (ops_at plans rank)
-  before_more rank =
+  pub before_next_rank : (rank : ℕ) → before_rank plans (rank + 1) ≡ before_rank plans rank + length (ops_at plans rank)
+  before_next_rank rank =
       let next : rank + 1 ≡ suc rank = omega arith in
       ap (before_rank plans) next ∙ longer 0 plans rank
 
-  pub before_all : before_rank plans (length plans) ≡ length (operations plans)
-  before_all = ap (λ (ps : List Plan). length (operations ps)) (take_all (length plans) plans (omega arith))
+  pub before_all_ranks : before_rank plans (length plans) ≡ length (operations plans)
+  before_all_ranks = ap (λ (ps : List Plan). length (operations ps)) (take_all (length plans) plans (omega arith))
 
   -- the index of an operation among all
   pub at_place : (rank op : ℕ) (x : OpId) → op < length (ops_at plans rank) → get_or (operations plans) (before_rank plans rank + op) x ≡ record { rank = rank; op = op }
   at_place rank op x inside = place_from 0 plans rank op x inside ∙ ap (λ n. record { rank = n; op = op }) (zero-add rank)
 
   pub place_within : (rank op : ℕ) → op < length (ops_at plans rank) → before_rank plans rank + op < length (operations plans)
-  place_within rank op inside = omega (arith, inside, before_more rank, shorter 0 plans (rank + 1))
+  place_within rank op inside = omega (arith, inside, before_next_rank rank, shorter 0 plans (rank + 1))

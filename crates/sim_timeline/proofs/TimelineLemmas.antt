@@ -22,7 +22,7 @@ use Rattle.sim_timeline.specs.Timeline.{is_unmatched, end_or_zero, operation_lin
 use Rattle.sim_timeline.specs.Pages.{IsSummary, is_unmatched_send}
 use Rattle.goal_graph.proofs.ForCallers.{kind_of_found_op}
 
--- the greatest of a list and one more
+-- the greatest value of a list after appending an element
 pub greatest-append : {A : Type 0} (f : A → ℕ) (xs : List A) (x : A) → greatest f (xs ++ x ∷ []) ≡ max (greatest f xs) (f x)
 unfolding greatest
 greatest-append f [] x = omega arith
@@ -31,22 +31,22 @@ greatest-append f (y ∷ ys) x = rw (greatest-append f ys x) (omega arith)
 count_by-append_one : {A : Type 0} (p : A → Bool) (xs : List A) (x : A) → count_by p (xs ++ x ∷ []) ≡ count_by p xs + cond (p x) 1 0
 count_by-append_one p xs x = simp fold-append
 
-no_end : (b : Bool) (n : ℕ) → ◌≡◌ {A = ℕ} (cond (is_some (cond b (Some n) None)) 0 1) (cond (not b) 1 0)
-no_end true n = refl
-no_end false n = refl
+missing_end_counts_one : (b : Bool) (n : ℕ) → ◌≡◌ {A = ℕ} (cond (is_some (cond b (Some n) None)) 0 1) (cond (not b) 1 0)
+missing_end_counts_one true n = refl
+missing_end_counts_one false n = refl
 
-end_there : (b : Bool) (n : ℕ) → unwrap_or (cond b (Some n) None) 0 ≡ cond b n 0
-end_there true n = refl
-end_there false n = refl
+known_end_or_zero : (b : Bool) (n : ℕ) → unwrap_or (cond b (Some n) None) 0 ≡ cond b n 0
+known_end_or_zero true n = refl
+known_end_or_zero false n = refl
 
 started : (b : Bool) (n : ℕ) → is_some (cond b (Some n) None) ≡ b
 started true n = refl
 started false n = refl
 
 -- if two texts together are empty, the first is empty
-no_front : {A : Type 0} (xs ys : List A) → xs ++ ys ≡ [] → xs ≡ []
-no_front [] ys none = refl
-no_front (x ∷ xs) ys none = absurd (cc)
+empty_append_has_empty_first : {A : Type 0} (xs ys : List A) → xs ++ ys ≡ [] → xs ≡ []
+empty_append_has_empty_first [] ys none = refl
+empty_append_has_empty_first (x ∷ xs) ys none = absurd (cc)
 
 module _ (plans : List Plan) (costs : CostModel) (h : List Timed) where
   unmatched_found : (x : OpId) (o : Op) → op_at plans x ≡ Some o
@@ -55,7 +55,7 @@ module _ (plans : List Plan) (costs : CostModel) (h : List Timed) where
       ap (λ (k : Option Kind). is_unmatched_send k (start_known plans costs h x) (partner (pairs plans (plain h)) x)) (sym (kind_of_found_op plans x o found))
       ∙ rw (started (has_started plans x (plain h)) (start plans costs h x)) refl
 
-  -- the summary of operations and one more
+  -- the summary after appending an operation
   pub summary_more : (xs : List OpId) (x : OpId) (o : Op) (stuck unmatched finish : ℕ) → IsSummary plans costs h xs stuck unmatched finish
       → op_at plans x ≡ Some o
       → IsSummary plans costs h (xs ++ x ∷ [])
@@ -63,27 +63,27 @@ module _ (plans : List Plan) (costs : CostModel) (h : List Timed) where
       (unmatched + cond (is_unmatched_send (Some o.kind) (start_known plans costs h x) (partner (pairs plans (plain h)) x)) 1 0)
       (max finish (unwrap_or (end_known plans costs h x) 0))
   summary_more xs x o stuck unmatched finish s found = record {
-    stuck_is = rw (s.stuck_is, no_end (has_ended plans (is_eager plans costs) x (plain h)) (end plans costs h x)) (sym (count_by-append_one (lacks_end plans costs h) xs x));
+    stuck_is = rw (s.stuck_is, missing_end_counts_one (has_ended plans (is_eager plans costs) x (plain h)) (end plans costs h x)) (sym (count_by-append_one (lacks_end plans costs h) xs x));
     unmatched_is = rw (s.unmatched_is, unmatched_found x o found) (sym (count_by-append_one (is_unmatched plans costs h) xs x));
-    finish_is = rw (s.finish_is, end_there (has_ended plans (is_eager plans costs) x (plain h)) (end plans costs h x)) (sym (greatest-append (end_or_zero plans costs h) xs x));
+    finish_is = rw (s.finish_is, known_end_or_zero (has_ended plans (is_eager plans costs) x (plain h)) (end plans costs h x)) (sym (greatest-append (end_or_zero plans costs h) xs x));
   }
 
   -- the first line, by the summary of all operations
-  pub first_line_is : (stuck unmatched finish : ℕ) → IsSummary plans costs h (operations plans) stuck unmatched finish
+  pub summary_line_is_first_line : (stuck unmatched finish : ℕ) → IsSummary plans costs h (operations plans) stuck unmatched finish
       → summary_line (length plans) (length (operations plans)) stuck unmatched finish ≡ first_line plans costs h
   unfolding first_line
-  first_line_is stuck unmatched finish s = rw (s.stuck_is, s.unmatched_is, s.finish_is) refl
+  summary_line_is_first_line stuck unmatched finish s = rw (s.stuck_is, s.unmatched_is, s.finish_is) refl
 
   -- the line of an operation that exists
-  pub line_is : (x : OpId) (o : Op) → op_at plans x ≡ Some o
+  pub operation_line_is_line_of : (x : OpId) (o : Op) → op_at plans x ≡ Some o
       → operation_line x o.kind (start_known plans costs h x) (end_known plans costs h x) (partner (pairs plans (plain h)) x) ≡ line_of plans costs h x
   unfolding line_of
-  line_is x o found = ap (line_by plans costs h x) (sym (kind_of_found_op plans x o found))
+  operation_line_is_line_of x o found = ap (line_by plans costs h x) (sym (kind_of_found_op plans x o found))
 
   -- the line of an operation that exists is not empty
   line_not_empty : (x : OpId) (o : Option Op) → op_at plans x ≡ o → is_some o ≡ true → line_of plans costs h x ≡ [] → ⊥
   line_not_empty x None found there empty = cc
-  line_not_empty x (Some o) found there empty = let line = line_is x o found ∙ empty in cc
+  line_not_empty x (Some o) found there empty = let line = operation_line_is_line_of x o found ∙ empty in cc
 
   -- if the lines of the first operations are empty, there are no operations
   pub no_line_left : (xs : List OpId) (count : ℕ) → (0 < length xs → 0 < count) → All (IsOp plans) xs
@@ -92,7 +92,7 @@ module _ (plans : List Plan) (costs : CostModel) (h : List Timed) where
   no_line_left (x ∷ xs) zero some exist empty = absurd (omega (arith, some (omega arith)))
   no_line_left (x ∷ xs) (suc count) some exist empty =
       absurd (line_not_empty x (op_at plans x) refl (All-head (IsOp plans) x xs exist)
-      (no_front (line_of plans costs h x) (flat_map (line_of plans costs h) (take count xs)) empty))
+      (empty_append_has_empty_first (line_of plans costs h x) (flat_map (line_of plans costs h) (take count xs)) empty))
 
 -- a page, and what is left after it
 pub page_and_rest : {X A : Type 0} (f : X → List A) (xs : List X) (done count : ℕ)

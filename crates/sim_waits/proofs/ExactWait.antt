@@ -43,15 +43,15 @@ since_within test n (a ∷ h) each = go (test (plain h)) (test (plain (a ∷ h))
     go false false rest = omega arith
 
 module _ (plans : List Plan) (costs : CostModel) where
-  met_kept : (a : Timed) (h : List Timed) (w : When) (y : OpId) → IsRun plans costs h → is_met plans (is_eager plans costs) (plain h) w y ≡ true → met_at plans costs (a ∷ h) w y ≡ met_at plans costs h w y
-  met_kept a h AfterEnd y run e = end_kept plans costs a h y (run_is_each_possible plans costs h run) e
-  met_kept a h AfterStart y run e = start_kept plans costs a h y e
+  met_time_stays : (a : Timed) (h : List Timed) (w : When) (y : OpId) → IsRun plans costs h → is_met plans (is_eager plans costs) (plain h) w y ≡ true → met_at plans costs (a ∷ h) w y ≡ met_at plans costs h w y
+  met_time_stays a h AfterEnd y run e = end_kept plans costs a h y (run_is_each_possible plans costs h run) e
+  met_time_stays a h AfterStart y run e = start_kept plans costs a h y e
 
   -- the ready time of an operation that is ready stays
   ready_kept : (a : Timed) (h : List Timed) (x : OpId) → IsRun plans costs h → is_ready plans (is_eager plans costs) (plain h) x ≡ true → ready plans costs (a ∷ h) x ≡ ready plans costs h x
   unfolding ready
   ready_kept a h x run e =
-      greatest_of_equal_functions (λ (d : Need). met_at plans costs (a ∷ h) d.when (needed x d)) (λ (d : Need). met_at plans costs h d.when (needed x d)) (needs plans x) (λ d c. met_kept a h d.when (needed x d) run (ready_need plans (is_eager plans costs) (plain h) x d e c))
+      greatest_of_equal_functions (λ (d : Need). met_at plans costs (a ∷ h) d.when (needed x d)) (λ (d : Need). met_at plans costs h d.when (needed x d)) (needs plans x) (λ d c. met_time_stays a h d.when (needed x d) run (ready_need plans (is_eager plans costs) (plain h) x d e c))
 
   -- the first action of an operation comes when it is ready, or later
   first_action_is_ready : (h : List Timed) (x : OpId) (k : Option Kind) → may plans (is_eager plans costs) (plain h) (first_class k) x k ≡ true → (is_ready plans (is_eager plans costs) (plain h) x ≡ true) × (ready plans costs h x ≤ time_of plans costs h (first_class k) x k)

@@ -1,5 +1,5 @@
 use Rattle.std.proofs.Common.{◌++◌, take, rules, arith, length-append, length-take}
-use Rattle.goal_base.proofs.ForCallers.{takes_more, takes_same, too_long, later_then, kept_then, counts_then, rose_then}
+use Rattle.goal_base.proofs.ForCallers.{takes_joined_bytes, takes_if_rest_unchanged, too_long, later_is_transitive, keeps_files_is_transitive, same_read_counts_is_transitive, rose_after_same_read_counts}
 use Rattle.goal_base.proofs.read.read_rest.Goals as goal
 
 pub returns-in_err-extend_from_slice-clause-taken : goal.returns-in_err-extend_from_slice-clause-taken
@@ -7,7 +7,7 @@ returns-in_err-extend_from_slice-clause-taken g c =
     let more = take c.in-Ok.count c.read.new.buf in (
       c.pieces.bytes.items ++ more,
       omega (arith, length-append c.pieces.bytes.items more, length-take c.in-Ok.count c.read.new.buf, length-take c.min-room.result c.pieces.buffer, c.read.auto.buf, c.in-Ok.ensures.bound, c.pieces.bytes.ok.0, c.len-in-pieces.ensures, c.min-room.ensures),
-      takes_more _ _ _ _ _ c.pieces.invariant.taken c.pieces.invariant.later.tells c.in-Ok.ensures.taken,
+      takes_joined_bytes _ _ _ _ _ c.pieces.invariant.taken c.pieces.invariant.later.tells c.in-Ok.ensures.taken,
     )
 
 pub returns-in-Err-Failed-clause-call : goal.returns-in-Err-Failed-clause-call
@@ -16,9 +16,9 @@ returns-in-Err-Failed-clause-call g c =
     let was = g.H.Host.state c.pieces.host in
     let now = g.H.Host.state c.read.new.self in
     record {
-      counts = rose_then old was now c.pieces.invariant.later c.pieces.invariant.counts (search rules);
-      kept = kept_then old was now c.pieces.invariant.later c.pieces.invariant.kept c.read.ensures.call.kept;
-      later = later_then old was now c.pieces.invariant.later c.read.ensures.call.later;
+      counts = rose_after_same_read_counts old was now c.pieces.invariant.later c.pieces.invariant.counts (search rules);
+      kept = keeps_files_is_transitive old was now c.pieces.invariant.later c.pieces.invariant.kept c.read.ensures.call.kept;
+      later = later_is_transitive old was now c.pieces.invariant.later c.read.ensures.call.later;
     }
 
 pub returns-in-Err-NoMemory-clause-call : goal.returns-in-Err-NoMemory-clause-call
@@ -28,8 +28,8 @@ returns-in-Err-NoMemory-clause-call g c =
     let now = g.H.Host.state c.read.new.self in
     record {
       counts = search (rules, c.pieces.invariant.counts);
-      kept = kept_then old was now c.pieces.invariant.later c.pieces.invariant.kept c.read.ensures.call.kept;
-      later = later_then old was now c.pieces.invariant.later c.read.ensures.call.later;
+      kept = keeps_files_is_transitive old was now c.pieces.invariant.later c.pieces.invariant.kept c.read.ensures.call.kept;
+      later = later_is_transitive old was now c.pieces.invariant.later c.read.ensures.call.later;
     }
 
 pub returns-then-count-eq0-clause-call : goal.returns-then-count-eq0-clause-call
@@ -38,20 +38,20 @@ returns-then-count-eq0-clause-call g c =
     let was = g.H.Host.state c.pieces.host in
     let now = g.H.Host.state c.read.new.self in
     record {
-      counts = counts_then old was now c.pieces.invariant.counts record { read_count = c.in-Ok.ensures.call.count; absent_count = c.read.ensures.call.absent_count };
-      kept = kept_then old was now c.pieces.invariant.later c.pieces.invariant.kept c.read.ensures.call.kept;
-      later = later_then old was now c.pieces.invariant.later c.read.ensures.call.later;
+      counts = same_read_counts_is_transitive old was now c.pieces.invariant.counts record { read_count = c.in-Ok.ensures.call.count; absent_count = c.read.ensures.call.absent_count };
+      kept = keeps_files_is_transitive old was now c.pieces.invariant.later c.pieces.invariant.kept c.read.ensures.call.kept;
+      later = later_is_transitive old was now c.pieces.invariant.later c.read.ensures.call.later;
     }
 
 pub returns-in-Err-Failed-clause-taken : goal.returns-in-Err-Failed-clause-taken
 returns-in-Err-Failed-clause-taken g c =
     let kept = c.pieces.invariant in
-    (c.pieces.bytes.items, kept.within, takes_same _ _ _ _ kept.taken kept.later.tells (search rules))
+    (c.pieces.bytes.items, kept.within, takes_if_rest_unchanged _ _ _ _ kept.taken kept.later.tells (search rules))
 
 pub returns-in-Err-NoMemory-clause-taken : goal.returns-in-Err-NoMemory-clause-taken
 returns-in-Err-NoMemory-clause-taken g c =
     let kept = c.pieces.invariant in
-    (c.pieces.bytes.items, kept.within, takes_same _ _ _ _ kept.taken kept.later.tells (search rules))
+    (c.pieces.bytes.items, kept.within, takes_if_rest_unchanged _ _ _ _ kept.taken kept.later.tells (search rules))
 
 pub returns-clause-too_long : goal.returns-clause-too_long
 returns-clause-too_long g c =

@@ -2,12 +2,12 @@ use Rattle.std.proofs.Common.{◌++◌, ap, ◌∙◌}
 use Rattle.std.specs.List.{flat_map}
 use Rattle.std.proofs.lemmas.List.{take_all}
 use Rattle.goal_binary.specs.File.{spelled_note}
-use Rattle.goal_binary.proofs.Appended.{one_appended}
+use Rattle.goal_binary.proofs.Appended.{spelled_items_with_next}
 use Rattle.goal_binary.proofs.encoding.put_notes.Goals as goal
 
 pub loop-note-preserved : goal.loop-note-preserved
 loop-note-preserved c =
-    one_appended (spelled_note c.args.layout) _ _ _ c.args.notes.now c.loop-note.note-index _ c.loop-note-test.true c.loop-note.invariant c.in_ok-put_note.ensures
+    spelled_items_with_next (spelled_note c.args.layout) _ _ _ c.args.notes.now c.loop-note.note-index _ c.loop-note-test.true c.loop-note.invariant c.in_ok-put_note.ensures
 
 pub returns : goal.returns
 returns c =

@@ -1,7 +1,7 @@
 use Rattle.std.proofs.Common.{ℕ, ◌+◌, ◌-◌, Option, Some, Ok, refl, sym, ap, ◌∙◌, arith}
 use Rattle.std.proofs.lemmas.Result.{err_from_is_err_and}
 use Rattle.goal_binary.proofs.Packed.{read_of}
-use Rattle.goal_binary.proofs.FromLast.{high_before, group_before, last_group, no_group, last_missing}
+use Rattle.goal_binary.proofs.FromLast.{byte_before_is_high, groups_from_byte_before, last_group, no_groups_left, missing_last_group_fails}
 use Rattle.goal_binary.proofs.fields.groups_at.Goals as goal
 use Rattle.goal_binary.proofs.fields.groups_at.Goals.{then-more-left, else-more-left+in_ok-last}
 
@@ -11,7 +11,7 @@ returns-in_err-last c =
     let f = c.in_err-last.field-0.0 in
     let gone = sym c.in_err-last.ensures in
     let p = err_from_is_err_and c.from_residual.result c.from_residual.ensures.1 in
-    rw (last_missing c.args.bytes.now c.args.left more.result c.args.at f (omega arith) more.ensures.each gone, p.1, p.2) refl
+    rw (missing_last_group_fails c.args.bytes.now c.args.left more.result c.args.at f (omega arith) more.ensures.each gone, p.1, p.2) refl
 
 pub loop-place-init : goal.loop-place-init
 loop-place-init c =
@@ -23,7 +23,7 @@ loop-place-init c =
       from = omega arith;
       to = omega arith;
       so_far = elim c.if-more-left.branch [
-        | then-more-left w ↦ no_group bytes left last_at (omega arith) ∙ ap (λ (p : Option ℕ × ℕ). Ok p) (sym w.groups-is)
+        | then-more-left w ↦ no_groups_left bytes left last_at (omega arith) ∙ ap (λ (p : Option ℕ × ℕ). Ok p) (sym w.groups-is)
         | else-more-left+in_ok-last w ↦
             let read = sym w.in_ok-last.ensures in
             let last : ℕ × ℕ = (w.in_ok-last.last, w.in_ok-last.after) in
@@ -37,7 +37,7 @@ pub overflow_sub-bytes : goal.overflow_sub-bytes
 overflow_sub-bytes c =
     let more = c.groups_before_last-more in
     let i = c.loop-place.invariant in
-    high_before c.args.bytes.now more.result c.args.at c.loop-place.place more.ensures.each c.loop-place-test.true i.to
+    byte_before_is_high c.args.bytes.now more.result c.args.at c.loop-place.place more.ensures.each c.loop-place-test.true i.to
 
 pub loop-place-preserved : goal.loop-place-preserved
 loop-place-preserved c =
@@ -47,11 +47,11 @@ loop-place-preserved c =
     let more = c.groups_before_last-more in
     let i = c.loop-place.invariant in
     let some = c.loop-place-test.true in
-    let high = high_before bytes more.result at place more.ensures.each some i.to in
+    let high = byte_before_is_high bytes more.result at place more.ensures.each some i.to in
     let after = c.if-more-left.groups.1 in
     record {
       from = omega arith;
       to = omega arith;
       so_far = rw c.below-groups.ensures
-          (group_before bytes c.args.left at place c.loop-place.groups after some (omega arith) high i.so_far);
+          (groups_from_byte_before bytes c.args.left at place c.loop-place.groups after some (omega arith) high i.so_far);
     }

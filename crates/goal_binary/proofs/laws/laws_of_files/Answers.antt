@@ -1,7 +1,7 @@
 use Rattle.goal_binary.proofs.Packed.{packed_apart}
 use Rattle.goal_binary.proofs.RanksTaken.{IsBytes-All}
-use Rattle.goal_binary.proofs.RanksAgain.{schedule_fits, meaning_fits, meaning_again}
-use Rattle.goal_binary.proofs.Round.{meaning_is}
+use Rattle.goal_binary.proofs.RanksAgain.{schedule_fits, meaning_of_written_plans, meaning_of_written_schedule}
+use Rattle.goal_binary.proofs.Round.{meaningful_bytes_are_new_or_old}
 use Rattle.goal_binary.proofs.Faults.{within_limits, faults_are_true}
 use Rattle.goal_binary.proofs.Cuts.{cut_is_short, more_is_extra, no_file_begins}
 use Rattle.goal_binary.proofs.Lengths.{length-old, old-within, no_longer}
@@ -20,13 +20,13 @@ pub returns-clause-no_longer : goal.returns-clause-no_longer
 returns-clause-no_longer c = no_longer
 
 pub returns-clause-two_files : goal.returns-clause-two_files
-returns-clause-two_files c bytes plans fits = meaning_is bytes (IsBytes-All bytes fits) plans
+returns-clause-two_files c bytes plans fits = meaningful_bytes_are_new_or_old bytes (IsBytes-All bytes fits) plans
 
 pub returns-clause-plans_again : goal.returns-clause-plans_again
-returns-clause-plans_again c = meaning_fits
+returns-clause-plans_again c = meaning_of_written_plans
 
 pub returns-clause-read_again : goal.returns-clause-read_again
-returns-clause-read_again c layout plans schedule = meaning_again layout plans schedule.accepted schedule.widths
+returns-clause-read_again c layout plans schedule = meaning_of_written_schedule layout plans schedule.accepted schedule.widths
 
 pub returns-clause-within_limits : goal.returns-clause-within_limits
 returns-clause-within_limits c bytes plans all = within_limits bytes (IsBytes-All bytes all) plans

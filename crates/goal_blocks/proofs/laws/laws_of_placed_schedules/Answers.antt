@@ -2,7 +2,7 @@
 use Rattle.std.proofs.Common.{length}
 use Rattle.goal_blocks.proofs.PlacedAlike.{allowed_placed, run_into, run_from, all_into, all_from}
 use Rattle.goal_blocks.proofs.PlacedValues.{held_placed}
-use Rattle.goal_blocks.proofs.PlacedPlans.{placed_is}
+use Rattle.goal_blocks.proofs.PlacedPlans.{placed_plans_are_placed}
 use Rattle.goal_blocks.proofs.PlacedRight.{placed_right}
 use Rattle.goal_blocks.proofs.PlacedCertified.{placed_certified}
 use Rattle.goal_blocks.proofs.PlacedCollectives.{placed_for_right}
@@ -15,7 +15,7 @@ pub returns-clause-placed_interleaves_alike : goal.returns-clause-placed_interle
 returns-clause-placed_interleaves_alike c = λ to back plans other eager h perm is. ((run_into (length plans) to back perm plans other is.ops eager is.needs h, run_from (length plans) to back perm plans other is.ops eager is.needs h), (all_into (length plans) to back perm plans other is.ops eager is.needs h, all_from (length plans) to back perm plans other is.ops eager is.needs h))
 
 pub returns-clause-placed_is_placed : goal.returns-clause-placed_is_placed
-returns-clause-placed_is_placed c = λ to back plans perm. placed_is to back plans perm
+returns-clause-placed_is_placed c = λ to back plans perm. placed_plans_are_placed to back plans perm
 
 pub returns-clause-placed_holds_alike : goal.returns-clause-placed_holds_alike
 returns-clause-placed_holds_alike c = λ to back plans other label eager first start h perm is starts rank slot. (held_placed label (length plans) to back perm plans other is eager first start starts h).stores rank slot

@@ -2,7 +2,7 @@ use Rattle.std.proofs.Common.{◌≡◌, ◌++◌, [], ◌∷◌, length, get_or
 use Rattle.std.proofs.lemmas.List.{length-append, with_items_is}
 use Rattle.goal_graph.specs.declared.plan.Note.TheVariants.{Adds}
 use Rattle.goal_blocks.specs.Slots.{Adding, added_by}
-use Rattle.goal_blocks.proofs.SlotLists.{pushed_each, note_tells, note_tells_none}
+use Rattle.goal_blocks.proofs.SlotLists.{each_holds_after_append, known_note_appends_items, known_note_appends_nothing}
 use Rattle.goal_blocks.proofs.slot_table.added_of.Goals as goal
 use Rattle.goal_blocks.proofs.slot_table.added_of.Goals.{in-Adds+in_ok-add_more-in-Adds, in-Moves}
 
@@ -14,7 +14,7 @@ loop-preserved c =
     let so_far = c.loop.invariant in (
       omega (arith, ap length more, length-append had (none ∷ []), so_far.0),
       λ k v h.
-          ap (λ xs. (get_or xs k v).items) more ∙ pushed_each (λ (w : Vec Adding Global). w.items ≡ []) had none c.loop.counter v so_far.0 (λ j below. so_far.1 j v below) c.new.ensures.items k h,
+          ap (λ xs. (get_or xs k v).items) more ∙ each_holds_after_append (λ (w : Vec Adding Global). w.items ≡ []) had none c.loop.counter v so_far.0 (λ j below. so_far.1 j v below) c.new.ensures.items k h,
     )
 
 pub loop-note-preserved : goal.loop-note-preserved
@@ -37,10 +37,10 @@ loop-note-preserved c =
                 ∙ more.each k v (omega (arith, h, so_far.0, ap length same))
                 ∙ ap (λ xs. (get_or xs k v).items ++ added_by k (Adds note.op note.from note.to)) same
                 ∙ ap (λ ks. ks ++ added_by k (Adds note.op note.from note.to)) (so_far.1 k v h)
-                ∙ sym (note_tells (added_by k) notes i _ _ inside note.is),
+                ∙ sym (known_note_appends_items (added_by k) notes i _ _ inside note.is),
           ))
       | in-Moves w ↦ (
         ap (λ v. length v.items) w.added-is ∙ so_far.0,
-        λ k v h. ap (λ xs. (get_or xs.items k v).items) w.added-is ∙ so_far.1 k v h ∙ sym (note_tells_none (added_by k) notes i _ _ inside w.in-Moves.is refl),
+        λ k v h. ap (λ xs. (get_or xs.items k v).items) w.added-is ∙ so_far.1 k v h ∙ sym (known_note_appends_nothing (added_by k) notes i _ _ inside w.in-Moves.is refl),
       )
     ]

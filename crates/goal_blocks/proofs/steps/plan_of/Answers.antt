@@ -1,5 +1,5 @@
 use Rattle.std.proofs.Common.{◌≡◌, ◌∙◌, arith}
-use Rattle.goal_blocks.proofs.PlanBy.{next_ops, next_deps, next_notes, whole_plan, no_ops_yet, no_deps_yet, no_notes_yet}
+use Rattle.goal_blocks.proofs.PlanBy.{next_ops, next_deps, next_notes, plan_by_of_equal_parts, no_ops_yet, no_deps_yet, no_notes_yet}
 use Rattle.goal_blocks.proofs.steps.plan_of.Goals as goal
 
 pub loop-number-init : goal.loop-number-init
@@ -27,5 +27,5 @@ pub returns : goal.returns
 returns g c =
     let i = c.loop-number.invariant in
     let end : c.loop-number.number ≡ g.F.Formula.op_count c.args.formula.now c.args.rank = omega (arith, c.count-number-end.ensures) in
-    whole_plan (g.F.Formula.entry_at c.args.formula.now c.args.rank) c.loop-number.number (g.F.Formula.op_count c.args.formula.now c.args.rank)
+    plan_by_of_equal_parts (g.F.Formula.entry_at c.args.formula.now c.args.rank) c.loop-number.number (g.F.Formula.op_count c.args.formula.now c.args.rank)
     (record { ops = c.loop-number.ops.items; deps = c.loop-number.deps.items; notes = c.loop-number.notes.items }) end i.ops i.deps i.notes

@@ -1,5 +1,5 @@
 use Rattle.std.proofs.Common.{◌≡◌, ◌∙◌, sym, arith}
-use Rattle.goal_blocks.proofs.PlanBy.{next_rank, all_ranks, no_rank_yet}
+use Rattle.goal_blocks.proofs.PlanBy.{next_rank, made_by_of_equal_count, no_rank_yet}
 use Rattle.goal_blocks.proofs.steps.plans_of.Goals as goal
 
 pub loop-rank-init : goal.loop-rank-init
@@ -14,4 +14,4 @@ loop-rank-preserved g c =
 pub returns : goal.returns
 returns g c =
     let end : c.loop-rank.rank ≡ g.F.Formula.rank_count c.args.formula.now = omega arith in
-    all_ranks (g.F.Formula.op_count c.args.formula.now) (g.F.Formula.entry_at c.args.formula.now) c.loop-rank.rank (g.F.Formula.rank_count c.args.formula.now) c.loop-rank.plans.items end c.loop-rank.invariant
+    made_by_of_equal_count (g.F.Formula.op_count c.args.formula.now) (g.F.Formula.entry_at c.args.formula.now) c.loop-rank.rank (g.F.Formula.rank_count c.args.formula.now) c.loop-rank.plans.items end c.loop-rank.invariant

@@ -3,7 +3,7 @@ use Rattle.std.proofs.lemmas.Result.{err_from_is_err_and}
 use Rattle.goal_blocks.specs.Collectives.{initial, wanted}
 use Rattle.goal_certify.proofs.StageLemmas.{small_free, wildcard_free, lengths_free, free_within}
 use Rattle.goal_certify.proofs.FirstSegment.{first_free, fault_of_first_segment}
-use Rattle.goal_certify.proofs.Deciding.{told_stopped, told_sooner, answer_none, answer_told}
+use Rattle.goal_certify.proofs.Deciding.{fault_from_if_stopped, fault_from_with_later_end, none_on_ok_with_earlier_start, fault_on_err_with_earlier_start}
 use Rattle.goal_certify.proofs.certifier.find_fault.Goals as goal
 
 pub returns-in_err-check_plans-clause-fault : goal.returns-in_err-check_plans-clause-fault
@@ -12,7 +12,7 @@ returns-in_err-check_plans-clause-fault c =
     let first = initial c.args.what (length plans) in
     let wish = wanted c.args.what (length plans) in
     let p = err_from_is_err_and c.from_residual.result c.from_residual.ensures.1 in
-    rw (p.1, p.2) (told_sooner plans first wish 0 6 9 _ (omega arith) (told_stopped plans first wish 0 6 _ c.in_err-check_plans.ensures.fault))
+    rw (p.1, p.2) (fault_from_with_later_end plans first wish 0 6 9 _ (omega arith) (fault_from_if_stopped plans first wish 0 6 _ c.in_err-check_plans.ensures.fault))
 
 pub check_walk-requires-clause-small : goal.check_walk-requires-clause-small
 check_walk-requires-clause-small c =
@@ -37,11 +37,11 @@ returns-clause-free c =
     let plans = c.args.sched.now in
     let first = initial c.args.what (length plans) in
     let wish = wanted c.args.what (length plans) in
-    answer_none plans first wish c.check_walk.result 0 6 9 (c.in_ok-check_plans.ensures.free first wish) (first_free c.args.what plans c.first.result c.first.ensures c.check_walk.result c.check_walk.ensures.free)
+    none_on_ok_with_earlier_start plans first wish c.check_walk.result 0 6 9 (c.in_ok-check_plans.ensures.free first wish) (first_free c.args.what plans c.first.result c.first.ensures c.check_walk.result c.check_walk.ensures.free)
 
 pub returns-clause-fault : goal.returns-clause-fault
 returns-clause-fault c =
     let plans = c.args.sched.now in
     let first = initial c.args.what (length plans) in
     let wish = wanted c.args.what (length plans) in
-    answer_told plans first wish c.check_walk.result 0 6 9 (omega arith) (c.in_ok-check_plans.ensures.free first wish) (fault_of_first_segment c.args.what plans c.first.result c.first.ensures c.check_walk.result c.check_walk.ensures.fault)
+    fault_on_err_with_earlier_start plans first wish c.check_walk.result 0 6 9 (omega arith) (c.in_ok-check_plans.ensures.free first wish) (fault_of_first_segment c.args.what plans c.first.result c.first.ensures c.check_walk.result c.check_walk.ensures.fault)

@@ -1,7 +1,7 @@
 -- The two of each pair have as many slots.
 use Rattle.std.proofs.Common.{◌+◌, ◌*◌, false, sym, ◌∙◌, arith}
 use Rattle.goal_certify.specs.declared.ends.OpAtEnd.{OpAtEnd}
-use Rattle.goal_certify.proofs.Pairs.{alike_more, end_has_op, paired_free}
+use Rattle.goal_certify.proofs.Pairs.{alike_with_next_pair, end_has_op, paired_free}
 use Rattle.goal_certify.proofs.Passes.{count_read}
 use Rattle.goal_certify.proofs.channels.are_sound.Goals as goal
 
@@ -20,7 +20,7 @@ pub loop-number-preserved : goal.loop-number-preserved
 loop-number-preserved c =
     let received = count_read _ _ _ _ c.requires.counts c.index.ensures.index in
     let sent = count_read _ _ _ _ c.requires.counts c.index-in-loop-number.ensures.index in
-    alike_more c.args.sched.now c.args.ends.now c.loop-number.number _ _ c.loop-number.invariant c.pair.ensures.receive c.pair.ensures.send (sym received ∙ c.if-counts-index.false ∙ sent)
+    alike_with_next_pair c.args.sched.now c.args.ends.now c.loop-number.number _ _ c.loop-number.invariant c.pair.ensures.receive c.pair.ensures.send (sym received ∙ c.if-counts-index.false ∙ sent)
 
 pub returns : goal.returns
 returns c = λ t.

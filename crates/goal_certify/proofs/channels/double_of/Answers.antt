@@ -1,12 +1,12 @@
 use Rattle.std.proofs.Common.{subst}
 use Rattle.goal_certify.specs.Ends.{IsFirstAt}
 use Rattle.goal_certify.proofs.EndLemmas.{end_read, double_least, double_none, double_nowhere, double_no_end}
-use Rattle.goal_certify.proofs.Passes.{other_op, same_op_told, none_passes}
+use Rattle.goal_certify.proofs.Passes.{ops_differ_if_test_true, same_op_told, holds_if_none}
 use Rattle.goal_certify.proofs.channels.double_of.Goals as goal
 
 pub returns-in-Some-first-clause-least : goal.returns-in-Some-first-clause-least
 returns-in-Some-first-clause-least c =
-    double_least _ _ c.requires.ends _ _ _ (end_read _ _ _ _ c.op.ensures.op c.in-Some.ensures) c.in-Some-first.ensures.found (other_op _ _ c.if-ne.ensures)
+    double_least _ _ c.requires.ends _ _ _ (end_read _ _ _ _ c.op.ensures.op c.in-Some.ensures) c.in-Some-first.ensures.found (ops_differ_if_test_true _ _ c.if-ne.ensures)
 
 pub returns-in_default-clause-none : goal.returns-in_default-clause-none
 returns-in_default-clause-none c =
@@ -14,7 +14,7 @@ returns-in_default-clause-none c =
 
 pub returns-in_default-2-clause-none : goal.returns-in_default-2-clause-none
 returns-in_default-2-clause-none c =
-    double_nowhere _ _ c.requires.ends _ _ (end_read _ _ _ _ c.op.ensures.op c.in-Some.ensures) (none_passes _ c.in_default.is c.first.ensures.none)
+    double_nowhere _ _ c.requires.ends _ _ (end_read _ _ _ _ c.op.ensures.op c.in-Some.ensures) (holds_if_none _ c.in_default.is c.first.ensures.none)
 
 pub returns-in-None-clause-none : goal.returns-in-None-clause-none
 returns-in-None-clause-none c =

@@ -1,12 +1,12 @@
 use Rattle.std.proofs.Common.{refl}
 use Rattle.std.proofs.lemmas.Bool.{both_ways}
 use Rattle.goal_certify.proofs.EndLemmas.{end_read, no_end_paired}
-use Rattle.goal_certify.proofs.Passes.{unpaired_told}
+use Rattle.goal_certify.proofs.Passes.{unpaired_iff_search_finds_none}
 use Rattle.goal_certify.proofs.channels.is_unpaired.Goals as goal
 
 pub returns-in-Some : goal.returns-in-Some
 returns-in-Some c =
-    unpaired_told _ _ c.requires.ends _ _ _ _ _ (end_read _ _ _ _ c.op.ensures.op c.in-Some.ensures) c.other.ensures c.is_none.ensures c.first.ensures.found c.first.ensures.none
+    unpaired_iff_search_finds_none _ _ c.requires.ends _ _ _ _ _ (end_read _ _ _ _ c.op.ensures.op c.in-Some.ensures) c.other.ensures c.is_none.ensures c.first.ensures.found c.first.ensures.none
 
 pub returns-in-None : goal.returns-in-None
 returns-in-None c =

@@ -5,7 +5,7 @@ use Rattle.goal_graph.specs.declared.plan.Note.{Note}
 use Rattle.goal_graph.specs.Schedule.{Plan}
 use Rattle.goal_blocks.specs.Certification.{NamesLowSlots}
 use Rattle.goal_certify.proofs.StageLemmas.{free_large}
-use Rattle.goal_certify.proofs.Sizing.{none_more_below, none_large, stopped_by_ops, stopped_by_note, stopped_by_moves, rank_read, moves_more, few_notes}
+use Rattle.goal_certify.proofs.Sizing.{none_large_below_next_rank, none_large, stopped_by_ops, stopped_by_note, stopped_by_moves, rank_read, moves_more, few_notes}
 use Rattle.goal_certify.proofs.sizes.check_sizes.Goals as goal
 
 pub returns-then-len-gt-MAX_CERTIFIED_OPS-clause-fault : goal.returns-then-len-gt-MAX_CERTIFIED_OPS-clause-fault
@@ -45,7 +45,7 @@ loop-rank-preserved c =
     record {
       counted = more;
       few = omega (arith, c.if-moved-gt-MAX_MOVED.false);
-      none = none_more_below _ _ _ c.loop-rank.invariant.none at (omega (arith, c.len.ensures, ops, same, c.if-len-gt-MAX_CERTIFIED_OPS.false)) (subst (All NamesLowSlots) notes c.in-Some.ensures.low) (omega (arith, more, c.if-moved-gt-MAX_MOVED.false));
+      none = none_large_below_next_rank _ _ _ c.loop-rank.invariant.none at (omega (arith, c.len.ensures, ops, same, c.if-len-gt-MAX_CERTIFIED_OPS.false)) (subst (All NamesLowSlots) notes c.in-Some.ensures.low) (omega (arith, more, c.if-moved-gt-MAX_MOVED.false));
     }
 
 pub returns-clause-free : goal.returns-clause-free

@@ -1,10 +1,10 @@
 use Rattle.goal_words.specs.declared.request.RunView.TheVariants.{Printed}
-use Rattle.goal_views.proofs.ForCallers.{one_shown}
-use Rattle.goal_cli.proofs.OutputLemmas.{same_output, compiled_again, as_sim}
+use Rattle.goal_views.proofs.ForCallers.{shown_run_is_unique}
+use Rattle.goal_cli.proofs.OutputLemmas.{same_output, compiled_again, nodes_output_is_sim_output}
 use Rattle.goal_cli.proofs.laws.laws_of_outputs.Goals as goal
 
 pub returns-clause-one_run : goal.returns-clause-one_run
-returns-clause-one_run c = one_shown Printed
+returns-clause-one_run c = shown_run_is_unique Printed
 
 pub returns-clause-same_output : goal.returns-clause-same_output
 returns-clause-same_output c =
@@ -14,4 +14,4 @@ pub returns-clause-compiled_again : goal.returns-clause-compiled_again
 returns-clause-compiled_again c = compiled_again
 
 pub returns-clause-alike : goal.returns-clause-alike
-returns-clause-alike c = as_sim c.laws_of_machines.ensures.whole c.laws_of_machines.ensures.alike
+returns-clause-alike c = nodes_output_is_sim_output c.laws_of_machines.ensures.whole c.laws_of_machines.ensures.alike

@@ -3,7 +3,7 @@ use Rattle.goal_limits.specs.declared.limits.TheConstants.{MAX_INPUT}
 use Rattle.goal_binary.specs.declared.layout.Layout.TheVariants.{Packed}
 use Rattle.goal_binary.specs.File.{file}
 use Rattle.goal_binary.specs.Laws.{IsSchedule}
-use Rattle.goal_input.proofs.ForCallers.{file_again, bytes_again}
+use Rattle.goal_input.proofs.ForCallers.{file_reads_as_plans, file_bytes_read_as_plans}
 use Rattle.goal_cli.proofs.output.compile.Goals as goal
 
 pub returns-clause-again : goal.returns-clause-again
@@ -13,4 +13,4 @@ returns-clause-again c =
     let plans = c.args.sched.now in
     let schedule : IsSchedule plans = record { accepted = known.accepted; widths = known.widths } in
     let short : length (file plans) ≤ MAX_INPUT = omega (arith, files.no_longer plans (files.schedules_have_files plans schedule), (files.within_input plans known.counts).1) in
-    bytes_again c.encode.result plans c.encode.ensures.file (file_again plans known.accepted short (files.read_again Packed plans schedule))
+    file_bytes_read_as_plans c.encode.result plans c.encode.ensures.file (file_reads_as_plans plans known.accepted short (files.read_again Packed plans schedule))

@@ -6,7 +6,7 @@ use Rattle.goal_graph.proofs.Ever.{data_paired, served_message}
 use Rattle.goal_graph.proofs.Partners.{partners_mutual, partners_met, listed_partners}
 use Rattle.goal_graph.proofs.Stages.{data_arrived, serve_posted}
 use Rattle.goal_graph.proofs.Waiting.{never_both_wait}
-use Rattle.goal_graph.proofs.Oldest.{oldest_first}
+use Rattle.goal_graph.proofs.Oldest.{oldest_is_first_in_reverse}
 use Rattle.goal_graph.proofs.Members.{member_listed, partner_member, pair_of_member_unique}
 use Rattle.goal_graph.proofs.laws.laws_of_partners.Goals as goal
 
@@ -41,4 +41,4 @@ pub returns-clause-never_both_wait : goal.returns-clause-never_both_wait
 returns-clause-never_both_wait c = never_both_wait
 
 pub returns-clause-read_oldest_first : goal.returns-clause-read_oldest_first
-returns-clause-read_oldest_first c = oldest_first
+returns-clause-read_oldest_first c = oldest_is_first_in_reverse

@@ -1,6 +1,6 @@
 use Rattle.std.proofs.Common.{◌≡◌, ◌≤◌, ◌++◌, take, length, arith, rules, length-append, length-take}
 use Rattle.std.proofs.lemmas.List.{take-append-le}
-use Rattle.goal_base.proofs.ForCallers.{takes_more, takes_same, too_long, later_then, kept_then, counts_then, rose_then}
+use Rattle.goal_base.proofs.ForCallers.{takes_joined_bytes, takes_if_rest_unchanged, too_long, later_is_transitive, keeps_files_is_transitive, same_read_counts_is_transitive, rose_after_same_read_counts}
 use Rattle.goal_input.proofs.IntakeLemmas.{counts_at_end}
 use Rattle.goal_input.proofs.read.read_pieces.Goals as goal
 
@@ -10,7 +10,7 @@ returns-then-count-eq0-clause-taken g c =
     let more = take c.in-Ok.count c.read.new.buf in (
       was.input ++ more,
       omega (arith, length-append was.input more, length-take c.in-Ok.count c.read.new.buf),
-      takes_more _ _ _ _ _ was.takes c.pieces.invariant.later.tells c.in-Ok.ensures.taken,
+      takes_joined_bytes _ _ _ _ _ was.takes c.pieces.invariant.later.tells c.in-Ok.ensures.taken,
     )
 
 pub returns-in_err-intake-clause-taken : goal.returns-in_err-intake-clause-taken
@@ -19,7 +19,7 @@ returns-in_err-intake-clause-taken g c =
     let more = take c.in-Ok.count c.read.new.buf in (
       was.input ++ more,
       omega (arith, length-append was.input more, length-take c.in-Ok.count c.read.new.buf, length-take c.min-room.result c.pieces.buffer, c.read.auto.buf, c.in-Ok.ensures.bound, c.min-room.ensures),
-      takes_more _ _ _ _ _ was.takes c.pieces.invariant.later.tells c.in-Ok.ensures.taken,
+      takes_joined_bytes _ _ _ _ _ was.takes c.pieces.invariant.later.tells c.in-Ok.ensures.taken,
     )
 
 pub pieces-preserved : goal.pieces-preserved
@@ -38,12 +38,12 @@ pieces-preserved g c =
         input = has.input ++ more;
         counted = omega (arith, length-append has.input more, has.counted);
         stands = rw take-append-le at (c.in_ok-intake.ensures has.input has.stands);
-        takes = takes_more _ _ _ _ _ has.takes c.pieces.invariant.later.tells c.in-Ok.ensures.taken;
+        takes = takes_joined_bytes _ _ _ _ _ has.takes c.pieces.invariant.later.tells c.in-Ok.ensures.taken;
       };
-      counts = counts_then old was now c.pieces.invariant.counts record { read_count = c.in-Ok.ensures.call.count; absent_count = c.read.ensures.call.absent_count };
+      counts = same_read_counts_is_transitive old was now c.pieces.invariant.counts record { read_count = c.in-Ok.ensures.call.count; absent_count = c.read.ensures.call.absent_count };
       reading = c.read.ensures.reading;
-      kept = kept_then old was now c.pieces.invariant.later c.pieces.invariant.kept c.read.ensures.call.kept;
-      later = later_then old was now c.pieces.invariant.later c.read.ensures.call.later;
+      kept = keeps_files_is_transitive old was now c.pieces.invariant.later c.pieces.invariant.kept c.read.ensures.call.kept;
+      later = later_is_transitive old was now c.pieces.invariant.later c.read.ensures.call.later;
     }
 
 pub returns-in-Err-Failed-clause-call : goal.returns-in-Err-Failed-clause-call
@@ -52,9 +52,9 @@ returns-in-Err-Failed-clause-call g c =
     let was = g.H.Host.state c.pieces.host in
     let now = g.H.Host.state c.read.new.self in
     record {
-      counts = rose_then old was now c.pieces.invariant.later c.pieces.invariant.counts (search rules);
-      kept = kept_then old was now c.pieces.invariant.later c.pieces.invariant.kept c.read.ensures.call.kept;
-      later = later_then old was now c.pieces.invariant.later c.read.ensures.call.later;
+      counts = rose_after_same_read_counts old was now c.pieces.invariant.later c.pieces.invariant.counts (search rules);
+      kept = keeps_files_is_transitive old was now c.pieces.invariant.later c.pieces.invariant.kept c.read.ensures.call.kept;
+      later = later_is_transitive old was now c.pieces.invariant.later c.read.ensures.call.later;
     }
 
 pub returns-in-Err-NoMemory-clause-call : goal.returns-in-Err-NoMemory-clause-call
@@ -63,9 +63,9 @@ returns-in-Err-NoMemory-clause-call g c =
     let was = g.H.Host.state c.pieces.host in
     let now = g.H.Host.state c.read.new.self in
     record {
-      counts = counts_then old was now c.pieces.invariant.counts record { read_count = search rules; absent_count = c.read.ensures.call.absent_count };
-      kept = kept_then old was now c.pieces.invariant.later c.pieces.invariant.kept c.read.ensures.call.kept;
-      later = later_then old was now c.pieces.invariant.later c.read.ensures.call.later;
+      counts = same_read_counts_is_transitive old was now c.pieces.invariant.counts record { read_count = search rules; absent_count = c.read.ensures.call.absent_count };
+      kept = keeps_files_is_transitive old was now c.pieces.invariant.later c.pieces.invariant.kept c.read.ensures.call.kept;
+      later = later_is_transitive old was now c.pieces.invariant.later c.read.ensures.call.later;
     }
 
 pub returns-then-count-eq0-clause-call : goal.returns-then-count-eq0-clause-call
@@ -75,21 +75,21 @@ returns-then-count-eq0-clause-call g c =
     let now = g.H.Host.state c.read.new.self in
     record {
       counts = counts_at_end c.finish.result old now _ c.pieces.intake c.pieces.invariant.has.input
-          (counts_then old was now c.pieces.invariant.counts record { read_count = c.in-Ok.ensures.call.count; absent_count = c.read.ensures.call.absent_count })
+          (same_read_counts_is_transitive old was now c.pieces.invariant.counts record { read_count = c.in-Ok.ensures.call.count; absent_count = c.read.ensures.call.absent_count })
           c.finish.ensures.input_fault (omega (arith, c.pieces.invariant.has.counted)) c.pieces.invariant.has.stands;
-      kept = kept_then old was now c.pieces.invariant.later c.pieces.invariant.kept c.read.ensures.call.kept;
-      later = later_then old was now c.pieces.invariant.later c.read.ensures.call.later;
+      kept = keeps_files_is_transitive old was now c.pieces.invariant.later c.pieces.invariant.kept c.read.ensures.call.kept;
+      later = later_is_transitive old was now c.pieces.invariant.later c.read.ensures.call.later;
     }
 
 pub returns-in-Err-Failed-clause-taken : goal.returns-in-Err-Failed-clause-taken
 returns-in-Err-Failed-clause-taken g c =
     let has = c.pieces.invariant.has in
-    (has.input, omega (arith, has.counted), takes_same _ _ _ _ has.takes c.pieces.invariant.later.tells (search rules))
+    (has.input, omega (arith, has.counted), takes_if_rest_unchanged _ _ _ _ has.takes c.pieces.invariant.later.tells (search rules))
 
 pub returns-in-Err-NoMemory-clause-taken : goal.returns-in-Err-NoMemory-clause-taken
 returns-in-Err-NoMemory-clause-taken g c =
     let has = c.pieces.invariant.has in
-    (has.input, omega (arith, has.counted), takes_same _ _ _ _ has.takes c.pieces.invariant.later.tells (search rules))
+    (has.input, omega (arith, has.counted), takes_if_rest_unchanged _ _ _ _ has.takes c.pieces.invariant.later.tells (search rules))
 
 pub returns-clause-input_fault : goal.returns-clause-input_fault
 returns-clause-input_fault g c =

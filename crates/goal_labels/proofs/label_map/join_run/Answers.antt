@@ -6,7 +6,7 @@ use Rattle.goal_labels.specs.Entries.{entries_of}
 use Rattle.goal_labels.specs.Indexed.{IsMap}
 use Rattle.goal_labels.specs.Ordered.{AreAscending}
 use Rattle.goal_labels.proofs.EntryLemmas.{IsAt-within}
-use Rattle.goal_labels.proofs.HeldLemmas.{read_label_has_entry, read-length, length-entries_of}
+use Rattle.goal_labels.proofs.HeldLemmas.{read_label_has_entry, read_label_has_1_to_64_bytes, length-entries_of}
 use Rattle.goal_labels.proofs.IndexLemmas.{IsMap-ended, first_of_run_has_no_number}
 use Rattle.goal_labels.proofs.label_map.join_run.Goals as goal
 use Rattle.goal_labels.proofs.label_map.join_run.Goals.{then-after_all-via-then-after_all, then-after_all-via-else-after_all+then-comes_after_last}
@@ -40,7 +40,7 @@ insert-requires-clause-some c =
     let held = c.args.entries.now in
     let first = c.args.first.now in
     let within = first_within bytes held first c.args.ascending c.args.numbers.now c.requires.map c.if-first-ascending.false in
-    (read-length bytes held first c.label_of.result.now _ c.requires.held within c.label_of.ensures).0
+    (read_label_has_1_to_64_bytes bytes held first c.label_of.result.now _ c.requires.held within c.label_of.ensures).0
 
 pub insert-requires-clause-short : goal.insert-requires-clause-short
 insert-requires-clause-short c =
@@ -48,7 +48,7 @@ insert-requires-clause-short c =
     let held = c.args.entries.now in
     let first = c.args.first.now in
     let within = first_within bytes held first c.args.ascending c.args.numbers.now c.requires.map c.if-first-ascending.false in
-    (read-length bytes held first c.label_of.result.now _ c.requires.held within c.label_of.ensures).1
+    (read_label_has_1_to_64_bytes bytes held first c.label_of.result.now _ c.requires.held within c.label_of.ensures).1
 
 pub insert-requires-clause-absent : goal.insert-requires-clause-absent
 insert-requires-clause-absent c =

@@ -3,7 +3,7 @@ use Rattle.std.proofs.lemmas.Option.{slice_get-get_or}
 use Rattle.goal_labels.specs.Entries.{entries_of, IsAt}
 use Rattle.goal_labels.specs.Ordered.{label_cmp}
 use Rattle.goal_labels.proofs.HeldLemmas.{read_label_has_entry}
-use Rattle.goal_labels.proofs.OrderedLemmas.{label_cmp-back, label_cmp-tied, lesser_label_has_lesser_number}
+use Rattle.goal_labels.proofs.OrderedLemmas.{label_cmp_greater_is_less_swapped, label_cmp-tied, lesser_label_has_lesser_number}
 use Rattle.goal_labels.proofs.label_map.search.Goals as goal
 
 -- the middle is among the entries
@@ -60,7 +60,7 @@ loop-low-preserved c =
     let within = middle_within c.loop-low.low c.loop-low.high c.args.ascending c.loop-low-test.true c.loop-low.invariant.within in
     let there : IsAt es read middle =
     read_label_has_entry c.args.bytes.now held middle read _ (omega (arith, within, c.requires.within)) c.label_of.ensures in
-    let less : label_cmp label read ≡ Less = label_cmp-back read label (sym c.order.ensures ∙ c.in-Greater.is) in
+    let less : label_cmp label read ≡ Less = label_cmp_greater_is_less_swapped read label (sym c.order.ensures ∙ c.in-Greater.is) in
     record {
       from = c.loop-low.invariant.from;
       within = omega (arith, within);

@@ -9,10 +9,10 @@ use Rattle.goal_lexer.proofs.scanning.take_open_piece.Goals as goal
 use Rattle.goal_lexer.proofs.scanning.take_open_piece.Goals.{After-take_byte}
 
 -- the stretch before the byte ended no token
-stretched : (c : After-take_byte) →
+scan_of_stretch_ends_no_token : (c : After-take_byte) →
     scan c.args.mode.now c.args.place (take (c.loop-taken.taken + c.take_stretch-taken.result) c.args.piece.now)
     ≡ (c.take_stretch-taken.new.mode, [])
-stretched c =
+scan_of_stretch_ends_no_token c =
     let was = c.loop-taken.invariant in
     scan_sliced c.args.mode.now c.loop-taken.mode c.take_stretch-taken.new.mode c.args.place c.args.piece.now
     c.loop-taken.taken c.take_stretch-taken.result was.within was.quiet c.take_stretch-taken.ensures.quiet
@@ -30,7 +30,7 @@ after_byte : (c : After-take_byte) →
     (get_or c.args.piece.now (c.loop-taken.taken + c.take_stretch-taken.result) 0)
 after_byte c =
     scan_next_byte c.args.mode.now c.take_stretch-taken.new.mode c.args.place c.args.piece.now
-    (c.loop-taken.taken + c.take_stretch-taken.result) (below c) (stretched c)
+    (c.loop-taken.taken + c.take_stretch-taken.result) (below c) (scan_of_stretch_ends_no_token c)
 
 -- the stretch reaches the end of the piece
 pub returns-then-taken-piece : goal.returns-then-taken-piece
@@ -63,7 +63,7 @@ returns-in-Run c =
       below k,
       ap begins_run (drop_more piece taken 0 (below k)) ∙ said.0,
       said.2,
-      (c.take_stretch-taken.new.mode, stretched k, said.1),
+      (c.take_stretch-taken.new.mode, scan_of_stretch_ends_no_token k, said.1),
       said.3,
     )
 

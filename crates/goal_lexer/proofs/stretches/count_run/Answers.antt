@@ -7,28 +7,28 @@ abbrev Before : (ℕ → Bool) → List ℕ → ℕ → Type 0
 Before test bytes n = (k : ℕ) → k < n → test (get_or bytes k 0) ≡ true
 
 -- where the byte at n passes too, each before the next place does
-one_more : (test : ℕ → Bool) (bytes : List ℕ) (n next : ℕ) → next ≡ n + 1 → Before test bytes n →
+passing_extends_by_one : (test : ℕ → Bool) (bytes : List ℕ) (n next : ℕ) → next ≡ n + 1 → Before test bytes n →
     true ≡ test (get_or bytes n 0) → Before test bytes next
-one_more test bytes n next is before at k below = grind (arith, before)
+passing_extends_by_one test bytes n next is before at k below = grind (arith, before)
 
-two_more : (test : ℕ → Bool) (bytes : List ℕ) (n : ℕ) → Before test bytes n → true ≡ test (get_or bytes n 0) →
+passing_extends_by_two : (test : ℕ → Bool) (bytes : List ℕ) (n : ℕ) → Before test bytes n → true ≡ test (get_or bytes n 0) →
     true ≡ test (get_or bytes (n + 1) 0) → Before test bytes (n + 2)
-two_more test bytes n before first second =
-    one_more test bytes (n + 1) (n + 2) (omega arith) (one_more test bytes n (n + 1) (omega arith) before first) second
+passing_extends_by_two test bytes n before first second =
+    passing_extends_by_one test bytes (n + 1) (n + 2) (omega arith) (passing_extends_by_one test bytes n (n + 1) (omega arith) before first) second
 
-three_more : (test : ℕ → Bool) (bytes : List ℕ) (n : ℕ) → Before test bytes n → true ≡ test (get_or bytes n 0) →
+passing_extends_by_three : (test : ℕ → Bool) (bytes : List ℕ) (n : ℕ) → Before test bytes n → true ≡ test (get_or bytes n 0) →
     true ≡ test (get_or bytes (n + 1) 0) → true ≡ test (get_or bytes (n + 2) 0) → Before test bytes (n + 3)
-three_more test bytes n before first second third =
-    one_more test bytes (n + 2) (n + 3) (omega arith) (two_more test bytes n before first second) third
+passing_extends_by_three test bytes n before first second third =
+    passing_extends_by_one test bytes (n + 2) (n + 3) (omega arith) (passing_extends_by_two test bytes n before first second) third
 
 pub returns-then-not-is_run_byte-3-clause-each : goal.returns-then-not-is_run_byte-3-clause-each
 returns-then-not-is_run_byte-3-clause-each c =
-    two_more is_run_byte c.args.bytes.now c.loop-count.count c.loop-count.invariant.each c.if-not-is_run_byte.ensures
+    passing_extends_by_two is_run_byte c.args.bytes.now c.loop-count.count c.loop-count.invariant.each c.if-not-is_run_byte.ensures
     c.if-not-is_run_byte-2.ensures
 
 pub returns-then-not-is_run_byte-4-clause-each : goal.returns-then-not-is_run_byte-4-clause-each
 returns-then-not-is_run_byte-4-clause-each c =
-    three_more is_run_byte c.args.bytes.now c.loop-count.count c.loop-count.invariant.each c.if-not-is_run_byte.ensures
+    passing_extends_by_three is_run_byte c.args.bytes.now c.loop-count.count c.loop-count.invariant.each c.if-not-is_run_byte.ensures
     c.if-not-is_run_byte-2.ensures c.if-not-is_run_byte-3.ensures
 
 pub loop-count-preserved : goal.loop-count-preserved
@@ -36,9 +36,9 @@ loop-count-preserved c =
     let bytes = c.args.bytes.now in
     let n = c.loop-count.count in
     let three =
-    three_more is_run_byte bytes n c.loop-count.invariant.each c.if-not-is_run_byte.ensures c.if-not-is_run_byte-2.ensures
+    passing_extends_by_three is_run_byte bytes n c.loop-count.invariant.each c.if-not-is_run_byte.ensures c.if-not-is_run_byte-2.ensures
     c.if-not-is_run_byte-3.ensures in
     record {
       within = omega (arith, c.loop-count.invariant.within, c.loop-count-test.true);
-      each = one_more is_run_byte bytes (n + 3) (n + 4) (omega arith) three c.if-not-is_run_byte-4.ensures;
+      each = passing_extends_by_one is_run_byte bytes (n + 3) (n + 4) (omega arith) three c.if-not-is_run_byte-4.ensures;
     }

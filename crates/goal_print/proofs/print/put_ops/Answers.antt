@@ -1,16 +1,16 @@
 use Rattle.std.proofs.Common.{◌≡◌, ℕ, ◌+◌, ◌<◌, ◌≤◌, List, ◌++◌, length, get_or, take, drop, sym, ap, ◌∙◌, arith, rules, append_assoc, append-nil}
 use Rattle.std.proofs.lemmas.List.{at_drop_more, at_drop_all}
-use Rattle.goal_base.proofs.ForCallers.{line_behind}
+use Rattle.goal_base.proofs.ForCallers.{line_appended_after_kept_lines}
 use Rattle.goal_graph.specs.declared.plan.Op.{Op}
 use Rattle.goal_graph.specs.declared.plan.Kind.TheVariants.{Calc}
 use Rattle.goal_print.specs.Canonical.{op_line, op_lines}
 use Rattle.goal_print.proofs.print.put_ops.Goals as goal
 
 -- another line
-one_more : (i : ℕ) (os : List Op) (d : Op) (out all : List ℕ) → i < length os → out ++ op_lines i (drop i os) ≡ all
+next_op_line_printed : (i : ℕ) (os : List Op) (d : Op) (out all : List ℕ) → i < length os → out ++ op_lines i (drop i os) ≡ all
     → (out ++ op_line i (get_or os i d)) ++ op_lines (i + 1) (drop (i + 1) os) ≡ all
 unfolding op_lines
-one_more i os d out all within is =
+next_op_line_printed i os d out all within is =
     append_assoc out (op_line i (get_or os i d)) (op_lines (i + 1) (drop (i + 1) os))
     ∙ ap (λ (l : List ℕ). out ++ l) (sym (at_drop_more (op_lines i) os i d within)) ∙ is
 
@@ -25,11 +25,11 @@ loop-number-preserved c =
     let i = c.loop-number.number in
     let ops = c.args.ops.now in
     let lines = c.loop-number.out ++ take c.loop-number.end c.loop-number.lines in
-    let more = one_more i ops none lines _ c.loop-number-test.true c.loop-number.invariant.text in
+    let more = next_op_line_printed i ops none lines _ c.loop-number-test.true c.loop-number.invariant.text in
     record {
       text =
           ap (λ (l : List ℕ). l ++ op_lines (i + 1) (drop (i + 1) ops))
-          (line_behind c.loop-number.out _ (take c.loop-number.end c.loop-number.lines) _ _ (op_line i (get_or ops i none)) c.in_ok-at.ensures.text c.put_op-end.ensures.text) ∙ more;
+          (line_appended_after_kept_lines c.loop-number.out _ (take c.loop-number.end c.loop-number.lines) _ _ (op_line i (get_or ops i none)) c.in_ok-at.ensures.text c.put_op-end.ensures.text) ∙ more;
       within = omega (arith, c.put_op-end.ensures.end, c.in_ok-at.ensures.room);
     }
 

@@ -3,7 +3,7 @@ use Rattle.std.specs.List.{sum_by}
 use Rattle.goal_values.specs.declared.sums.Term.{Term}
 use Rattle.goal_values.specs.Sums.{meaning, IsBelow}
 use Rattle.goal_values.specs.Parts.{values_of_sums}
-use Rattle.goal_values.proofs.Gathering.{with_one, left_below, left_weight, opened_parts, right_below, opened_shares, opened_weight, opened_numbers, taken_shares, taken_last, taken_front}
+use Rattle.goal_values.proofs.Gathering.{sum_by_append_one, left_below, left_weight, opened_parts, right_below, opened_shares, opened_weight, opened_numbers, taken_shares, taken_last, taken_front}
 use Rattle.goal_values.proofs.sums.gather.Goals as goal
 
 pub parts-smaller-in-Made : goal.parts-smaller-in-Made
@@ -33,7 +33,7 @@ parts-preserved-in-One c =
       numbers = taken_front sums i c.parts.opened.items _ g (λ n. n < length (values_of_sums [] sums)) c.parts.invariant.numbers;
       below = left_below sums c.requires.sums i inside;
       same = λ f.
-          omega (arith, taken_shares sums i c.parts.opened.items _ g f, ap (sum_by f) c.in_ok-push-in-One.ensures.items, with_one f c.parts.list.items c.in-One.contribution, ap (λ (t : Term). sum_by f (meaning (values_of_sums [] sums) t)) c.in-One.is, c.parts.invariant.same f);
+          omega (arith, taken_shares sums i c.parts.opened.items _ g f, ap (sum_by f) c.in_ok-push-in-One.ensures.items, sum_by_append_one f c.parts.list.items c.in-One.contribution, ap (λ (t : Term). sum_by f (meaning (values_of_sums [] sums) t)) c.in-One.is, c.parts.invariant.same f);
     }
 
 pub parts-preserved : goal.parts-preserved
@@ -65,5 +65,5 @@ parts-preserved-in-Some c =
       numbers = c.parts.invariant.numbers;
       below = left_below sums c.requires.sums i inside;
       same = λ f.
-          omega (arith, opened_parts sums c.requires.sums i inside f c.parts.part c.in-Made.is, ap (sum_by f) c.in_ok-push-in-Made.ensures.items, with_one f c.parts.list.items c.in-Some.contribution, ap (λ (t : Term). sum_by f (meaning (values_of_sums [] sums) t)) c.in-Some.ensures, c.parts.invariant.same f);
+          omega (arith, opened_parts sums c.requires.sums i inside f c.parts.part c.in-Made.is, ap (sum_by f) c.in_ok-push-in-Made.ensures.items, sum_by_append_one f c.parts.list.items c.in-Some.contribution, ap (λ (t : Term). sum_by f (meaning (values_of_sums [] sums) t)) c.in-Some.ensures, c.parts.invariant.same f);
     }

@@ -12,31 +12,31 @@ use Rattle.goal_words.specs.Words.{Command, command_by, command_in, command_of, 
 use Rattle.goal_words.specs.Requests.{command, IsSized}
 use Rattle.goal_words.specs.Reading.{Parts, numbers_given, words_of, parts_in, none_given, left, listed, are_one_to_three}
 use Rattle.goal_words.proofs.SizeLemmas.{command_by_is_sized}
-use Rattle.goal_words.proofs.PartsLemmas.{command_read, too_few_or_many}
+use Rattle.goal_words.proofs.PartsLemmas.{command_read, command_needs_one_to_three_words}
 use Rattle.goal_words.proofs.line.read_words.Goals as goal
 
-abbrev by_parts : List ℕ → Option Parts → Option Command
-by_parts first o = option_and_then (λ parts. command_by first parts.plain (numbers_given parts.given) parts.given.root) o
+abbrev command_by_parts : List ℕ → Option Parts → Option Command
+command_by_parts first o = option_and_then (λ parts. command_by first parts.plain (numbers_given parts.given) parts.given.root) o
 
 read : (first : List ℕ) (s : String Global) (words all : List (String Global)) (taken : AllowedOptions) (o : Option Parts) → all ≡ s ∷ words → first ≡ string_bytes s
-    → words_of taken ≡ options_of first → o ≡ parts_in taken none_given (map string_bytes words) → command_in all ≡ by_parts first o
+    → words_of taken ≡ options_of first → o ≡ parts_in taken none_given (map string_bytes words) → command_in all ≡ command_by_parts first o
 read first s words all taken o split text same is =
     ap command_in split
-    ∙ (ap (λ w. command_of (w ∷ map string_bytes words)) (sym text) ∙ (command_read taken first (map string_bytes words) same ∙ ap (by_parts first) (sym is)))
+    ∙ (ap (λ w. command_of (w ∷ map string_bytes words)) (sym text) ∙ (command_read taken first (map string_bytes words) same ∙ ap (command_by_parts first) (sym is)))
 
-all_sized : (r : Result Line LineFault) (first : List ℕ) (plain : List (List ℕ)) (params : Numbers) (root : Option ℕ)
+ok_line_is_sized : (r : Result Line LineFault) (first : List ℕ) (plain : List (List ℕ)) (params : Numbers) (root : Option ℕ)
     → IfOk r (λ line. command_by first plain params root ≡ Some (command line)) → IfOk r (λ line. IsSized (command line))
-all_sized (Ok line) first plain params root is = command_by_is_sized first plain params root (command line) is
-all_sized (Err fault) first plain params root is = tt
+ok_line_is_sized (Ok line) first plain params root is = command_by_is_sized first plain params root (command line) is
+ok_line_is_sized (Err fault) first plain params root is = tt
 
 exact : (r : Result Line LineFault) (o : Option Command) → IfOk r (λ line. o ≡ Some (command line)) → o ≡ None → IsErrOf r Bad ⊎ IsErrOf r NoMemory
 exact (Ok line) o is none = let e : None ≡ Some (command line) = sym none ∙ is in absurd cc
 exact (Err Bad) o is none = inl refl
 exact (Err NoMemory) o is none = inr refl
 
-wrong : (first : List ℕ) (o : Option Parts) → IfSome o (λ parts. are_one_to_three parts.plain ≡ false) → by_parts first o ≡ None
+wrong : (first : List ℕ) (o : Option Parts) → IfSome o (λ parts. are_one_to_three parts.plain ≡ false) → command_by_parts first o ≡ None
 wrong first None few = refl
-wrong first (Some parts) few = too_few_or_many first parts.plain (numbers_given parts.given) parts.given.root few
+wrong first (Some parts) few = command_needs_one_to_three_words first parts.plain (numbers_given parts.given) parts.given.root few
 
 pub returns-in-Some-parts-clause-line : goal.returns-in-Some-parts-clause-line
 returns-in-Some-parts-clause-line c =
@@ -47,7 +47,7 @@ returns-in-Some-parts-clause-line c =
 pub returns-in-Some-parts-clause-sized : goal.returns-in-Some-parts-clause-sized
 returns-in-Some-parts-clause-sized c =
     let first = c.as_str-first.result.now in
-    all_sized c.read_line.result first (listed c.in-Some-parts.plain) (numbers_given c.in-Some-parts.given) c.in-Some-parts.given.root c.read_line.ensures.line
+    ok_line_is_sized c.read_line.result first (listed c.in-Some-parts.plain) (numbers_given c.in-Some-parts.given) c.in-Some-parts.given.root c.read_line.ensures.line
 
 pub returns-in-Some-parts-clause-bad : goal.returns-in-Some-parts-clause-bad
 returns-in-Some-parts-clause-bad c =

@@ -1,10 +1,10 @@
 -- Each law is a lemma.
-use Rattle.sim_classes.proofs.ClassLaws.{classes_there, alike_costs, own_inside, one_node_inside}
+use Rattle.sim_classes.proofs.ClassLaws.{class_of_exists, alike_costs, own_inside, one_node_inside}
 use Rattle.sim_classes.proofs.Whole.{machine_whole}
 use Rattle.sim_classes.proofs.laws.laws_of_machines.Goals as goal
 
 pub returns-clause-there : goal.returns-clause-there
-returns-clause-there c = classes_there
+returns-clause-there c = class_of_exists
 
 pub returns-clause-alike : goal.returns-clause-alike
 returns-clause-alike c = alike_costs

@@ -5,7 +5,7 @@ use Rattle.sim_classes.specs.Machine.{machine_with}
 use Rattle.sim_classes.specs.Parts.{pair_class_by}
 use Rattle.sim_classes.specs.Form.{Form, Value, End, read_by_form, triples, with_pair_class, new_target, class_number}
 use Rattle.sim_classes.proofs.Parts.{more_pairs, no_pairs}
-use Rattle.sim_classes.proofs.FormRead.{end_said}
+use Rattle.sim_classes.proofs.FormRead.{end_of_words_gives_machine}
 use Rattle.sim_classes.proofs.Keys.{pair_class_after, pair_class_within}
 use Rattle.sim_classes.proofs.reading.read_pairs.Goals as goal
 
@@ -78,4 +78,4 @@ returns-clause-next c =
     let m = machine_with numbers inside usual nodes (pair_class_by c.loop.pair_classes.entries) in
     c.loop.invariant.0 numbers inside usual nodes few
     ∙ ap (λ (f : Form). read_by_form f c.loop.words.place c.loop.words.words) (no_pairs c.args.count c.loop.counter m (omega (arith, c.loop.invariant.2, c.loop-test.false)))
-    ∙ ap (read_by_form (End m) c.loop.words.place) c.in_ok-end.ensures.next ∙ end_said m c.loop.words.place
+    ∙ ap (read_by_form (End m) c.loop.words.place) c.in_ok-end.ensures.next ∙ end_of_words_gives_machine m c.loop.words.place

@@ -1,6 +1,6 @@
 use Rattle.std.proofs.Common.{sym, ap, ◌∙◌}
 use Rattle.std.proofs.lemmas.Bool.{eq-eqb, ne_eqb}
-use Rattle.sim_cycles.proofs.ReportLemmas.{heads_inside, head_is, knot_made, knots_more, knots_skip, knots_all}
+use Rattle.sim_cycles.proofs.ReportLemmas.{heads_inside, own_head_is_head_in_list, knot_made, knots_more, knots_skip, knots_all}
 use Rattle.sim_cycles.proofs.report.knots.Goals as goal
 use Rattle.sim_cycles.proofs.report.knots.Goals.{then-index-at+in_ok-members+in_ok-push, else-index-at}
 
@@ -16,7 +16,7 @@ loop-at-preserved c =
     let hs = c.in_ok-heads.heads.items in
     let heads = rw c.deref.ensures.value at c.in_ok-heads.ensures in
     let counts = rw c.deref-2.ensures.value at c.in_ok-counts.ensures in
-    let test = head_is list ts hs c.requires.order c.in_ok-targets.ensures heads c.loop-at.at c.index.result.now c.loop-at-test.true c.index.ensures in
+    let test = own_head_is_head_in_list list ts hs c.requires.order c.in_ok-targets.ensures heads c.loop-at.at c.index.result.now c.loop-at-test.true c.index.ensures in
     elim c.if-index-at.branch [
       | then-index-at+in_ok-members+in_ok-push w ↦
           let head = sym test ∙ eq-eqb c.index.result.now c.loop-at.at w.if-index-at.true in

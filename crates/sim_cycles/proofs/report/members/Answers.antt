@@ -1,5 +1,5 @@
 use Rattle.std.proofs.Common.{◌∙◌}
-use Rattle.sim_cycles.proofs.ReportLemmas.{members_begin, members_more, members_all, members_round}
+use Rattle.sim_cycles.proofs.ReportLemmas.{members_begin, members_more, members_all, members_complete_at_first}
 use Rattle.sim_cycles.proofs.report.members.Goals as goal
 use Rattle.sim_cycles.proofs.report.members.Goals.{else-round-test, then-round-test+then-at-first}
 
@@ -23,5 +23,5 @@ returns c =
       | else-round-test w ↦
           members_all c.args.list.now c.args.first c.round.at c.round.counter c.round.ops.items _ w.round-test.false c.round.invariant.rest
       | then-round-test+then-at-first w ↦
-          members_round c.args.list.now c.args.first c.round.at c.round.counter c.round.ops.items _ w.round-test.true w.if-at-first.true c.round.invariant.rest
+          members_complete_at_first c.args.list.now c.args.first c.round.at c.round.counter c.round.ops.items _ w.round-test.true w.if-at-first.true c.round.invariant.rest
     ]

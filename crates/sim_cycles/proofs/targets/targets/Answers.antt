@@ -8,8 +8,8 @@ use Rattle.sim_cycles.proofs.PlacesLemmas.{target_named, target_alone}
 use Rattle.sim_cycles.proofs.targets.targets.Goals as goal
 use Rattle.sim_cycles.proofs.targets.targets.Goals.{in-Some, in-None}
 
-each_more : (list : List Stuck) (ts new : List ℕ) (n j : ℕ) → length ts ≡ n → new ≡ ts ++ j ∷ [] → IsTarget list n j → ((i : ℕ) → i < n → IsTarget list i (target_at ts i)) → (i : ℕ) → i < n + 1 → IsTarget list i (target_at new i)
-each_more list ts new n j long e here each i below =
+each_with_appended_target : (list : List Stuck) (ts new : List ℕ) (n j : ℕ) → length ts ≡ n → new ≡ ts ++ j ∷ [] → IsTarget list n j → ((i : ℕ) → i < n → IsTarget list i (target_at ts i)) → (i : ℕ) → i < n + 1 → IsTarget list i (target_at new i)
+each_with_appended_target list ts new n j long e here each i below =
     rw e (⊎_elim (λ less. subst (IsTarget list i) (sym (get_or_append_left ts (j ∷ []) 0 i (omega arith))) (each i less)) (λ (more : n ≤ i). let same : i ≡ n = omega (arith, more, below) in rw same (subst (IsTarget list n) (sym (get_or_push ts j 0 n long)) here)) (cases_lt i n))
 
 pub place-target-requires-clause-listed : goal.place-target-requires-clause-listed
@@ -19,7 +19,7 @@ place-target-requires-clause-listed c =
 pub loop-at-preserved : goal.loop-at-preserved
 loop-at-preserved c = record {
   long = omega (arith, ap length c.in_ok-push.ensures.items, length_push c.loop-at.targets.items c.match-named.target, c.loop-at.invariant.long);
-  each = each_more c.args.list.now _ _ _ _ c.loop-at.invariant.long c.in_ok-push.ensures.items (elim c.match-named.branch [ in-Some w ↦ rw w.target-is (target_named _ _ _ _ _ c.requires.order c.loop-at-test.true w.place-target.ensures.inside (sym c.named.ensures ∙ w.in-Some.is) w.place-target.ensures.there) | in-None w ↦ rw w.target-is (target_alone _ _ _ c.requires.order c.loop-at-test.true (sym c.named.ensures ∙ w.in-None.is)) ]) c.loop-at.invariant.each;
+  each = each_with_appended_target c.args.list.now _ _ _ _ c.loop-at.invariant.long c.in_ok-push.ensures.items (elim c.match-named.branch [ in-Some w ↦ rw w.target-is (target_named _ _ _ _ _ c.requires.order c.loop-at-test.true w.place-target.ensures.inside (sym c.named.ensures ∙ w.in-Some.is) w.place-target.ensures.there) | in-None w ↦ rw w.target-is (target_alone _ _ _ c.requires.order c.loop-at-test.true (sym c.named.ensures ∙ w.in-None.is)) ]) c.loop-at.invariant.each;
 }
 
 pub returns : goal.returns

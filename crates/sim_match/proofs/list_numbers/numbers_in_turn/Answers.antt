@@ -6,7 +6,7 @@ use Rattle.goal_graph.specs.Schedule.{kind_at}
 use Rattle.sim_match.specs.Patterns.{own_pattern, own_list}
 use Rattle.sim_match.specs.ListNumbers.{coded}
 use Rattle.sim_match.specs.ListOrder.{HaveNumbers}
-use Rattle.sim_match.proofs.InTurn.{have_numbers_after_growth, coded_lists_unchanged_by_growth, own_place}
+use Rattle.sim_match.proofs.InTurn.{have_numbers_after_growth, coded_lists_unchanged_by_growth, own_list_within_patterns}
 use Rattle.sim_match.proofs.list_numbers.numbers_in_turn.Goals as goal
 
 pub loop-id-init : goal.loop-id-init
@@ -21,7 +21,7 @@ loop-id-init c = record {
 
 pub give-requires-clause-within : goal.give-requires-clause-within
 give-requires-clause-within c =
-    own_place c.args.sched.now c.args.patterns.now _ c.own_list-place.result c.own_list-place.ensures
+    own_list_within_patterns c.args.sched.now c.args.patterns.now _ c.own_list-place.result c.own_list-place.ensures
 
 pub loop-id-preserved : goal.loop-id-preserved
 loop-id-preserved c =

@@ -3,12 +3,12 @@ use Rattle.std.proofs.lemmas.List.{map_push, take_all, take_more}
 use Rattle.goal_graph.specs.declared.action.OpId.{OpId}
 use Rattle.sim_match.specs.Patterns.{own_list}
 use Rattle.sim_match.specs.ListNumbers.{coded}
-use Rattle.sim_match.proofs.Numbering.{own_codable}
+use Rattle.sim_match.proofs.Numbering.{own_list_is_codable}
 use Rattle.sim_match.proofs.list_numbers.own_numbers.Goals as goal
 
 pub coded-requires : goal.coded-requires
 coded-requires c =
-    rw c.own_list-number.ensures (own_codable c.args.sched.now c.args.patterns.now _ (omega (arith, c.requires, c.count.ensures.count, c.count.ensures.small)))
+    rw c.own_list-number.ensures (own_list_is_codable c.args.sched.now c.args.patterns.now _ (omega (arith, c.requires, c.count.ensures.count, c.count.ensures.small)))
 
 pub loop-id-preserved : goal.loop-id-preserved
 loop-id-preserved c = record {

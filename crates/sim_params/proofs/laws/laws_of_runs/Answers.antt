@@ -2,7 +2,7 @@
 use Rattle.std.proofs.Common.{Contains}
 use Rattle.sim_params.proofs.Interleavings.{run_is_each_possible, run_interleaving, complete_interleaving, run_length, possible_room}
 use Rattle.sim_params.proofs.Fixed.{end_kept}
-use Rattle.sim_params.proofs.Rise.{times_rise, newest_last, possible_last}
+use Rattle.sim_params.proofs.Rise.{times_rise, newest_is_latest, possible_not_earlier_than_run}
 use Rattle.sim_params.proofs.Unique.{next_unique, run_of_length_unique, one_run_extends_other, complete_run_extends_run, complete_run_unique}
 use Rattle.sim_params.proofs.Exists.{next_or_finished, complete_run_exists}
 use Rattle.goal_graph.proofs.ForCallers.{run_in_turn, in_turn_run}
@@ -29,10 +29,10 @@ pub returns-clause-times_rise : goal.returns-clause-times_rise
 returns-clause-times_rise c = λ plans costs h a b. times_rise plans costs a b h
 
 pub returns-clause-newest_is_last : goal.returns-clause-newest_is_last
-returns-clause-newest_is_last c = λ plans costs h b. newest_last plans costs b h
+returns-clause-newest_is_last c = λ plans costs h b. newest_is_latest plans costs b h
 
 pub returns-clause-possible_is_not_past : goal.returns-clause-possible_is_not_past
-returns-clause-possible_is_not_past c = possible_last
+returns-clause-possible_is_not_past c = possible_not_earlier_than_run
 
 pub returns-clause-one_is_next : goal.returns-clause-one_is_next
 returns-clause-one_is_next c = next_unique

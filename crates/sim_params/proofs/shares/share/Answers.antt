@@ -1,15 +1,15 @@
 use Rattle.std.proofs.Common.{sym, ◌∙◌, arith}
-use Rattle.sim_params.proofs.SharesLemmas.{few_bytes, share_calc, share_recv, share_eager, share_rendezvous}
+use Rattle.sim_params.proofs.SharesLemmas.{send_bytes_within_limit, share_calc, share_recv, share_eager, share_rendezvous}
 use Rattle.sim_params.proofs.shares.share.Goals as goal
 use Rattle.goal_graph.proofs.ForCallers.{kind_from_op}
 
 pub message_share-requires : goal.message_share-requires
 message_share-requires g c =
-    few_bytes c.op.result.now c.in-Send.bytes c.in-Send.to c.in-Send.tag c.op.ensures.value c.in-Send.is
+    send_bytes_within_limit c.op.result.now c.in-Send.bytes c.in-Send.to c.in-Send.tag c.op.ensures.value c.in-Send.is
 
 pub eager-requires : goal.eager-requires
 eager-requires g c =
-    few_bytes c.op.result.now c.in-Send.bytes c.in-Send.to c.in-Send.tag c.op.ensures.value c.in-Send.is
+    send_bytes_within_limit c.op.result.now c.in-Send.bytes c.in-Send.to c.in-Send.tag c.op.ensures.value c.in-Send.is
 
 pub returns-in-Calc : goal.returns-in-Calc
 returns-in-Calc g c =

@@ -5,8 +5,8 @@ use Rattle.sim_stations.specs.Rows.{sides}
 use Rattle.sim_stations.proofs.Sides.{sides_append}
 use Rattle.sim_stations.proofs.rows.sides.Goals as goal
 
-one_more : (pairs : List Pair) (i : ℕ) (p d : Pair) (before half after : List ℕ) → i < length pairs → p ≡ get_or pairs i d → before ≡ sides (take i pairs) → half ≡ before ++ p.cpu ∷ [] → after ≡ half ++ p.side ∷ [] → after ≡ sides (take (i + 1) pairs)
-one_more pairs i p d before half after l is e f g =
+sides_with_next_pair : (pairs : List Pair) (i : ℕ) (p d : Pair) (before half after : List ℕ) → i < length pairs → p ≡ get_or pairs i d → before ≡ sides (take i pairs) → half ≡ before ++ p.cpu ∷ [] → after ≡ half ++ p.side ∷ [] → after ≡ sides (take (i + 1) pairs)
+sides_with_next_pair pairs i p d before half after l is e f g =
     g ∙ ap (λ xs. xs ++ p.side ∷ []) (f ∙ ap (λ xs. xs ++ p.cpu ∷ []) e) ∙ joined ∙ sym (sides_append (take i pairs) (p ∷ [])) ∙ ap (λ q. sides (take i pairs ++ q ∷ [])) is ∙ ap sides (sym (take_more pairs i d l))
   where
     joined : (sides (take i pairs) ++ p.cpu ∷ []) ++ p.side ∷ [] ≡ sides (take i pairs) ++ (p.cpu ∷ p.side ∷ [])
@@ -17,7 +17,7 @@ stations-init c = c.in_ok-numbers.ensures.items
 
 pub stations-preserved : goal.stations-preserved
 stations-preserved c =
-    one_more c.args.pairs.now c.stations.pair-index (get_or c.args.pairs.now c.stations.pair-index (record { cpu = 0; side = 0 })) (record { cpu = 0; side = 0 }) c.stations.numbers.items c.push.new.self.items c.push-in-stations.new.self.items c.stations-test.true refl c.stations.invariant c.in_ok-push.ensures.items c.in_ok-push-2.ensures.items
+    sides_with_next_pair c.args.pairs.now c.stations.pair-index (get_or c.args.pairs.now c.stations.pair-index (record { cpu = 0; side = 0 })) (record { cpu = 0; side = 0 }) c.stations.numbers.items c.push.new.self.items c.push-in-stations.new.self.items c.stations-test.true refl c.stations.invariant c.in_ok-push.ensures.items c.in_ok-push-2.ensures.items
 
 pub returns : goal.returns
 returns c =

@@ -6,8 +6,8 @@ use Rattle.goal_graph.specs.declared.action.Timed.{Timed}
 use Rattle.sim_order.specs.Events.{event_before}
 use Rattle.sim_queue.specs.Item.{Item}
 use Rattle.sim_queue.specs.TopHeap.{placed, IsSlotHeap}
-use Rattle.sim_queue.proofs.ForCallers.{no_key}
-use Rattle.sim_stations.proofs.SlotParts.{before_last, fits, left_noted, left_but, left_heap, left_keys, rest_heap, rest_keys}
+use Rattle.sim_queue.proofs.ForCallers.{no_key_if_item_elsewhere}
+use Rattle.sim_stations.proofs.SlotParts.{take_is_front_and_last, fits, left_noted, left_but, left_heap, left_keys, rest_heap, rest_keys}
 use Rattle.sim_stations.proofs.slot_heaps.erase.Goals as goal
 
 pub returns-in_default-clause-dropped : goal.returns-in_default-clause-dropped
@@ -21,7 +21,7 @@ returns-in_default-clause-dropped g c =
     let heap = c.requires.heap in
     let many : length front ≡ count = length-take-le count items c.requires.room in
     let keys = placed (length places) front in
-    let none = no_key (length places) front places slot c.requires.slot_in heap.noted (c.in_default.ensures.none refl) in
+    let none = no_key_if_item_elsewhere (length places) front places slot c.requires.slot_in heap.noted (c.in_default.ensures.none refl) in
     sym (ap (slice_set keys slot) (sym none) ∙ set-get_or keys slot None)
 
 pub overflow_cast-place : goal.overflow_cast-place
@@ -56,7 +56,7 @@ returns-then-place-left-clause-heap g c =
     let few_left : length rest ≡ count - 1 = length-take-le (count - 1) items (omega (arith, c.requires.room)) in
     let any = there.0 in
     let last = get_or items (count - 1) any in
-    let are : front ≡ rest ++ last ∷ [] = before_last items count last (omega (arith, within)) c.requires.room (slice_get-get_or items (count - 1) any (omega (arith, within, c.requires.room))) in
+    let are : front ≡ rest ++ last ∷ [] = take_is_front_and_last items count last (omega (arith, within)) c.requires.room (slice_get-get_or items (count - 1) any (omega (arith, within, c.requires.room))) in
     let was_last : at ≡ length rest = omega (arith, few_left, c.if-place-left.true) in
     rest_heap front places size heap slot rest last are at there was_last
 
@@ -77,7 +77,7 @@ returns-then-place-left-clause-dropped g c =
     let few_left : length rest ≡ count - 1 = length-take-le (count - 1) items (omega (arith, c.requires.room)) in
     let any = there.0 in
     let last = get_or items (count - 1) any in
-    let are : front ≡ rest ++ last ∷ [] = before_last items count last (omega (arith, within)) c.requires.room (slice_get-get_or items (count - 1) any (omega (arith, within, c.requires.room))) in
+    let are : front ≡ rest ++ last ∷ [] = take_is_front_and_last items count last (omega (arith, within)) c.requires.room (slice_get-get_or items (count - 1) any (omega (arith, within, c.requires.room))) in
     let was_last : at ≡ length rest = omega (arith, few_left, c.if-place-left.true) in
     rest_keys front places size heap slot rest last are at there was_last
 
@@ -147,7 +147,7 @@ settle-requires-clause-noted g c =
     let few_left : length rest ≡ count - 1 = length-take-le (count - 1) items (omega (arith, c.requires.room)) in
     let last = c.index-items-left.result in
     let is_last : slice_get items (count - 1) ≡ Some last = slice_get_read items (length items) (count - 1) last refl (omega (arith, within, c.requires.room)) c.index-items-left.is in
-    let are : front ≡ rest ++ last ∷ [] = before_last items count last (omega (arith, within)) c.requires.room is_last in
+    let are : front ≡ rest ++ last ∷ [] = take_is_front_and_last items count last (omega (arith, within)) c.requires.room is_last in
     let some : at < length rest = omega (arith, few_left, within, c.if-place-left.false) in
     left_noted front places size heap slot rest last are at there some
 
@@ -168,7 +168,7 @@ settle-requires-clause-but g c =
     let few_left : length rest ≡ count - 1 = length-take-le (count - 1) items (omega (arith, c.requires.room)) in
     let last = c.index-items-left.result in
     let is_last : slice_get items (count - 1) ≡ Some last = slice_get_read items (length items) (count - 1) last refl (omega (arith, within, c.requires.room)) c.index-items-left.is in
-    let are : front ≡ rest ++ last ∷ [] = before_last items count last (omega (arith, within)) c.requires.room is_last in
+    let are : front ≡ rest ++ last ∷ [] = take_is_front_and_last items count last (omega (arith, within)) c.requires.room is_last in
     let some : at < length rest = omega (arith, few_left, within, c.if-place-left.false) in
     left_but front places size heap slot rest last are at there some
 
@@ -189,7 +189,7 @@ returns-clause-heap g c =
     let few_left : length rest ≡ count - 1 = length-take-le (count - 1) items (omega (arith, c.requires.room)) in
     let last = c.index-items-left.result in
     let is_last : slice_get items (count - 1) ≡ Some last = slice_get_read items (length items) (count - 1) last refl (omega (arith, within, c.requires.room)) c.index-items-left.is in
-    let are : front ≡ rest ++ last ∷ [] = before_last items count last (omega (arith, within)) c.requires.room is_last in
+    let are : front ≡ rest ++ last ∷ [] = take_is_front_and_last items count last (omega (arith, within)) c.requires.room is_last in
     let some : at < length rest = omega (arith, few_left, within, c.if-place-left.false) in
     let new = c.settle.new.items in
     let ps = c.settle.new.places in
@@ -218,7 +218,7 @@ returns-clause-dropped g c =
     let few_left : length rest ≡ count - 1 = length-take-le (count - 1) items (omega (arith, c.requires.room)) in
     let last = c.index-items-left.result in
     let is_last : slice_get items (count - 1) ≡ Some last = slice_get_read items (length items) (count - 1) last refl (omega (arith, within, c.requires.room)) c.index-items-left.is in
-    let are : front ≡ rest ++ last ∷ [] = before_last items count last (omega (arith, within)) c.requires.room is_last in
+    let are : front ≡ rest ++ last ∷ [] = take_is_front_and_last items count last (omega (arith, within)) c.requires.room is_last in
     let some : at < length rest = omega (arith, few_left, within, c.if-place-left.false) in
     let new = c.settle.new.items in
     let ps = c.settle.new.places in

@@ -1,4 +1,4 @@
-use Rattle.sim_stations.proofs.Joined.{joined_kept, joined_seen, joined_fewer}
+use Rattle.sim_stations.proofs.Joined.{joined_kept, joined_seen, one_fewer_ahead_after_join}
 use Rattle.sim_stations.proofs.station_queue.begin_to_wait.Goals as goal
 
 pub returns-clause-kept : goal.returns-clause-kept
@@ -11,4 +11,4 @@ returns-clause-seen g c =
 
 pub returns-clause-fewer : goal.returns-clause-fewer
 returns-clause-fewer g c =
-    joined_fewer c.args.ahead.now c.args.waiting.now c.args.rows.now c.args.stands.now c.requires.kept c.args.slot c.args.key c.requires.key
+    one_fewer_ahead_after_join c.args.ahead.now c.args.waiting.now c.args.rows.now c.args.stands.now c.requires.kept c.args.slot c.args.key c.requires.key

@@ -2,7 +2,7 @@ use Rattle.std.proofs.Common.{◌≡◌, true, sym, ap, ◌∙◌, subst, arith}
 use Rattle.std.proofs.lemmas.Bool.{ltb-true, ltb-false}
 use Rattle.std.proofs.lemmas.Option.{get_or_from_slice_get}
 use Rattle.sim_stations.specs.Stations.{holds_cpu, both_free, pair_at, AreTimesOf}
-use Rattle.sim_stations.proofs.Times.{due_itself, pair_of_station}
+use Rattle.sim_stations.proofs.Times.{due_event_keeps_its_time, pair_of_station}
 use Rattle.sim_stations.proofs.station_queue.is_held_up.Goals as goal
 
 pub free-free-requires-clause-times : goal.free-free-requires-clause-times
@@ -21,4 +21,4 @@ returns-clause-due g c = λ e.
     let waits : holds_cpu c.args.key.class ≡ true = ap holds_cpu (sym c.class.ensures) ∙ sym c.holds_cpu.ensures ∙ c.if-not-holds_cpu.false in
     let same = get_or_from_slice_get c.args.waiting.now.groups c.args.slot c.group.result 0 c.group.ensures in
     let free = c.free-free.ensures.free ∙ ap (λ s. both_free c.args.rows.now.free (pair_at c.args.rows.now.pairs s)) (sym same) in
-    due_itself c.args.rows.now.free _ c.args.key waits (omega (arith, free, c.time.ensures, ltb-false c.time.result c.free-free.result e))
+    due_event_keeps_its_time c.args.rows.now.free _ c.args.key waits (omega (arith, free, c.time.ensures, ltb-false c.time.result c.free-free.result e))

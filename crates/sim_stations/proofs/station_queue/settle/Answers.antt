@@ -6,7 +6,7 @@ use Rattle.sim_order.specs.Events.{event_before}
 use Rattle.sim_queue.specs.Map.{IsEmptyMap, IsLeast}
 use Rattle.sim_stations.specs.Stations.{both_free, pair_at, AreOfSlots, AreTimesOf}
 use Rattle.sim_stations.proofs.Listed.{listed_exists}
-use Rattle.sim_stations.proofs.Least.{listed, least_found, found_slot, sole_ahead, ahead_slot, row_key, turn_late, slot_within, not_empty, empty_both}
+use Rattle.sim_stations.proofs.Least.{listed, least_found, found_slot, sole_ahead, ahead_slot, row_key, turn_late, slot_within, not_empty, seen_empty_if_both_empty}
 use Rattle.sim_stations.proofs.Times.{pair_of_station}
 use Rattle.sim_stations.proofs.Settling.{settling, times_known_in_loop, waited, waited_less, went_over, over_less}
 use Rattle.sim_stations.proofs.station_queue.settle.Goals as goal
@@ -149,7 +149,7 @@ looks-preserved g c =
 pub returns-clause-none : goal.returns-clause-none
 returns-clause-none g c =
     let both = c.first.ensures.none.0 (ap is_some c.in_default.is) in
-    (λ e. subst IsEmptyMap c.looks.invariant.seen (empty_both c.looks.ahead c.looks.waiting c.looks.rows c.looks.stands c.looks.invariant.kept both.0 both.1), λ e. refl)
+    (λ e. subst IsEmptyMap c.looks.invariant.seen (seen_empty_if_both_empty c.looks.ahead c.looks.waiting c.looks.rows c.looks.stands c.looks.invariant.kept both.0 both.1), λ e. refl)
 
 pub begin_to_wait-requires-clause-late : goal.begin_to_wait-requires-clause-late
 begin_to_wait-requires-clause-late g c = λ station e.

@@ -6,7 +6,7 @@ use Rattle.goal_graph.specs.Action.{plain}
 use Rattle.goal_graph.specs.Fault.{IsOp}
 use Rattle.sim_stuck.specs.StuckList.{with_reason}
 use Rattle.sim_stuck.proofs.ReasonCases.{is_unstarted, picked_exist, firsts_of_unstarted}
-use Rattle.sim_stuck.proofs.Kept.{one_mapped}
+use Rattle.sim_stuck.proofs.Kept.{map_with_next_element}
 use Rattle.sim_stuck.proofs.reasons.with_reasons.Goals as goal
 
 pub of-requires : goal.of-requires
@@ -24,7 +24,7 @@ reason-requires-clause-op g c =
 pub loop-id-preserved : goal.loop-id-preserved
 loop-id-preserved g c =
     let f = with_reason c.args.engine.now.plans (g.C.Costs.model c.args.engine.now.costs) c.args.engine.now.history in
-    one_mapped f c.args.ids.now c.loop-id.id-index (record { rank = 0; op = 0 }) c.loop-id.list.items c.push.new.self.items _ c.loop-id-test.true c.loop-id.invariant c.in_ok-push.ensures.items (ap (λ (why : Why). record { op = get_or c.args.ids.now c.loop-id.id-index (record { rank = 0; op = 0 }); why = why }) c.reason.ensures)
+    map_with_next_element f c.args.ids.now c.loop-id.id-index (record { rank = 0; op = 0 }) c.loop-id.list.items c.push.new.self.items _ c.loop-id-test.true c.loop-id.invariant c.in_ok-push.ensures.items (ap (λ (why : Why). record { op = get_or c.args.ids.now c.loop-id.id-index (record { rank = 0; op = 0 }); why = why }) c.reason.ensures)
 
 pub returns : goal.returns
 returns g c =

@@ -5,14 +5,14 @@ use Rattle.goal_graph.specs.declared.action.OpId.{OpId}
 use Rattle.goal_graph.specs.declared.action.Class.{Class}
 use Rattle.goal_graph.specs.declared.action.Class.TheVariants.{Arrive, Post}
 use Rattle.goal_graph.specs.Action.{Act, happened}
-use Rattle.goal_graph.proofs.ForCallers.{happened_none, happened_not, is_act_op}
+use Rattle.goal_graph.proofs.ForCallers.{happened_none, not_happened_after_other_action, is_act_op}
 use Rattle.sim_match.specs.PostsAndArrivals.{PostsAndArrivals}
 use Rattle.sim_tests.proofs.crossed.find_their_receives.Goals as goal
 
 -- an operation of a lesser number does not change those of greater numbers
 later_fresh : (class other : Class) (rank op i : ℕ) (h : List Act) → op < i → happened class (record { rank = rank; op = i }) h ≡ false → happened class (record { rank = rank; op = i }) (record { class = other; op = record { rank = rank; op = op } } ∷ h) ≡ false
 later_fresh class other rank op i h below fresh =
-    happened_not class (record { rank = rank; op = i }) (record { class = other; op = record { rank = rank; op = op } }) h fresh
+    not_happened_after_other_action class (record { rank = rank; op = i }) (record { class = other; op = record { rank = rank; op = op } }) h fresh
     (false_from_ne_true _ (λ t. absurd (omega (arith, ap (λ (x : OpId). x.op) (is_act_op class (record { rank = rank; op = i }) (record { class = other; op = record { rank = rank; op = op } }) t)))))
 
 pub posts-init : goal.posts-init
@@ -31,7 +31,7 @@ posts-preserved c = record {
       ∙ later_fresh Post Post 1 c.posts.op i c.posts.matcher.actions (omega arith) (c.posts.invariant.fresh i (omega arith));
   none = λ x.
       ap (λ (m : PostsAndArrivals). happened Arrive x m.actions) c.post.ensures.actions
-      ∙ happened_not Arrive x (record { class = Post; op = record { rank = 1; op = c.posts.op } }) c.posts.matcher.actions
+      ∙ not_happened_after_other_action Arrive x (record { class = Post; op = record { rank = 1; op = c.posts.op } }) c.posts.matcher.actions
       (c.posts.invariant.none x) refl;
 }
 

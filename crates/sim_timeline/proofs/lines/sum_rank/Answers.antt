@@ -6,18 +6,18 @@ use Rattle.sim_params.specs.Times.{mate}
 use Rattle.goal_graph.proofs.ForCallers.{is_op_below}
 use Rattle.sim_events.specs.Engine.{start_known, end_known}
 use Rattle.sim_timeline.specs.Pages.{IsSummary, before_rank, is_unmatched_send}
-use Rattle.sim_timeline.proofs.Ranks.{before_more, at_place, place_within}
+use Rattle.sim_timeline.proofs.Ranks.{before_next_rank, at_place, place_within}
 use Rattle.sim_timeline.proofs.TimelineLemmas.{summary_more}
 use Rattle.sim_timeline.proofs.lines.sum_rank.Goals as goal
 
--- at most one more
-at_most_one : (b : Bool) (n i : ℕ) → n ≤ i → n + cond b 1 0 ≤ i + 1
-at_most_one true n i h = omega arith
-at_most_one false n i h = omega arith
+-- a count that grows by at most one stays within a bound that grows by one
+adding_one_if_true_fits : (b : Bool) (n i : ℕ) → n ≤ i → n + cond b 1 0 ≤ i + 1
+adding_one_if_true_fits true n i h = omega arith
+adding_one_if_true_fits false n i h = omega arith
 
-one_or_none : (b : Bool) (n i : ℕ) → n ≤ i → n + cond b 0 1 ≤ i + 1
-one_or_none true n i h = omega arith
-one_or_none false n i h = omega arith
+adding_one_if_false_fits : (b : Bool) (n i : ℕ) → n ≤ i → n + cond b 0 1 ≤ i + 1
+adding_one_if_false_fits true n i h = omega arith
+adding_one_if_false_fits false n i h = omega arith
 
 pub op-requires : goal.op-requires
 op-requires g c =
@@ -52,20 +52,20 @@ loop-op-preserved g c =
     rw (more, c.with-summary.ensures.stuck, c.with-summary.ensures.unmatched, c.with-summary.ensures.finish, start, end, partner)
     (summary_more plans costs h (take count (operations plans)) id c.op.result.now _ _ _ c.loop-op.invariant.0 c.op.ensures.op) in (
       subst (λ (n : ℕ). IsSummary plans costs h (take n (operations plans)) c.with-summary.result.stuck c.with-summary.result.unmatched c.with-summary.result.finish) next made,
-      omega (arith, c.with-summary.ensures.stuck, one_or_none (is_some times.end) c.loop-op.summary.stuck count c.loop-op.invariant.1),
-      omega (arith, c.with-summary.ensures.unmatched, at_most_one (is_unmatched_send (Some c.op.result.now.kind) times.start times.partner) c.loop-op.summary.unmatched count c.loop-op.invariant.2),
+      omega (arith, c.with-summary.ensures.stuck, adding_one_if_false_fits (is_some times.end) c.loop-op.summary.stuck count c.loop-op.invariant.1),
+      omega (arith, c.with-summary.ensures.unmatched, adding_one_if_true_fits (is_unmatched_send (Some c.op.result.now.kind) times.start times.partner) c.loop-op.summary.unmatched count c.loop-op.invariant.2),
     )
 
 pub returns-clause-summary : goal.returns-clause-summary
 returns-clause-summary g c =
     let plans = c.args.sched.now in
-    let all : before_rank plans c.args.rank + c.loop-op.op ≡ before_rank plans (c.args.rank + 1) = omega (arith, before_more plans c.args.rank, c.op_count-op-end.ensures.count, c.loop-op-test.false, c.loop-op.auto.op-end) in
+    let all : before_rank plans c.args.rank + c.loop-op.op ≡ before_rank plans (c.args.rank + 1) = omega (arith, before_next_rank plans c.args.rank, c.op_count-op-end.ensures.count, c.loop-op-test.false, c.loop-op.auto.op-end) in
     subst (λ (n : ℕ). IsSummary plans (g.C.Costs.model c.args.engine.now.costs) c.args.engine.now.history (take n (operations plans)) c.loop-op.summary.stuck c.loop-op.summary.unmatched c.loop-op.summary.finish) all c.loop-op.invariant.0
 
 pub returns-clause-few_stuck : goal.returns-clause-few_stuck
 returns-clause-few_stuck g c =
-    omega (arith, c.loop-op.invariant.1, before_more c.args.sched.now c.args.rank, c.op_count-op-end.ensures.count, c.loop-op-test.false, c.loop-op.auto.op-end)
+    omega (arith, c.loop-op.invariant.1, before_next_rank c.args.sched.now c.args.rank, c.op_count-op-end.ensures.count, c.loop-op-test.false, c.loop-op.auto.op-end)
 
 pub returns-clause-few_unmatched : goal.returns-clause-few_unmatched
 returns-clause-few_unmatched g c =
-    omega (arith, c.loop-op.invariant.2, before_more c.args.sched.now c.args.rank, c.op_count-op-end.ensures.count, c.loop-op-test.false, c.loop-op.auto.op-end)
+    omega (arith, c.loop-op.invariant.2, before_next_rank c.args.sched.now c.args.rank, c.op_count-op-end.ensures.count, c.loop-op-test.false, c.loop-op.auto.op-end)

@@ -1,10 +1,10 @@
 use Rattle.std.proofs.Common.{arith}
-use Rattle.goal_blocks.proofs.SlotRows.{in_ranks, added_inside, added_ordered, added_within, row_adds}
+use Rattle.goal_blocks.proofs.SlotRows.{rank_within_table, added_inside, added_ordered, added_within, row_adds}
 use Rattle.goal_blocks.proofs.slot_table.SlotTable.adds_of.Goals as goal
 
 pub index-of_rank-requires : goal.index-of_rank-requires
 index-of_rank-requires c =
-    let within = in_ranks c.self.inside.sched.now c.args.self.now c.self.inside.ranks.items c.self.view_is c.self.invariant c.args.id c.requires in
+    let within = rank_within_table c.self.inside.sched.now c.args.self.now c.self.inside.ranks.items c.self.view_is c.self.invariant c.args.id c.requires in
     omega (arith, within, c.self.inside.ranks.ok.0)
 
 pub between-requires-clause-inside : goal.between-requires-clause-inside

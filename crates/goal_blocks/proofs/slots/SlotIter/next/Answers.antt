@@ -1,5 +1,5 @@
 use Rattle.std.proofs.Common.{◌<◌, length, refl, ◌∙◌, arith}
-use Rattle.goal_blocks.proofs.SlotRanges.{next_range, next_slot, none_left}
+use Rattle.goal_blocks.proofs.SlotRanges.{next_range, next_slot, no_slot_left_at_end}
 use Rattle.goal_blocks.proofs.slots.SlotIter.next.Goals as goal
 
 pub loop-self-init : goal.loop-self-init
@@ -11,7 +11,7 @@ invariant_of-self c = c.loop-self.invariant.low
 pub returns-in_default : goal.returns-in_default
 returns-in_default c =
     let s = c.loop-self.self-inside in
-    none_left s.ranges.now s.next s.end c.args.self.now (c.loop-self.invariant.left ∙ c.self.view_is) c.in_default.ensures.cases c.loop-self-test.true
+    no_slot_left_at_end s.ranges.now s.next s.end c.args.self.now (c.loop-self.invariant.left ∙ c.self.view_is) c.in_default.ensures.cases c.loop-self-test.true
 
 pub loop-self-smaller : goal.loop-self-smaller
 loop-self-smaller c =

@@ -3,7 +3,7 @@ use Rattle.std.specs.Vec.Iter.{into_iter_items}
 use Rattle.std.proofs.lemmas.List.Elements.{All-rest, All-head, All-same}
 use Rattle.goal_blocks.specs.Values.{Contribution}
 use Rattle.goal_blocks.specs.Stored.{values, written_at, lists_of, IsSorted}
-use Rattle.goal_blocks.proofs.Writes.{write_first, write_none, light_next}
+use Rattle.goal_blocks.proofs.Writes.{write_first, write_none, weight_within_limit_after_write}
 use Rattle.goal_blocks.proofs.store.Store.fill.Goals as goal
 
 pub loop-value-preserved : goal.loop-value-preserved
@@ -23,7 +23,7 @@ loop-value-preserved c =
       c.in-Ok.ensures.ranks ∙ inv.5,
       All-rest (λ k. IsSome (written_at c.args.self.now (c.args.rank, k))) slot c.next-in-loop-value.new.self c.loop-value.left first inv.6,
       (λ k some. c.in-Ok.ensures.still k (inv.7 k some)),
-      light_next c.loop-value.self.ranks c.put.new.self.ranks c.args.rank slot c.in-Some.value.items (lists_of (into_iter_items c.next.new.self)) _ (values c.loop-value.self) (values c.put.new.self) lists c.in-Ok.ensures.set c.in-Ok.ensures.ranks (omega (arith, inv.5, c.requires.rank)) low inv.8,
+      weight_within_limit_after_write c.loop-value.self.ranks c.put.new.self.ranks c.args.rank slot c.in-Some.value.items (lists_of (into_iter_items c.next.new.self)) _ (values c.loop-value.self) (values c.put.new.self) lists c.in-Ok.ensures.set c.in-Ok.ensures.ranks (omega (arith, inv.5, c.requires.rank)) low inv.8,
       omega (arith, c.in-Some.ensures.steps.1, many, inv.9),
     )
 

@@ -1,5 +1,5 @@
 use Rattle.std.proofs.Common.{◌∙◌}
-use Rattle.goal_blocks.proofs.StoreFacts.{value_there, first_there, read_contribution, sorted_there, sorted_from}
+use Rattle.goal_blocks.proofs.StoreFacts.{value_there, first_there, read_contribution, sorted_there, sorted_at_equal_value}
 use Rattle.goal_blocks.proofs.store.Store.value_at.Goals as goal
 
 pub returns-in-Some-clause-value : goal.returns-in-Some-clause-value
@@ -8,7 +8,7 @@ returns-in-Some-clause-value c =
 
 pub returns-in-Some-clause-sorted : goal.returns-in-Some-clause-sorted
 returns-in-Some-clause-sorted c =
-    sorted_from _ _ (returns-in-Some-clause-value c) (sorted_there c.self.inside.what c.self.inside.ranks c.self.inside.written c.args.self.now c.self.view_is c.args.rank c.args.slot c.self.inside.held c.self.invariant)
+    sorted_at_equal_value _ _ (returns-in-Some-clause-value c) (sorted_there c.self.inside.what c.self.inside.ranks c.self.inside.written c.args.self.now c.self.view_is c.args.rank c.args.slot c.self.inside.held c.self.invariant)
 
 pub returns-in-None-clause-value : goal.returns-in-None-clause-value
 returns-in-None-clause-value c =

@@ -4,14 +4,14 @@ use Rattle.std.proofs.lemmas.List.Elements.{All-more, Contains-get_or}
 use Rattle.goal_graph.specs.declared.plan.Need.{Need}
 use Rattle.goal_graph.specs.declared.plan.When.TheVariants.{AfterEnd}
 use Rattle.goal_graph.specs.Schedule.{needs, needed, ops_at}
-use Rattle.goal_certify.proofs.Before.{below_of_op}
+use Rattle.goal_certify.proofs.Before.{op_number_below_op_count}
 use Rattle.goal_certify.proofs.races.before.first_missing.Goals as goal
 
 pub bounds-done-need : goal.bounds-done-need
 bounds-done-need c =
     let e : Need = record { op = 0; when = AfterEnd } in
     let d : Need = slice_index_or c.needs-need-items.result.now c.loop-need.need-index e in
-    let below : d.op < length (ops_at c.args.sched.now c.args.id.rank) = below_of_op c.args.sched.now (needed c.args.id d) (c.needs-need-items.ensures.exist c.loop-need.need-index e (omega arith)) in
+    let below : d.op < length (ops_at c.args.sched.now c.args.id.rank) = op_number_below_op_count c.args.sched.now (needed c.args.id d) (c.needs-need-items.ensures.exist c.loop-need.need-index e (omega arith)) in
     omega arith
 
 pub loop-need-preserved : goal.loop-need-preserved

@@ -3,22 +3,22 @@ use Rattle.std.proofs.lemmas.List.{take_all}
 use Rattle.goal_graph.specs.declared.plan.Need.{Need}
 use Rattle.goal_graph.specs.declared.plan.When.TheVariants.{AfterEnd}
 use Rattle.goal_graph.specs.Schedule.{ops_at, needs, needed}
-use Rattle.goal_certify.proofs.Before.{below_of_op, next_rows, next_need, row_done}
+use Rattle.goal_certify.proofs.Before.{op_number_below_op_count, rows_after_next_need, needs_taken_with_next, row_done}
 use Rattle.goal_certify.proofs.races.before.gather.Goals as goal
 
 pub take-requires-clause-op : goal.take-requires-clause-op
-take-requires-clause-op c = omega (arith, below_of_op c.args.sched.now c.args.id c.requires.exists)
+take-requires-clause-op c = omega (arith, op_number_below_op_count c.args.sched.now c.args.id c.requires.exists)
 
 pub take-requires-clause-needed : goal.take-requires-clause-needed
 take-requires-clause-needed c =
     let d : Need = slice_index_or c.needs-need-items.result.now c.loop-need.need-index (record { op = 0; when = AfterEnd }) in
-    let below : d.op < length (ops_at c.args.sched.now c.args.id.rank) = below_of_op c.args.sched.now (needed c.args.id d) (c.needs-need-items.ensures.exist c.loop-need.need-index _ (omega arith)) in
+    let below : d.op < length (ops_at c.args.sched.now c.args.id.rank) = op_number_below_op_count c.args.sched.now (needed c.args.id d) (c.needs-need-items.ensures.exist c.loop-need.need-index _ (omega arith)) in
     omega arith
 
 pub take-requires-clause-few : goal.take-requires-clause-few
 take-requires-clause-few c =
     let d : Need = slice_index_or c.needs-need-items.result.now c.loop-need.need-index (record { op = 0; when = AfterEnd }) in
-    let below : d.op < length (ops_at c.args.sched.now c.args.id.rank) = below_of_op c.args.sched.now (needed c.args.id d) (c.needs-need-items.ensures.exist c.loop-need.need-index _ (omega arith)) in
+    let below : d.op < length (ops_at c.args.sched.now c.args.id.rank) = op_number_below_op_count c.args.sched.now (needed c.args.id d) (c.needs-need-items.ensures.exist c.loop-need.need-index _ (omega arith)) in
     omega arith
 
 pub take-requires-clause-low : goal.take-requires-clause-low
@@ -34,11 +34,11 @@ loop-need-preserved c =
     let d : Need = slice_index_or c.needs-need-items.result.now i e in
     let same : d ≡ slice_index_or (needs plans c.args.id) i e = ap (λ ns. slice_index_or ns i e) c.needs-need-items.ensures.needs in
     let inside : i < length (needs plans c.args.id) = omega (arith, ap length c.needs-need-items.ensures.needs) in
-    let below : d.op < length (ops_at plans c.args.id.rank) = below_of_op plans (needed c.args.id d) (c.needs-need-items.ensures.exist i e (omega arith)) in
+    let below : d.op < length (ops_at plans c.args.id.rank) = op_number_below_op_count plans (needed c.args.id d) (c.needs-need-items.ensures.exist i e (omega arith)) in
     let is_done : slice_index_or c.args.done.now d.op false ≡ true = subst (λ (n : Need). slice_index_or c.args.done.now n.op false ≡ true) (sym same) (c.requires.needs i e inside) in
     record {
-      rows = next_rows plans c.args.id c.loop-need.rows c.take.new.rows _ c.loop-need.invariant.rows c.take.ensures.keeps i e d same inside (below_of_op plans c.args.id c.requires.exists) below c.take.ensures.no_more;
-      row = next_need plans c.args.id c.loop-need.rows c.take.new.rows _ c.loop-need.invariant.rows c.take.ensures.keeps i e d same inside is_done c.take.ensures.adds c.take.ensures.ends c.loop-need.invariant.row;
+      rows = rows_after_next_need plans c.args.id c.loop-need.rows c.take.new.rows _ c.loop-need.invariant.rows c.take.ensures.keeps i e d same inside (op_number_below_op_count plans c.args.id c.requires.exists) below c.take.ensures.no_more;
+      row = needs_taken_with_next plans c.args.id c.loop-need.rows c.take.new.rows _ c.loop-need.invariant.rows c.take.ensures.keeps i e d same inside is_done c.take.ensures.adds c.take.ensures.ends c.loop-need.invariant.row;
     }
 
 pub returns-clause-row : goal.returns-clause-row

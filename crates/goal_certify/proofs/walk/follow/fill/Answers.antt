@@ -3,7 +3,7 @@ use Rattle.std.proofs.lemmas.Option.{slice_get_within}
 use Rattle.goal_graph.specs.declared.action.OpId.{OpId}
 use Rattle.goal_graph.specs.Schedule.{Plan, operations}
 use Rattle.goal_graph.specs.Fault.{IsOp}
-use Rattle.goal_certify.proofs.Queue.{refreshed, fewer_due, all_due, next_due}
+use Rattle.goal_certify.proofs.Queue.{queue_after_refresh, fewer_due, all_due, next_due}
 use Rattle.goal_certify.proofs.walk.follow.fill.Goals as goal
 
 abbrev none : OpId
@@ -26,7 +26,7 @@ loop-id-preserved c =
     let plans = c.args.state.now.plans in
     let items = c.operations-id-items.ensures.all ∙ ap (λ (ps : List Plan). operations ps) c.sched.ensures in
     let k = c.loop-id.id-index in
-    refreshed plans _ _ _ _ _ _ c.loop-id.invariant c.fill_one.ensures (λ slot y at due differ. next_due plans c.operations-id-items.result.now items k none slot y at due differ)
+    queue_after_refresh plans _ _ _ _ _ _ c.loop-id.invariant c.fill_one.ensures (λ slot y at due differ. next_due plans c.operations-id-items.result.now items k none slot y at due differ)
 
 pub returns : goal.returns
 returns c =

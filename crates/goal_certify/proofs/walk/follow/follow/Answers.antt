@@ -1,5 +1,5 @@
 use Rattle.std.proofs.Common.{inl, inr}
-use Rattle.goal_certify.proofs.Queue.{refreshed}
+use Rattle.goal_certify.proofs.Queue.{queue_after_refresh}
 use Rattle.goal_certify.proofs.walk.follow.follow.Goals as goal
 
 pub follow_own-requires : goal.follow_own-requires
@@ -9,5 +9,5 @@ pub follow_partner-requires : goal.follow_partner-requires
 follow_partner-requires c = record {
   exists = c.requires.exists;
   newest = c.requires.newest;
-  rest = refreshed _ _ _ _ _ _ _ c.requires.rest c.follow_own.ensures (λ slot y at due differ. elim due [ inl same ↦ absurd (differ same) | inr rest ↦ rest ]);
+  rest = queue_after_refresh _ _ _ _ _ _ _ c.requires.rest c.follow_own.ensures (λ slot y at due differ. elim due [ inl same ↦ absurd (differ same) | inr rest ↦ rest ]);
 }

@@ -5,7 +5,7 @@ use Rattle.goal_graph.specs.Matching.{pairs, partner}
 use Rattle.goal_graph.specs.Fault.{IsOp}
 use Rattle.goal_graph.proofs.ForCallers.{partner_exists}
 use Rattle.goal_certify.proofs.Chosen.{partner_acts}
-use Rattle.goal_certify.proofs.Queue.{put_key, refreshed, fewer_due}
+use Rattle.goal_certify.proofs.Queue.{put_key, queue_after_refresh, fewer_due}
 use Rattle.goal_certify.proofs.walk.follow.follow_partner.Goals as goal
 
 pub index-requires : goal.index-requires
@@ -27,7 +27,7 @@ returns c =
     let is : Some y ≡ partner (pairs plans h) x = sym c.in-Some.is ∙ c.partner.ensures in
     let acts = partner_acts plans h x c.known.ensures.each c.args.action.class c.requires.newest (sym c.moves_partner.ensures ∙ c.if-not-moves_partner.false) y (sym is) in
     let put = put_key plans h y _ c.index.result _ _ _ c.sched.ensures c.index.ensures.index (refl, acts) c.put.ensures in
-    refreshed _ _ _ _ _ _ _ c.requires.rest put (λ slot z at due differ. elim due [ inl e ↦ absurd (differ (sym (same_Some y z (is ∙ e.1)))) | inr w ↦ w ])
+    queue_after_refresh _ _ _ _ _ _ _ c.requires.rest put (λ slot z at due differ. elim due [ inl e ↦ absurd (differ (sym (same_Some y z (is ∙ e.1)))) | inr w ↦ w ])
 
 pub returns-in_default : goal.returns-in_default
 returns-in_default c =

@@ -11,7 +11,7 @@ use Rattle.goal_blocks.specs.Weight.{stored}
 use Rattle.goal_blocks.proofs.ForCallers.{stored_exchanged}
 use Rattle.goal_certify.specs.Carried.{values_of_parcels, IsCarrying}
 use Rattle.goal_certify.specs.Stages.{IsFirstOf}
-use Rattle.goal_certify.proofs.Started.{holding_at_start, left_at_end, started_heavy, stopped_over}
+use Rattle.goal_certify.proofs.Started.{holding_at_start, left_at_end, started_heavy, no_memory_or_first_fault_if_over}
 use Rattle.goal_certify.proofs.walk.outcome.final_values.Goals as goal
 
 pub returns-then-held-gt-MAX_WEIGHT-clause-fault : goal.returns-then-held-gt-MAX_WEIGHT-clause-fault
@@ -49,7 +49,7 @@ returns-in-Err-clause-fault c =
     let light = subst (λ (n : ℕ). n ≤ weight_limit) size c.if-held-gt-MAX_WEIGHT.false in
     let held = holding_at_start plans first c.new-store.result c.in_ok-parcels.parcels.items values ranks none light c.args.walker.now.history c.requires.start in
     let w = c.carry.new.walker in
-    let stopped = stopped_over w.plans first w.history c.in-Err.fault c.known.ensures.each c.known.ensures.first (c.in-Err.ensures.over first held) in
+    let stopped = no_memory_or_first_fault_if_over w.plans first w.history c.in-Err.fault c.known.ensures.each c.known.ensures.first (c.in-Err.ensures.over first held) in
     subst (λ (ps : List Plan). (c.in-Err.fault ≡ NoMemory) ⊎ ((wanted : ℕ → ℕ → Value → Bool) → IsFirstOf ps first wanted 7 9 c.in-Err.fault)) c.carry.ensures.plans stopped
 
 pub returns-clause-left : goal.returns-clause-left

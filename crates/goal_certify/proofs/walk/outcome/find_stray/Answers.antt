@@ -3,7 +3,7 @@ use Rattle.std.proofs.Common.{List, length, sym, ap, subst}
 use Rattle.goal_graph.specs.Schedule.{Plan}
 use Rattle.goal_blocks.specs.Certification.{HasEqualLengths}
 use Rattle.goal_certify.specs.Left.{IsLeftIn, IsTooMuchIn}
-use Rattle.goal_certify.proofs.Apart.{only_memory, none_answer, some_answer}
+use Rattle.goal_certify.proofs.Apart.{certified_fault_is_no_memory, none_answer, some_answer}
 use Rattle.goal_certify.proofs.walk.outcome.find_stray.Goals as goal
 
 pub final_values-requires-clause-lengths : goal.final_values-requires-clause-lengths
@@ -24,4 +24,4 @@ returns-in-Ok-final_values-clause-some c =
 
 pub returns-clause-fault : goal.returns-clause-fault
 returns-clause-fault c =
-    only_memory c.args.sched.now c.args.what c.args.segment.width c.args.count c.args.segment.block c.laws_of_faults.ensures.fault_excludes_certified c.requires.certified c.in-Err.fault (subst (λ (ps : List Plan). IsTooMuchIn c.args.what c.args.segment ps c.in-Err.fault) c.in-Ok.ensures.plans c.in-Err.ensures.fault)
+    certified_fault_is_no_memory c.args.sched.now c.args.what c.args.segment.width c.args.count c.args.segment.block c.laws_of_faults.ensures.fault_excludes_certified c.requires.certified c.in-Err.fault (subst (λ (ps : List Plan). IsTooMuchIn c.args.what c.args.segment ps c.in-Err.fault) c.in-Ok.ensures.plans c.in-Err.ensures.fault)

@@ -9,8 +9,8 @@ abbrev none : OpId
 none = record { rank = 0; op = 0 }
 
 -- the operation that is read, in the list of the plans of the walker
-read_at : (items : List OpId) (plans known : List Plan) (k : _) → items ≡ operations known → plans ≡ known → slice_get items k ≡ Some (get_or items k none) → slice_get (operations plans) k ≡ Some (get_or items k none)
-read_at items plans known k are same at =
+slice_get_of_equal_plans : (items : List OpId) (plans known : List Plan) (k : _) → items ≡ operations known → plans ≡ known → slice_get items k ≡ Some (get_or items k none) → slice_get (operations plans) k ≡ Some (get_or items k none)
+slice_get_of_equal_plans items plans known k are same at =
     sym (ap (λ (xs : List OpId). slice_get xs k) (are ∙ ap (λ (ps : List Plan). operations ps) (sym same))) ∙ at
 
 pub returns-then-not-has_ended-clause-fault : goal.returns-then-not-has_ended-clause-fault
@@ -18,7 +18,7 @@ returns-then-not-has_ended-clause-fault c =
     let w = c.args.walker.now in
     let items = c.operations-id-items.result.now in
     let k = c.loop-id.id-index in
-    let at = read_at items w.plans c.sched.result.now k c.operations-id-items.ensures.all (sym c.sched.ensures) (slice_get-get_or items k none c.loop-id-test.true) in
+    let at = slice_get_of_equal_plans items w.plans c.sched.result.now k c.operations-id-items.ensures.all (sym c.sched.ensures) (slice_get-get_or items k none c.loop-id-test.true) in
     stalled w.plans w.history c.requires k (get_or items k none) c.loop-id.invariant at (sym c.has_ended.ensures ∙ c.if-not-has_ended.true)
 
 pub loop-id-preserved : goal.loop-id-preserved
@@ -26,7 +26,7 @@ loop-id-preserved c =
     let w = c.args.walker.now in
     let items = c.operations-id-items.result.now in
     let k = c.loop-id.id-index in
-    let at = read_at items w.plans c.sched.result.now k c.operations-id-items.ensures.all (sym c.sched.ensures) (slice_get-get_or items k none c.loop-id-test.true) in
+    let at = slice_get_of_equal_plans items w.plans c.sched.result.now k c.operations-id-items.ensures.all (sym c.sched.ensures) (slice_get-get_or items k none c.loop-id-test.true) in
     end_more w.plans w.history k (get_or items k none) c.loop-id.invariant at (sym c.has_ended.ensures ∙ c.if-not-has_ended.false)
 
 pub returns-clause-free : goal.returns-clause-free

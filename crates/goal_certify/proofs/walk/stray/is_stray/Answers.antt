@@ -2,7 +2,7 @@
 use Rattle.std.proofs.Common.{◌-◌, ◌+◌, ◌*◌, ◌<◌, ◌≤◌, ◌⊎◌, inl, inr, sym, ◌∙◌, arith}
 use Rattle.std.proofs.lemmas.Bool.{ltb-false}
 use Rattle.goal_values.specs.Kept.{values}
-use Rattle.goal_certify.proofs.Apart.{stray_is}
+use Rattle.goal_certify.proofs.Apart.{nonempty_iff_not_keeps_out}
 use Rattle.goal_certify.proofs.walk.stray.is_stray.Goals.{then-slot-from, else-slot-from}
 use Rattle.goal_certify.proofs.walk.stray.is_stray.Goals as goal
 
@@ -14,4 +14,4 @@ outside c = elim c.if-slot-from.branch [
 
 pub returns-then-not-is_own : goal.returns-then-not-is_own
 returns-then-not-is_own c =
-    stray_is c.args.segment.width c.args.count c.args.segment.block c.args.rank c.args.slot c.size_at.result (values c.args.store.now.kept c.args.rank c.args.slot) c.size_at.ensures.size c.requires.inside (outside c)
+    nonempty_iff_not_keeps_out c.args.segment.width c.args.count c.args.segment.block c.args.rank c.args.slot c.size_at.result (values c.args.store.now.kept c.args.rank c.args.slot) c.size_at.ensures.size c.requires.inside (outside c)

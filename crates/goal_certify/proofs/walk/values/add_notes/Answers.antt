@@ -3,9 +3,9 @@ use Rattle.goal_limits.specs.Limits.{weight_limit}
 use Rattle.goal_blocks.specs.declared.slots.Adding.{Adding}
 use Rattle.goal_blocks.specs.Values.{merge, set_slot}
 use Rattle.goal_values.specs.Kept.{values}
-use Rattle.goal_values.proofs.ForCallers.{grown_same, grown_more}
+use Rattle.goal_values.proofs.ForCallers.{has_grown_reflexive, has_grown_transitive}
 use Rattle.goal_certify.proofs.Places.{rank_below}
-use Rattle.goal_certify.proofs.SlotFacts.{adds_low, none_added, added_next, added_over}
+use Rattle.goal_certify.proofs.SlotFacts.{adds_low, notes_added_at_start, added_next, added_over}
 use Rattle.goal_certify.proofs.walk.values.add_notes.Goals as goal
 
 abbrev none : Adding
@@ -13,8 +13,8 @@ none = record { from = 0; to = 0 }
 
 pub loop-adding-init : goal.loop-adding-init
 loop-adding-init c = record {
-  added = none_added _ _ _ _ _ c.requires.light;
-  grown = grown_same c.args.store.now.sums;
+  added = notes_added_at_start _ _ _ _ _ c.requires.light;
+  grown = has_grown_reflexive c.args.store.now.sums;
 }
 
 pub size_at-requires : goal.size_at-requires
@@ -50,5 +50,5 @@ loop-adding-preserved c =
     let put = c.in-Ok.ensures.added ∙ ap (λ (xs : List Adding). set_slot rank (get_or xs k none).to (merge (now rank (get_or xs k none).to) (now rank (get_or xs k none).from)) now) items in
     record {
       added = added_next _ _ _ _ now _ _ k c.loop-adding.invariant.added none inside below (adds_low c.args.table.now c.requires.small c.args.calc c.requires.exists) c.size_at.result _ size (ap (λ (n : ℕ). n + c.args.others + c.size_at.result) c.held.ensures) few (values c.add.new.self.kept) c.add.new.self.kept.ranks put c.add.ensures.ranks;
-      grown = grown_more c.args.store.now.sums c.loop-adding.store.sums c.add.new.self.sums c.loop-adding.invariant.grown c.add.ensures.grown;
+      grown = has_grown_transitive c.args.store.now.sums c.loop-adding.store.sums c.add.new.self.sums c.loop-adding.invariant.grown c.add.ensures.grown;
     }

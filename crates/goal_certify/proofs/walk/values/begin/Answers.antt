@@ -12,12 +12,12 @@ use Rattle.goal_values.specs.Kept.{values}
 use Rattle.goal_certify.specs.WalkSoFar.{act_of}
 use Rattle.goal_certify.proofs.Holding.{holding_grown}
 use Rattle.goal_certify.specs.Carried.{values_of_parcels, AddsOver, AddsWithin}
-use Rattle.goal_certify.proofs.Applied.{both_ok, err_map, over_map, now, op_there, light_before, begun_calc, begun_over, begun_send}
+use Rattle.goal_certify.proofs.Applied.{on_ok_combined, err_map, over_map, now, op_of_newest_exists, light_before, begun_calc, begun_over, begun_send}
 use Rattle.goal_certify.proofs.walk.values.begin.Goals as goal
 
 pub op-requires : goal.op-requires
 op-requires c =
-    subst (λ (ps : List Plan). IsOp ps c.args.action.op) (sym c.sched.ensures) (op_there _ _ (act_of c.args.action) c.requires.taken.newest c.known.ensures.each)
+    subst (λ (ps : List Plan). IsOp ps c.args.action.op) (sym c.sched.ensures) (op_of_newest_exists _ _ (act_of c.args.action) c.requires.taken.newest c.known.ensures.each)
 
 pub add_notes-requires-clause-light : goal.add_notes-requires-clause-light
 add_notes-requires-clause-light c =
@@ -40,7 +40,7 @@ returns-in-Calc-clause-follows c =
     let s = c.args.held.now.store in
     let is = sym (ap (λ (ps : List Plan). op_at ps x) c.sched.ensures) ∙ c.op.ensures.op in
     let calc : IsCalc plans x = record { nanos = c.in-Calc.nanos; kind = kind_from_op plans x c.op.result.now _ is c.in-Calc.is } in
-    both_ok _ _ _ c.add_notes.result (λ p q first so_far. holding_grown plans first c.args.walker.now.history c.args.held.now.parcels.items s c.add_notes.new.store (drop 1 c.args.walker.now.history) c.args.held.now.carried c.args.held.now.carried so_far c.add_notes.ensures.grown (begun_calc plans c.args.walker.now.history (act_of c.args.action) c.requires.taken.newest c.known.ensures.each first s.kept (values_of_parcels s.sums c.args.held.now.parcels.items) c.args.held.now.carried so_far.carrying c.requires.class calc c.add_notes.new.store.kept (p ∙ ap (λ (ps : List Plan). add_all x.rank (adds ps x) (values s.kept)) c.requires.taken.table_is) c.add_notes.ensures.ranks (subst (λ (ps : List Plan). AddsWithin s.kept.ranks x.rank (adds ps x) (values s.kept) c.args.held.now.carried) c.requires.taken.table_is q))) c.add_notes.ensures.added c.add_notes.ensures.within
+    on_ok_combined _ _ _ c.add_notes.result (λ p q first so_far. holding_grown plans first c.args.walker.now.history c.args.held.now.parcels.items s c.add_notes.new.store (drop 1 c.args.walker.now.history) c.args.held.now.carried c.args.held.now.carried so_far c.add_notes.ensures.grown (begun_calc plans c.args.walker.now.history (act_of c.args.action) c.requires.taken.newest c.known.ensures.each first s.kept (values_of_parcels s.sums c.args.held.now.parcels.items) c.args.held.now.carried so_far.carrying c.requires.class calc c.add_notes.new.store.kept (p ∙ ap (λ (ps : List Plan). add_all x.rank (adds ps x) (values s.kept)) c.requires.taken.table_is) c.add_notes.ensures.ranks (subst (λ (ps : List Plan). AddsWithin s.kept.ranks x.rank (adds ps x) (values s.kept) c.args.held.now.carried) c.requires.taken.table_is q))) c.add_notes.ensures.added c.add_notes.ensures.within
 
 pub returns-in-Calc-clause-over : goal.returns-in-Calc-clause-over
 returns-in-Calc-clause-over c =

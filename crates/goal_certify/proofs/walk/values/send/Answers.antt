@@ -10,12 +10,12 @@ use Rattle.goal_certify.proofs.Holding.{holding_set}
 use Rattle.goal_graph.specs.Schedule.{Plan}
 use Rattle.goal_graph.specs.Fault.{IsOp}
 use Rattle.goal_certify.specs.WalkSoFar.{act_of}
-use Rattle.goal_certify.proofs.Applied.{over_map, op_there, slot_there, light_before, sent, sent_over}
+use Rattle.goal_certify.proofs.Applied.{over_map, op_of_newest_exists, slot_there, light_before, sent, sent_over}
 use Rattle.goal_certify.proofs.walk.values.send.Goals as goal
 
 pub hand_over-requires-clause-exists : goal.hand_over-requires-clause-exists
 hand_over-requires-clause-exists c =
-    subst (λ (ps : List Plan). IsOp ps c.args.action.op) (sym c.requires.taken.table_is) (op_there _ _ (act_of c.args.action) c.requires.taken.newest c.known.ensures.each)
+    subst (λ (ps : List Plan). IsOp ps c.args.action.op) (sym c.requires.taken.table_is) (op_of_newest_exists _ _ (act_of c.args.action) c.requires.taken.newest c.known.ensures.each)
 
 pub hand_over-requires-clause-light : goal.hand_over-requires-clause-light
 hand_over-requires-clause-light c =
@@ -23,7 +23,7 @@ hand_over-requires-clause-light c =
 
 pub index-place-requires : goal.index-place-requires
 index-place-requires c =
-    subst (λ (ps : List Plan). IsOp ps c.args.action.op) (sym c.sched.ensures) (op_there _ _ (act_of c.args.action) c.requires.taken.newest c.known.ensures.each)
+    subst (λ (ps : List Plan). IsOp ps c.args.action.op) (sym c.sched.ensures) (op_of_newest_exists _ _ (act_of c.args.action) c.requires.taken.newest c.known.ensures.each)
 
 pub returns-clause-follows : goal.returns-clause-follows
 returns-clause-follows c =

@@ -12,13 +12,13 @@ use Rattle.goal_values.specs.Sums.{meaning}
 use Rattle.goal_values.specs.Summed.{payload_values}
 use Rattle.goal_certify.specs.Carried.{ParcelValues, values_of_parcel, values_of_parcels}
 use Rattle.goal_certify.proofs.Holding.{parcel_values_at, parcel_known_at, parcel_with_values, holding_set}
-use Rattle.goal_certify.proofs.Applied.{there_within, op_there, light_before, partner_then, pair_from, as_many, parcel_is, parcel_known, size_within, size_told, received}
+use Rattle.goal_certify.proofs.Applied.{there_within, op_of_newest_exists, light_before, partner_then, pair_from, as_many, parcel_is, parcel_known, size_within, size_told, received}
 use Rattle.goal_certify.proofs.walk.values.serve.Goals as goal
 use Rattle.goal_graph.proofs.ForCallers.{partner_exists}
 
 pub partner-requires : goal.partner-requires
 partner-requires c =
-    op_there _ _ (act_of c.args.action) c.requires.taken.newest c.known.ensures.each
+    op_of_newest_exists _ _ (act_of c.args.action) c.requires.taken.newest c.known.ensures.each
 
 pub unreachable-requires : goal.unreachable-requires
 unreachable-requires c =
@@ -46,7 +46,7 @@ unreachable-requires-in_default-take_out c =
 
 pub take-requires-clause-exists : goal.take-requires-clause-exists
 take-requires-clause-exists c =
-    subst (λ (ps : List Plan). IsOp ps c.args.action.op) (sym c.requires.taken.table_is) (op_there _ _ (act_of c.args.action) c.requires.taken.newest c.known.ensures.each)
+    subst (λ (ps : List Plan). IsOp ps c.args.action.op) (sym c.requires.taken.table_is) (op_of_newest_exists _ _ (act_of c.args.action) c.requires.taken.newest c.known.ensures.each)
 
 pub overflow_sub-held : goal.overflow_sub-held
 overflow_sub-held c =
@@ -130,7 +130,7 @@ returns-in-Ok-clause-follows c = λ first so_far.
     let inside = there_within plans hist a c.requires.taken.newest c.known.ensures.each first s.kept told c.args.held.now.carried so_far.carrying j c.in-Some.send at in
     let raw = sym c.take_out.ensures.taken ∙ c.in-Some-take_out.is in
     let e = parcel_values_at s.sums c.args.held.now.parcels.items j inside c.in-Some-take_out.parcel raw in
-    let there = op_there plans hist a c.requires.taken.newest c.known.ensures.each in
+    let there = op_of_newest_exists plans hist a c.requires.taken.newest c.known.ensures.each in
     let below : x.rank < s.kept.ranks = omega (arith, rank_below plans x there, so_far.carrying.ranks) in
     let put = c.in-Ok.ensures.written ∙ ap (λ (ps : List Plan). write x.rank (slots ps x) (payload_values s.sums c.in-Some-take_out.parcel.payload) (values s.kept)) c.requires.taken.table_is in
     holding_set plans first hist c.args.held.now.parcels.items s c.take.new.store (drop 1 hist) c.args.held.now.carried _ j None _ c.take_out.ensures.after so_far c.take.ensures.sums tt (received plans hist a c.requires.taken.newest c.known.ensures.each c.requires.class c.in-Some.send pair first s.kept told c.args.held.now.carried so_far.carrying j at (values_of_parcel s.sums c.in-Some-take_out.parcel) e c.take.new.store.kept _ _ below (slots_low plans c.requires.taken.small x there) put c.take.ensures.ranks refl refl)

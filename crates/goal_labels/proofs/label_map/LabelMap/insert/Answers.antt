@@ -2,7 +2,7 @@ use Rattle.std.proofs.Common.{◌≡◌, ◌∙◌, sym, ap, subst, arith, Some,
 use Rattle.goal_labels.specs.Entries.{Entries, IsAt, entries_of}
 use Rattle.goal_labels.specs.Indexed.{IsMap}
 use Rattle.goal_labels.proofs.EntryLemmas.{lookup-there, lookup-absent, put-absent, put-there, IsAt-within}
-use Rattle.goal_labels.proofs.HeldLemmas.{entry-at, entry-same, entries_of-set, AreHeld-set, length-entries_of}
+use Rattle.goal_labels.proofs.HeldLemmas.{entry_read_where_label_is, label_and_info_of_known_entry, entries_of-set, AreHeld-set, length-entries_of}
 use Rattle.goal_labels.proofs.IndexLemmas.{IsMap-set}
 use Rattle.goal_labels.proofs.OrderedLemmas.{label_after_all_is_absent}
 use Rattle.goal_labels.proofs.label_map.LabelMap.insert.Goals as goal
@@ -56,7 +56,7 @@ returns-in-Some-clause-old c =
     let e = c.index.result.now in
     let found = c.in-Some.ensures.found in
     let there : slice_get (entries_of bytes held) i ≡ Some (label, found.0) = subst (λ (es : Entries). slice_get es i ≡ Some (label, found.0)) (sym c.self.view_is) found.1 in
-    ap Some (entry-same bytes held label i e found.0 (entry-at bytes held label i e (found.0, there) c.index.ensures) there).1
+    ap Some (label_and_info_of_known_entry bytes held label i e found.0 (entry_read_where_label_is bytes held label i e (found.0, there) c.index.ensures) there).1
     ∙ sym (lookup-there c.args.self.now label i found.0 c.in-Some.ensures.unique found.1)
 
 pub returns-in-Some-clause-entries : goal.returns-in-Some-clause-entries

@@ -5,8 +5,8 @@ use Rattle.goal_lexer.specs.Padding.{padded}
 use Rattle.goal_lexer.proofs.labels.Label.write.Goals as goal
 
 -- bytes and the zeros after them
-in_front : (bytes : List ℕ) → padded (take (length bytes) (bytes ++ drop (length bytes) (replicate 64 0))) ≡ bytes ++ drop (length bytes) (replicate 64 0)
-in_front bytes =
+padded_bytes_are_bytes_and_zeros : (bytes : List ℕ) → padded (take (length bytes) (bytes ++ drop (length bytes) (replicate 64 0))) ≡ bytes ++ drop (length bytes) (replicate 64 0)
+padded_bytes_are_bytes_and_zeros bytes =
     ap padded (take-append_seam bytes (drop (length bytes) (replicate 64 0)))
     ∙ ap (λ (zeros : List ℕ). bytes ++ zeros) (sym (drop-replicate (length bytes) 64 0))
 
@@ -16,5 +16,5 @@ invariant_of-self c =
       c.requires.some,
       c.requires.most,
       subst (λ (front : List ℕ). padded (take (length text) (front ++ drop (length text) (replicate 64 0))) ≡ front ++ drop (length text) (replicate 64 0))
-          (sym c.copy_from_slice.ensures.after) (in_front text),
+          (sym c.copy_from_slice.ensures.after) (padded_bytes_are_bytes_and_zeros text),
     )

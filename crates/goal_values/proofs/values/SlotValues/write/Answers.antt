@@ -3,7 +3,7 @@ use Rattle.std.specs.List.{sum_by}
 use Rattle.goal_blocks.specs.SlotRanges.{slots_in}
 use Rattle.goal_blocks.specs.Values.{Value, Store, write, set_slot}
 use Rattle.goal_values.specs.Kept.{values}
-use Rattle.goal_blocks.proofs.ForCallers.{write_first, write_none, light_next}
+use Rattle.goal_blocks.proofs.ForCallers.{write_first, write_none, weight_within_limit_after_write}
 use Rattle.goal_values.specs.declared.sums.Term.{Term}
 use Rattle.goal_values.specs.declared.sums.Term.TheVariants.{Nothing}
 use Rattle.goal_values.specs.Sums.{meaning}
@@ -48,7 +48,7 @@ loop-term-preserved c =
       ranks = c.in_ok-put-in-Some.ensures.ranks ∙ inv.ranks;
       many = omega (arith, inv.many, ap length first);
       left = write_first c.args.rank slot c.loop-term.slots c.next.new.self value others (drop at (map (meaning sums) terms)) (values c.loop-term.self.kept) (values c.put.new.self.kept) first next set ∙ inv.left;
-      light = light_next c.loop-term.self.kept.ranks c.put.new.self.kept.ranks c.args.rank slot value others (drop at (map (meaning sums) terms)) (values c.loop-term.self.kept) (values c.put.new.self.kept) next set c.in_ok-put-in-Some.ensures.ranks (omega (arith, inv.ranks, c.requires.rank)) low inv.light;
+      light = weight_within_limit_after_write c.loop-term.self.kept.ranks c.put.new.self.kept.ranks c.args.rank slot value others (drop at (map (meaning sums) terms)) (values c.loop-term.self.kept) (values c.put.new.self.kept) next set c.in_ok-put-in-Some.ensures.ranks (omega (arith, inv.ranks, c.requires.rank)) low inv.light;
       others = λ r k apart.
           ap (λ (s : Store). s r k) set ∙ set_elsewhere c.args.rank _ _ (values c.loop-term.self.kept) r k apart ∙ inv.others r k apart;
     }

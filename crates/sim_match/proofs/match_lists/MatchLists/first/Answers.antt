@@ -3,7 +3,7 @@ use Rattle.goal_graph.specs.Schedule.{operations}
 use Rattle.sim_match.specs.declared.match_list.MatchEntry.{MatchEntry}
 use Rattle.sim_match.specs.MatchLists.{MatchList, is_marked, IsReady, IsFirst, skipped_to}
 use Rattle.sim_match.specs.Packed.{stretch, list_at}
-use Rattle.sim_match.proofs.Packing.{list_of_number, list_of_number_is, list_skipped, span_within, end_of, stretch_read, stretch_written, packed_written, read_part_of_list, list_length}
+use Rattle.sim_match.proofs.Packing.{list_of_number, list_of_number_unique, list_skipped, span_within, end_of, stretch_read, stretch_written, packed_written, read_part_of_list, list_length}
 use Rattle.sim_match.proofs.match_lists.MatchLists.first.Goals as goal
 
 pub index-span-requires : goal.index-span-requires
@@ -49,7 +49,7 @@ returns-clause-first c = λ w e.
     let its = stretch c.index-span.result.now end in
     let at = stretch_read _ _ _ c.args.list _ c.self.view_is c.requires.within c.index-span.ensures in
     let written = stretch_written _ _ _ c.args.list _ c.self.view_is c.requires.within c.index-span.ensures _ _ refl refl in
-    let is = list_of_number_is _ _ c.self.invariant c.args.list _ at w (ap (λ (ws : List MatchList). slice_get ws c.args.list) c.self.view_is ∙ e) in
+    let is = list_of_number_unique _ _ c.self.invariant c.args.list _ at w (ap (λ (ws : List MatchList). slice_get ws c.args.list) c.self.view_is ∙ e) in
     let part = read_part_of_list c.index-span.result.now.start c.index-span.result.now.len c.deref.result.now c.self.inside.entries.items c.deref.ensures.value in
     let n = c.first_that_waits-head.result.0 in
     let found = c.first_that_waits-head.ensures.first (end - c.index-span.result.now.start) in

@@ -2,7 +2,7 @@ use Rattle.std.proofs.Common.{◌≡◌, ◌+◌, length, map, arith, sym, ap, �
 use Rattle.std.proofs.lemmas.List.{take_all, take_more}
 use Rattle.sim_match.specs.Capacities.{empty_list}
 use Rattle.sim_match.specs.Packed.{stretches, list_at, ArePacked}
-use Rattle.sim_match.proofs.Packing.{built_none, built_packed, built_more, stretches-with_new}
+use Rattle.sim_match.proofs.Packing.{built_none, built_packed, built_with_next_capacity, stretches-with_new}
 use Rattle.sim_match.proofs.match_lists.MatchLists.new.Goals as goal
 
 pub loop-capacity-init : goal.loop-capacity-init
@@ -14,7 +14,7 @@ loop-capacity-init c = record {
 
 pub loop-capacity-preserved : goal.loop-capacity-preserved
 loop-capacity-preserved c =
-    let more = built_more _ _ _ _ c.loop-capacity.invariant.built _ (c.loop-capacity.end + c.room-room.result) (ap (λ n. c.loop-capacity.end + n) c.room-room.ensures) in
+    let more = built_with_next_capacity _ _ _ _ c.loop-capacity.invariant.built _ (c.loop-capacity.end + c.room-room.result) (ap (λ n. c.loop-capacity.end + n) c.room-room.ensures) in
     record {
       built = rw (c.push_reserved.ensures.items, stretches-with_new, take_more c.args.capacities.now c.loop-capacity.capacity-index (record { receives = 0; sends = 0 }) (omega arith)) more;
       count = omega (arith, c.push_reserved.ensures.len, c.loop-capacity.invariant.count);

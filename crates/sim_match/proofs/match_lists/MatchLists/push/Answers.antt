@@ -2,7 +2,7 @@ use Rattle.std.proofs.Common.{◌+◌, List, length, map, slice_get, slice_set, 
 use Rattle.std.proofs.lemmas.List.{length-set}
 use Rattle.sim_match.specs.MatchLists.{MatchList, pushed}
 use Rattle.sim_match.specs.Packed.{stretch, list_at}
-use Rattle.sim_match.proofs.Packing.{list_of_number_is, list_pushed, push_place_fits, span_within, end_of, stretch_read, stretch_written, packed_written}
+use Rattle.sim_match.proofs.Packing.{list_of_number_unique, list_pushed, push_place_fits, span_within, end_of, stretch_read, stretch_written, packed_written}
 use Rattle.sim_match.proofs.match_lists.MatchLists.push.Goals as goal
 
 pub index-span-requires : goal.index-span-requires
@@ -50,5 +50,5 @@ returns c = λ w e.
     let below = push_place_fits _ _ _ c.args.list _ c.self.invariant at c.self.view_is c.requires.room in
     let long = length-set c.self.inside.entries.items (c.index-span.result.now.start + c.index-span.result.now.len) c.args.entry in
     let written = stretch_written _ _ _ c.args.list _ c.self.view_is c.requires.within c.index-span.ensures _ _ refl long in
-    let is = list_of_number_is _ _ c.self.invariant c.args.list _ at w (ap (λ (ws : List MatchList). slice_get ws c.args.list) c.self.view_is ∙ e) in
+    let is = list_of_number_unique _ _ c.self.invariant c.args.list _ at w (ap (λ (ws : List MatchList). slice_get ws c.args.list) c.self.view_is ∙ e) in
     ap (map (list_at _)) written ∙ list_pushed _ _ c.self.invariant c.args.list _ at c.args.entry (c.index-span.result.now.start + c.index-span.result.now.len) refl below ∙ ap (λ (ws : List MatchList). slice_set ws c.args.list (pushed (list_at c.self.inside.entries.items its) c.args.entry)) c.self.view_is ∙ ap (λ (v : MatchList). slice_set c.args.self.now c.args.list (pushed v c.args.entry)) is

@@ -8,7 +8,7 @@ use Rattle.sim_match.specs.Matcher.{actions_of, side_by_side, IsJoined, IsKept}
 use Rattle.sim_match.proofs.Kept.{length-actions_of, arrival_counted, joined_none, sought_absent_pattern, sought_next_list, joined_absent_pattern, joined_next_list, join_within, join_ready, join_room}
 use Rattle.sim_match.proofs.Unmet.{unmet_within_actions}
 use Rattle.sim_match.proofs.Unseen.{unseen_read, search_covered, join_covered}
-use Rattle.sim_match.proofs.Sides.{sides_length, sides_read, sides_receives, sides_sends, element_within}
+use Rattle.sim_match.proofs.Sides.{side_by_side_length, side_by_side_read, side_by_side_receives_set, side_by_side_sends_set, element_within}
 use Rattle.sim_match.proofs.match_table.MatchTable.join.Goals as goal
 use Rattle.sim_match.proofs.match_table.MatchTable.join.Goals.{in-Some, in-None, in-Some-number, in-None-number}
 
@@ -40,16 +40,16 @@ pub first-first-requires-clause-within : goal.first-first-requires-clause-within
 first-first-requires-clause-within g c =
     let inside : c.seek.number-index < length (lists_for c.args.sched.now c.requires.kept.numbered.keys c.args.send) = omega (arith, c.seek-test.true, ap length (c.lists_of_send-numbers.ensures c.requires.kept.numbered)) in
     let within = join_within _ _ _ _ _ c.requires.kept.mirrors c.args.send c.requires.send c.requires.fresh c.seek.number-index _ inside c.in-Some.list (rw (c.lists_of_send-numbers.ensures c.requires.kept.numbered) at c.in-Some.is) _ _ _ _ (c.seek.invariant.joined c.requires.kept) in
-    let long = sides_length c.seek.self.receives c.seek.self.sends c.seek.invariant.as_many in
+    let long = side_by_side_length c.seek.self.receives c.seek.self.sends c.seek.invariant.as_many in
     omega (arith, within, long)
 
 pub first-first-requires-clause-ready : goal.first-first-requires-clause-ready
 first-first-requires-clause-ready g c = λ w e.
     let inside : c.seek.number-index < length (lists_for c.args.sched.now c.requires.kept.numbered.keys c.args.send) = omega (arith, c.seek-test.true, ap length (c.lists_of_send-numbers.ensures c.requires.kept.numbered)) in
     let within = join_within _ _ _ _ _ c.requires.kept.mirrors c.args.send c.requires.send c.requires.fresh c.seek.number-index _ inside c.in-Some.list (rw (c.lists_of_send-numbers.ensures c.requires.kept.numbered) at c.in-Some.is) _ _ _ _ (c.seek.invariant.joined c.requires.kept) in
-    let long = sides_length c.seek.self.receives c.seek.self.sends c.seek.invariant.as_many in
+    let long = side_by_side_length c.seek.self.receives c.seek.self.sends c.seek.invariant.as_many in
     let s = element_within c.seek.self.sends c.in-Some.list (omega (arith, within, long, c.seek.invariant.as_many)) in
-    rw (c.deref.ensures.value, c.seek.invariant.marks) (join_ready _ _ _ _ _ c.requires.kept.mirrors c.args.send c.requires.send c.requires.fresh c.seek.number-index _ inside c.in-Some.list (rw (c.lists_of_send-numbers.ensures c.requires.kept.numbered) at c.in-Some.is) _ _ _ _ (c.seek.invariant.joined c.requires.kept) (record { receives = w; sends = s.0 }) (sides_read c.seek.self.receives c.seek.self.sends c.in-Some.list w s.0 e s.1))
+    rw (c.deref.ensures.value, c.seek.invariant.marks) (join_ready _ _ _ _ _ c.requires.kept.mirrors c.args.send c.requires.send c.requires.fresh c.seek.number-index _ inside c.in-Some.list (rw (c.lists_of_send-numbers.ensures c.requires.kept.numbered) at c.in-Some.is) _ _ _ _ (c.seek.invariant.joined c.requires.kept) (record { receives = w; sends = s.0 }) (side_by_side_read c.seek.self.receives c.seek.self.sends c.in-Some.list w s.0 e s.1))
 
 pub seek-preserved : goal.seek-preserved
 seek-preserved g c =
@@ -57,14 +57,14 @@ seek-preserved g c =
     elim c.match-number.branch [
       | in-Some w ↦
           let within = join_within _ _ _ _ _ c.requires.kept.mirrors c.args.send c.requires.send c.requires.fresh c.seek.number-index _ (inside c.requires.kept) w.in-Some.list (rw (c.lists_of_send-numbers.ensures c.requires.kept.numbered) at w.in-Some.is) _ _ _ _ (c.seek.invariant.joined c.requires.kept) in
-          let long = sides_length c.seek.self.receives c.seek.self.sends c.seek.invariant.as_many in
+          let long = side_by_side_length c.seek.self.receives c.seek.self.sends c.seek.invariant.as_many in
           let r = element_within c.seek.self.receives w.in-Some.list (omega (arith, within, long)) in
           let s = element_within c.seek.self.sends w.in-Some.list (omega (arith, within, long, c.seek.invariant.as_many)) in
           let first = w.first-first.ensures.first r.0 r.1 in
-          let joined = λ (kept : IsKept c.args.sched.now c.args.self.now). sought_next_list _ _ _ _ _ kept.mirrors c.args.send c.requires.send c.requires.fresh c.seek.number-index _ (inside kept) w.in-Some.list (rw (c.lists_of_send-numbers.ensures kept.numbered) at w.in-Some.is) _ _ _ (c.seek.invariant.joined kept) (record { receives = r.0; sends = s.0 }) (sides_read c.seek.self.receives c.seek.self.sends w.in-Some.list r.0 s.0 r.1 s.1) (record { receives = record { entries = r.0.entries; head = first.0; room = r.0.room }; sends = s.0 }) w.first-first.result (rw (w.deref.ensures.value, c.seek.invariant.marks) at first.2) refl in
-          let sides = ap (λ rs. side_by_side rs c.seek.self.sends) first.1 ∙ sides_receives c.seek.self.receives c.seek.self.sends w.in-Some.list _ s.0 s.1 in
+          let joined = λ (kept : IsKept c.args.sched.now c.args.self.now). sought_next_list _ _ _ _ _ kept.mirrors c.args.send c.requires.send c.requires.fresh c.seek.number-index _ (inside kept) w.in-Some.list (rw (c.lists_of_send-numbers.ensures kept.numbered) at w.in-Some.is) _ _ _ (c.seek.invariant.joined kept) (record { receives = r.0; sends = s.0 }) (side_by_side_read c.seek.self.receives c.seek.self.sends w.in-Some.list r.0 s.0 r.1 s.1) (record { receives = record { entries = r.0.entries; head = first.0; room = r.0.room }; sends = s.0 }) w.first-first.result (rw (w.deref.ensures.value, c.seek.invariant.marks) at first.2) refl in
+          let sides = ap (λ rs. side_by_side rs c.seek.self.sends) first.1 ∙ side_by_side_receives_set c.seek.self.receives c.seek.self.sends w.in-Some.list _ s.0 s.1 in
           let less = ap length first.1 ∙ length-set c.seek.self.receives w.in-Some.list _ in
-          let ready = join_ready _ _ _ _ _ c.requires.kept.mirrors c.args.send c.requires.send c.requires.fresh c.seek.number-index _ (inside c.requires.kept) w.in-Some.list (rw (c.lists_of_send-numbers.ensures c.requires.kept.numbered) at w.in-Some.is) _ _ _ _ (c.seek.invariant.joined c.requires.kept) (record { receives = r.0; sends = s.0 }) (sides_read c.seek.self.receives c.seek.self.sends w.in-Some.list r.0 s.0 r.1 s.1) in
+          let ready = join_ready _ _ _ _ _ c.requires.kept.mirrors c.args.send c.requires.send c.requires.fresh c.seek.number-index _ (inside c.requires.kept) w.in-Some.list (rw (c.lists_of_send-numbers.ensures c.requires.kept.numbered) at w.in-Some.is) _ _ _ _ (c.seek.invariant.joined c.requires.kept) (record { receives = r.0; sends = s.0 }) (side_by_side_read c.seek.self.receives c.seek.self.sends w.in-Some.list r.0 s.0 r.1 s.1) in
           let covered = search_covered c.seek.self.receives w.in-Some.list r.0 first.0 (unseen c.seek.self.sends) c.seek.self.credit w.count.new.self w.first-first.new.credit r.1 ready.within first.2.within c.seek.invariant.covered w.count.ensures.more first.3 in
           let both : unseen w.first-first.new.self + unseen c.seek.self.sends ≤ w.first-first.new.credit = rw first.1 covered in
           record {
@@ -93,17 +93,17 @@ seek-preserved g c =
       }
     ]
 
--- what is said of no entry
-no_entry : (o : Option MatchEntry) → is_some o ≡ false → o ≡ None
-no_entry None e = refl
-no_entry (Some x) e = absurd (cc)
+-- an optional entry that is not `Some` is `None`
+entry_none_if_not_some : (o : Option MatchEntry) → is_some o ≡ false → o ≡ None
+entry_none_if_not_some None e = refl
+entry_none_if_not_some (Some x) e = absurd (cc)
 
 pub stand-init : goal.stand-init
 stand-init g c = record {
   joined = λ kept.
       let lists = lists_for c.args.sched.now kept.numbered.keys c.args.send in
       let all = take_all c.seek.number-index lists (omega (arith, c.seek-test.false, ap length (c.lists_of_send-numbers.ensures kept.numbered))) in
-      let none = no_entry c.seek.met (sym c.is_some.ensures ∙ c.if-is_some.false) in
+      let none = entry_none_if_not_some c.seek.met (sym c.is_some.ensures ∙ c.if-is_some.false) in
       subst (IsJoined c.args.sched.now kept.numbered.keys (actions_of c.args.sched.now c.args.self.now.events.items) c.args.send [] lists (side_by_side c.seek.self.receives c.seek.self.sends)) none (subst (λ looked. IsJoined c.args.sched.now kept.numbered.keys (actions_of c.args.sched.now c.args.self.now.events.items) c.args.send [] looked (side_by_side c.seek.self.receives c.seek.self.sends) c.seek.met) all (c.seek.invariant.joined kept));
   as_many = c.seek.invariant.as_many;
   numbers = c.seek.invariant.numbers;
@@ -131,16 +131,16 @@ pub push-requires-clause-within : goal.push-requires-clause-within
 push-requires-clause-within g c =
     let inside : c.stand.number-index < length (lists_for c.args.sched.now c.requires.kept.numbered.keys c.args.send) = omega (arith, c.stand-test.true, ap length (c.lists_of_send-numbers.ensures c.requires.kept.numbered)) in
     let within = join_within _ _ _ _ _ c.requires.kept.mirrors c.args.send c.requires.send c.requires.fresh c.stand.number-index _ inside c.in-Some-number.list (rw (c.lists_of_send-numbers.ensures c.requires.kept.numbered) at c.in-Some-number.is) _ _ _ _ (c.stand.invariant.joined c.requires.kept) in
-    let long = sides_length c.stand.self.receives c.stand.self.sends c.stand.invariant.as_many in
+    let long = side_by_side_length c.stand.self.receives c.stand.self.sends c.stand.invariant.as_many in
     omega (arith, within, long, c.stand.invariant.as_many)
 
 pub push-requires-clause-room : goal.push-requires-clause-room
 push-requires-clause-room g c = λ w e.
     let inside : c.stand.number-index < length (lists_for c.args.sched.now c.requires.kept.numbered.keys c.args.send) = omega (arith, c.stand-test.true, ap length (c.lists_of_send-numbers.ensures c.requires.kept.numbered)) in
     let within = join_within _ _ _ _ _ c.requires.kept.mirrors c.args.send c.requires.send c.requires.fresh c.stand.number-index _ inside c.in-Some-number.list (rw (c.lists_of_send-numbers.ensures c.requires.kept.numbered) at c.in-Some-number.is) _ _ _ _ (c.stand.invariant.joined c.requires.kept) in
-    let long = sides_length c.stand.self.receives c.stand.self.sends c.stand.invariant.as_many in
+    let long = side_by_side_length c.stand.self.receives c.stand.self.sends c.stand.invariant.as_many in
     let r = element_within c.stand.self.receives c.in-Some-number.list (omega (arith, within, long)) in
-    join_room _ _ _ _ _ c.requires.kept.mirrors c.args.send c.requires.send c.requires.fresh c.stand.number-index _ inside c.in-Some-number.list (rw (c.lists_of_send-numbers.ensures c.requires.kept.numbered) at c.in-Some-number.is) _ _ _ (c.stand.invariant.joined c.requires.kept) (record { receives = r.0; sends = w }) (sides_read c.stand.self.receives c.stand.self.sends c.in-Some-number.list r.0 w r.1 e)
+    join_room _ _ _ _ _ c.requires.kept.mirrors c.args.send c.requires.send c.requires.fresh c.stand.number-index _ inside c.in-Some-number.list (rw (c.lists_of_send-numbers.ensures c.requires.kept.numbered) at c.in-Some-number.is) _ _ _ (c.stand.invariant.joined c.requires.kept) (record { receives = r.0; sends = w }) (side_by_side_read c.stand.self.receives c.stand.self.sends c.in-Some-number.list r.0 w r.1 e)
 
 pub stand-preserved : goal.stand-preserved
 stand-preserved g c =
@@ -148,13 +148,13 @@ stand-preserved g c =
     elim c.match-number-2.branch [
       | in-Some-number w ↦
           let within = join_within _ _ _ _ _ c.requires.kept.mirrors c.args.send c.requires.send c.requires.fresh c.stand.number-index _ (inside c.requires.kept) w.in-Some-number.list (rw (c.lists_of_send-numbers.ensures c.requires.kept.numbered) at w.in-Some-number.is) _ _ _ _ (c.stand.invariant.joined c.requires.kept) in
-          let long = sides_length c.stand.self.receives c.stand.self.sends c.stand.invariant.as_many in
+          let long = side_by_side_length c.stand.self.receives c.stand.self.sends c.stand.invariant.as_many in
           let r = element_within c.stand.self.receives w.in-Some-number.list (omega (arith, within, long)) in
           let s = element_within c.stand.self.sends w.in-Some-number.list (omega (arith, within, long, c.stand.invariant.as_many)) in
           let at : c.args.self.now.count ≡ length (actions_of c.args.sched.now c.args.self.now.events.items) = omega (arith, c.requires.kept.count, length-actions_of c.args.sched.now c.args.self.now.events.items) in
           let added = w.push.ensures s.0 s.1 in
-          let joined = λ (kept : IsKept c.args.sched.now c.args.self.now). joined_next_list _ _ _ _ _ kept.mirrors c.args.send c.requires.send c.requires.fresh c.stand.number-index _ (inside kept) w.in-Some-number.list (rw (c.lists_of_send-numbers.ensures kept.numbered) at w.in-Some-number.is) _ _ _ (c.stand.invariant.joined kept) (record { receives = r.0; sends = s.0 }) (sides_read c.stand.self.receives c.stand.self.sends w.in-Some-number.list r.0 s.0 r.1 s.1) (record { receives = r.0; sends = pushed s.0 (record { op = c.args.send; at = c.seek.self.count }) }) refl (ap (λ (n : ℕ). pushed s.0 (record { op = c.args.send; at = n })) (c.seek.invariant.count ∙ at)) in
-          let sides = ap (side_by_side c.stand.self.receives) added ∙ sides_sends c.stand.self.receives c.stand.self.sends w.in-Some-number.list r.0 _ r.1 in
+          let joined = λ (kept : IsKept c.args.sched.now c.args.self.now). joined_next_list _ _ _ _ _ kept.mirrors c.args.send c.requires.send c.requires.fresh c.stand.number-index _ (inside kept) w.in-Some-number.list (rw (c.lists_of_send-numbers.ensures kept.numbered) at w.in-Some-number.is) _ _ _ (c.stand.invariant.joined kept) (record { receives = r.0; sends = s.0 }) (side_by_side_read c.stand.self.receives c.stand.self.sends w.in-Some-number.list r.0 s.0 r.1 s.1) (record { receives = r.0; sends = pushed s.0 (record { op = c.args.send; at = c.seek.self.count }) }) refl (ap (λ (n : ℕ). pushed s.0 (record { op = c.args.send; at = n })) (c.seek.invariant.count ∙ at)) in
+          let sides = ap (side_by_side c.stand.self.receives) added ∙ side_by_side_sends_set c.stand.self.receives c.stand.self.sends w.in-Some-number.list r.0 _ r.1 in
           let more = ap length added ∙ length-set c.stand.self.sends w.in-Some-number.list _ in
           let covered = join_covered c.stand.self.sends w.in-Some-number.list s.0 (record { op = c.args.send; at = c.seek.self.count }) (unseen c.stand.self.receives) c.stand.self.credit w.count-in-Some-number.new.self s.1 c.stand.invariant.covered w.count-in-Some-number.ensures.more in
           let both : unseen c.stand.self.receives + unseen w.push.new.self ≤ w.count-in-Some-number.new.self = rw added covered in

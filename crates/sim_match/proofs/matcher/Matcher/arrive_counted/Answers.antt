@@ -5,7 +5,7 @@ use Rattle.goal_graph.specs.Action.{happened}
 use Rattle.goal_graph.specs.Schedule.{IsSend}
 use Rattle.sim_match.specs.PostsAndArrivals.{PostsAndArrivals, with_arrival, receive_for, NoReceiveFits}
 use Rattle.sim_match.proofs.Kept.{actions_of-arrival}
-use Rattle.sim_match.proofs.Partnered.{arrival_partner, arrival_none}
+use Rattle.sim_match.proofs.Partnered.{arrival_partner, no_receive_found_iff_none_fits}
 use Rattle.sim_match.proofs.matcher.Matcher.arrive_counted.Goals as goal
 
 pub arrive-requires-clause-kept : goal.arrive-requires-clause-kept
@@ -39,4 +39,4 @@ returns-clause-partner g c =
 pub returns-clause-none : goal.returns-clause-none
 returns-clause-none g c =
     let taken = c.arrive.ensures.taken ∙ ap (λ (v : PostsAndArrivals). receive_for v.plans v.actions c.args.send) c.self.view_is in
-    subst (λ (o : Option OpId). IsNone o ↔ NoReceiveFits c.args.self.now.plans c.args.self.now.actions c.args.send) (sym taken) (arrival_none c.args.self.now.plans c.args.self.now.actions c.args.send)
+    subst (λ (o : Option OpId). IsNone o ↔ NoReceiveFits c.args.self.now.plans c.args.self.now.actions c.args.send) (sym taken) (no_receive_found_iff_none_fits c.args.self.now.plans c.args.self.now.actions c.args.send)

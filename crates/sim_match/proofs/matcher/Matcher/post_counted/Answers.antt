@@ -5,7 +5,7 @@ use Rattle.goal_graph.specs.Action.{happened}
 use Rattle.goal_graph.specs.Schedule.{IsReceive}
 use Rattle.sim_match.specs.PostsAndArrivals.{PostsAndArrivals, with_post, send_for, NoSendFits}
 use Rattle.sim_match.proofs.Kept.{actions_of-post}
-use Rattle.sim_match.proofs.Partnered.{post_partner, post_none}
+use Rattle.sim_match.proofs.Partnered.{post_partner, no_send_found_iff_none_fits}
 use Rattle.sim_match.proofs.matcher.Matcher.post_counted.Goals as goal
 
 pub post-requires-clause-kept : goal.post-requires-clause-kept
@@ -39,4 +39,4 @@ returns-clause-partner g c =
 pub returns-clause-none : goal.returns-clause-none
 returns-clause-none g c =
     let taken = c.post.ensures.taken ∙ ap (λ (v : PostsAndArrivals). send_for v.plans v.actions c.args.recv) c.self.view_is in
-    subst (λ (o : Option OpId). IsNone o ↔ NoSendFits c.args.self.now.plans c.args.self.now.actions c.args.recv) (sym taken) (post_none c.args.self.now.plans c.args.self.now.actions c.args.recv)
+    subst (λ (o : Option OpId). IsNone o ↔ NoSendFits c.args.self.now.plans c.args.self.now.actions c.args.recv) (sym taken) (no_send_found_iff_none_fits c.args.self.now.plans c.args.self.now.actions c.args.recv)

@@ -3,7 +3,7 @@ use Rattle.std.proofs.lemmas.Bool.{both_ways, cases_lt}
 use Rattle.std.proofs.lemmas.Option.{get_or_from_slice_get}
 use Rattle.sim_match.specs.declared.capacities.Side.TheVariants.{Sends}
 use Rattle.sim_match.proofs.Ops.{arrival_suits}
-use Rattle.sim_match.proofs.Numbering.{own_codable}
+use Rattle.sim_match.proofs.Numbering.{own_list_is_codable}
 use Rattle.sim_match.proofs.queues.Queues.list_of_send.Goals as goal
 use Rattle.goal_graph.proofs.ForCallers.{op_of_kind}
 
@@ -18,4 +18,4 @@ returns c = λ kept.
       | inr none ↦ absurd (both_ways _ (sym c.if-is_empty.ensures) (eq-eqb _ 0 (omega (arith, none, ok, kept.queues.one_each))))
     ] in
     let at = kept.to_come.each some Sends c.args.send c.index.result c.index.ensures.index (arrival_suits _ c.args.send c.requires.send) c.requires.fresh in
-    c.decoded.ensures _ (c.index-2.ensures ∙ get_or_from_slice_get _ c.index.result _ _ at) (own_codable _ kept.keys c.args.send kept.few)
+    c.decoded.ensures _ (c.index-2.ensures ∙ get_or_from_slice_get _ c.index.result _ _ at) (own_list_is_codable _ kept.keys c.args.send kept.few)

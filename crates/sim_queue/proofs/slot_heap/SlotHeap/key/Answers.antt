@@ -4,7 +4,7 @@ use Rattle.sim_queue.specs.Map.{key_at}
 use Rattle.sim_queue.specs.Sift.{IsPlaceOf}
 use Rattle.sim_queue.specs.TopHeap.{slot_of_item}
 use Rattle.sim_queue.proofs.Items.{length-placed}
-use Rattle.sim_queue.proofs.Known.{known_key, no_key_read}
+use Rattle.sim_queue.proofs.Known.{known_key, no_key_if_read_item_elsewhere}
 use Rattle.sim_queue.proofs.slot_heap.SlotHeap.key.Goals as goal
 
 pub place_of-requires : goal.place_of-requires
@@ -34,5 +34,5 @@ pub returns-in_err-place : goal.returns-in_err-place
 returns-in_err-place g c =
     let h = c.self.inside in
     let slot_in : c.args.slot < length h.places.items = omega (arith, c.requires, ap length c.self.view_is, length-placed (length h.places.items) h.items.items) in
-    let none = no_key_read h.items.items c.deref.result.now h.places.items c.deref-2.result.now c.args.slot c.deref.ensures.value c.deref-2.ensures.value (c.in_err-place.ensures.none refl) slot_in c.self.invariant.noted in
+    let none = no_key_if_read_item_elsewhere h.items.items c.deref.result.now h.places.items c.deref-2.result.now c.args.slot c.deref.ensures.value c.deref-2.ensures.value (c.in_err-place.ensures.none refl) slot_in c.self.invariant.noted in
     c.from_residual.ensures ∙ sym (sym (ap (λ ks. key_at ks c.args.slot) c.self.view_is) ∙ none)

@@ -7,7 +7,7 @@ use Rattle.sim_queue.specs.Sift.{IsPlaceOf}
 use Rattle.sim_queue.specs.TopHeap.{placed, key_there, AreApart, slot_of_item}
 use Rattle.sim_queue.proofs.Items.{length-placed, items_fit}
 use Rattle.sim_queue.proofs.ItemChanges.{left_apart, left_placed, left_ordered, left_where, rest_apart, rest_placed, rest_ordered, rest_at_their_places}
-use Rattle.sim_queue.proofs.Known.{no_key_read, settled_keys, settled_heap, heap_back, keys_back}
+use Rattle.sim_queue.proofs.Known.{no_key_if_read_item_elsewhere, settled_keys, settled_heap, slot_heap_of_written_vectors, keys_of_written_vectors}
 use Rattle.sim_queue.proofs.Maps.{none_set_to_none}
 use Rattle.sim_queue.proofs.slot_heap.SlotHeapEventQueue.drop_slot.Goals as goal
 
@@ -79,7 +79,7 @@ invariant_of-self g c =
     let apart = subst (AreApart slots) (sym c.deref_mut.ensures.value) (left_apart items rest last there.0 at are slots is.apart there.1 some) in
     let sized : length c.settle.new.places ≡ slots = omega (arith, c.settle.auto.places, ap length c.deref_mut-then-place-len.ensures.value) in
     let places_are = with_items_is h.places c.settle.new.places (omega (arith, h.places.ok.0, sized)) in
-    heap_back g.K.EventOrder.before c.take_last-last.new.self.cap _ c.settle.new.items _ c.settle.new.places _ (sym c.deref_mut.ensures.len ∙ sym c.settle.ensures.moved.each) places_are
+    slot_heap_of_written_vectors g.K.EventOrder.before c.take_last-last.new.self.cap _ c.settle.new.items _ c.settle.new.places _ (sym c.deref_mut.ensures.len ∙ sym c.settle.ensures.moved.each) places_are
     (settled_heap c.deref_mut.result.now c.settle.new.items h.places.items c.settle.new.places c.settle.ensures.moved sized apart g.K.EventOrder.before c.take_last-last.new.self.cap (omega (arith, is.reserved, c.take_last-last.ensures.capacity)) is.few c.settle.ensures.noted c.settle.ensures.ordered)
 
 pub invariant_of-self-else-place-len : goal.invariant_of-self-else-place-len
@@ -118,7 +118,7 @@ returns-then-place-len-clause-dropped g c =
     let apart = subst (AreApart slots) (sym c.deref_mut.ensures.value) (left_apart items rest last there.0 at are slots is.apart there.1 some) in
     let sized : length c.settle.new.places ≡ slots = omega (arith, c.settle.auto.places, ap length c.deref_mut-then-place-len.ensures.value) in
     let places_are = with_items_is h.places c.settle.new.places (omega (arith, h.places.ok.0, sized)) in
-    keys_back _ c.settle.new.items _ c.settle.new.places _ (sym c.deref_mut.ensures.len ∙ sym c.settle.ensures.moved.each) places_are
+    keys_of_written_vectors _ c.settle.new.items _ c.settle.new.places _ (sym c.deref_mut.ensures.len ∙ sym c.settle.ensures.moved.each) places_are
     ∙ settled_keys c.deref_mut.result.now c.settle.new.items h.places.items c.settle.new.places c.settle.ensures.moved sized apart
     ∙ ap (placed slots) c.deref_mut.ensures.value
     ∙ left_placed items rest last there.0 at are slots is.apart there.1 some
@@ -162,5 +162,5 @@ pub returns-in_default-clause-dropped : goal.returns-in_default-clause-dropped
 returns-in_default-clause-dropped g c =
     let h = c.self.inside in
     let slot_in : c.args.slot < length h.places.items = omega (arith, c.if-slot-len.false, c.len.ensures, h.places.ok.0) in
-    let none = no_key_read h.items.items c.deref.result.now h.places.items c.deref-2.result.now c.args.slot c.deref.ensures.value c.deref-2.ensures.value (c.in_default.ensures.none refl) slot_in c.self.invariant.noted in
+    let none = no_key_if_read_item_elsewhere h.items.items c.deref.result.now h.places.items c.deref-2.result.now c.args.slot c.deref.ensures.value c.deref-2.ensures.value (c.in_default.ensures.none refl) slot_in c.self.invariant.noted in
     none_set_to_none c.args.self.now c.args.slot (sym (ap (λ ks. key_at ks c.args.slot) c.self.view_is) ∙ none)

@@ -1,6 +1,6 @@
 use Rattle.std.proofs.Common.{sym, subst, arith}
 use Rattle.sim_state.specs.Represents.{Represents}
-use Rattle.sim_state.proofs.Empty.{free_first, none_known}
+use Rattle.sim_state.proofs.Empty.{unheld_is_free_at_start, new_matcher_knows_empty_history}
 use Rattle.sim_state.proofs.state.RunState.new.Goals as goal
 
 pub invariant_of-result : goal.invariant_of-result
@@ -12,7 +12,7 @@ invariant_of-result g c =
       within = omega (arith, c.budget-sum.ensures, c.if-sum-most.false);
       run = tt;
       known = c.in_ok-entries.ensures;
-      posts_and_arrivals = none_known plans costs c.in_ok-matcher.matcher c.in_ok-matcher.ensures;
-      free = free_first plans costs c.in_ok-resources.resources c.in_ok-resources.ensures;
+      posts_and_arrivals = new_matcher_knows_empty_history plans costs c.in_ok-matcher.matcher c.in_ok-matcher.ensures;
+      free = unheld_is_free_at_start plans costs c.in_ok-resources.resources c.in_ok-resources.ensures;
       roomy = subst (g.H.History.has_room c.in_ok-history.history) (omega (arith, c.count-count.ensures.count)) c.in_ok-history.ensures.roomy;
     })

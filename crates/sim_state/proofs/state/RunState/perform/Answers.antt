@@ -6,7 +6,7 @@ use Rattle.goal_graph.specs.Concerned.{waiting_on}
 use Rattle.goal_graph.specs.Fault.{IsOp}
 use Rattle.sim_state.specs.Engine.{RunSoFar}
 use Rattle.sim_state.specs.Represents.{entry_known}
-use Rattle.sim_state.proofs.Performed.{next_at, written_back, each_entry, room_left, change_moments, performed, is_op, time_fits}
+use Rattle.sim_state.proofs.Performed.{next_in_equal_view, written_back, each_entry, room_left, change_moments, performed, is_op, time_fits}
 use Rattle.sim_state.proofs.state.RunState.perform.Goals as goal
 
 pub change_of-change-requires : goal.change_of-change-requires
@@ -18,12 +18,12 @@ change_of-change-requires g c =
       known = c.deref.ensures.value ∙ m.known;
       told = m.posts_and_arrivals;
       free = m.free;
-      next = next_at g.C.Costs.model _ _ c.args.action c.self.view_is c.requires.next;
+      next = next_in_equal_view g.C.Costs.model _ _ c.args.action c.self.view_is c.requires.next;
     }
 
 pub write_change-requires : goal.write_change-requires
 write_change-requires g c =
-    let next = next_at g.C.Costs.model _ _ c.args.action c.self.view_is c.requires.next in
+    let next = next_in_equal_view g.C.Costs.model _ _ c.args.action c.self.view_is c.requires.next in
     record {
       exists = is_op _ _ _ _ _ _ _ c.self.invariant c.args.action next;
       other = c.change_of-change.ensures.change.exists;
@@ -33,7 +33,7 @@ write_change-requires g c =
 
 pub give-requires : goal.give-requires
 give-requires g c =
-    let next = next_at g.C.Costs.model _ _ c.args.action c.self.view_is c.requires.next in
+    let next = next_in_equal_view g.C.Costs.model _ _ c.args.action c.self.view_is c.requires.next in
     let m = c.self.invariant in
     record {
       run = m.run;
@@ -47,11 +47,11 @@ give-requires g c =
 
 pub push-requires : goal.push-requires
 push-requires g c =
-    record { room = room_left _ _ _ _ _ _ _ c.self.invariant c.args.action (next_at g.C.Costs.model _ _ c.args.action c.self.view_is c.requires.next) }
+    record { room = room_left _ _ _ _ _ _ _ c.self.invariant c.args.action (next_in_equal_view g.C.Costs.model _ _ c.args.action c.self.view_is c.requires.next) }
 
 pub invariant_of-self : goal.invariant_of-self
 invariant_of-self g c =
-    let next = next_at g.C.Costs.model _ _ c.args.action c.self.view_is c.requires.next in
+    let next = next_in_equal_view g.C.Costs.model _ _ c.args.action c.self.view_is c.requires.next in
     let count = c.self.inside.entries.len in
     let items = c.self.inside.entries.items in
     let changed = c.write_change.new.entries in

@@ -8,7 +8,7 @@ use Rattle.sim_state.proofs.GivenEntries.{entry_so_far, moment_absent, moment_fi
 use Rattle.sim_state.proofs.GivenTables.{first_entries, given_counted, given_entries, given_in_all, last_entries, may_give, passed_counted, passed_entries, still_waiting}
 use Rattle.sim_state.proofs.state.give.give.Goals as goal
 
--- what stands past the end of a list
+-- the need read past the end of a list
 abbrev nothing : Need
 nothing = record { op = 0; when = AfterEnd }
 

@@ -6,7 +6,7 @@ use Rattle.sim_state.specs.declared.entry.Times.{Times}
 use Rattle.sim_state.specs.Represents.{entry_known}
 use Rattle.sim_state.proofs.Changed.{at_fits, times_changed, post_receive, post_fresh, post_changes, post_free, post_told, arrival_send, arrival_fresh, arrival_changes, arrival_free, arrival_told, data_message, data_over, data_gap, data_flight, data_known, data_free, serve_receive, paired, sender_is_op, taken_message, serve_over, serve_gap, serve_known, serve_free}
 use Rattle.sim_state.proofs.Places.{possible_exists}
-use Rattle.sim_state.proofs.PostsAndArrivals.{other_action}
+use Rattle.sim_state.proofs.PostsAndArrivals.{posts_and_arrivals_kept_by_other_action}
 use Rattle.sim_state.proofs.state.perform.change_of.Goals as goal
 
 pub read-requires : goal.read-requires
@@ -86,7 +86,7 @@ returns-in-Begin-clause-free g c =
 
 pub returns-in-Begin-clause-told : goal.returns-in-Begin-clause-told
 returns-in-Begin-clause-told g c =
-    other_action _ _ _ c.args.action c.args.matcher.now c.requires.told (ap is_post_or_arrival_class c.in-Begin.is)
+    posts_and_arrivals_kept_by_other_action _ _ _ c.args.action c.args.matcher.now c.requires.told (ap is_post_or_arrival_class c.in-Begin.is)
 
 pub returns-in-Post-clause-change : goal.returns-in-Post-clause-change
 returns-in-Post-clause-change g c =
@@ -122,7 +122,7 @@ returns-in-Data-clause-free g c =
 
 pub returns-in-Data-clause-told : goal.returns-in-Data-clause-told
 returns-in-Data-clause-told g c =
-    other_action _ _ _ c.args.action c.args.matcher.now c.requires.told (ap is_post_or_arrival_class c.in-Data.is)
+    posts_and_arrivals_kept_by_other_action _ _ _ c.args.action c.args.matcher.now c.requires.told (ap is_post_or_arrival_class c.in-Data.is)
 
 pub returns-in-Some-clause-change : goal.returns-in-Some-clause-change
 returns-in-Some-clause-change g c =
@@ -134,4 +134,4 @@ returns-in-Some-clause-free g c =
 
 pub returns-in-Some-clause-told : goal.returns-in-Some-clause-told
 returns-in-Some-clause-told g c =
-    other_action _ _ _ c.args.action c.args.matcher.now c.requires.told (ap is_post_or_arrival_class c.in-Serve.is)
+    posts_and_arrivals_kept_by_other_action _ _ _ c.args.action c.args.matcher.now c.requires.told (ap is_post_or_arrival_class c.in-Serve.is)

@@ -1,4 +1,4 @@
--- `after` tells of one action more: the struct has no bytes, so the walk may say of what it tells.
+-- `after` represents one more action. The struct has no bytes, so the walk may choose what it represents.
 use Rattle.std.proofs.Common.{List, [], ◌∷◌, ◌++◌, refl}
 use seplogic.Ra.Ura.{Ura}
 use mir.Syntax.{Fn}
@@ -25,7 +25,7 @@ use denote.Triple.Entry.{alive}
 use denote.Triple.Spec.{Meets, triple_of}
 use denote.Triple.Table.{entered}
 use denote.Triple.Walked.{says, Stays, stay_dropped, walk_of, ends_at, walk_Meets, Goes-dropped}
-use Rattle.sim_state.proofs.Walks.{none, none_made}
+use Rattle.sim_state.proofs.Walks.{none, fieldless_struct_made}
 use Rattle.goal_graph.specs.contracts.action.Timed as Timed
 use Rattle.sim_state.specs.contracts.unkept.Unkept as Unkept
 use Rattle.sim_state.specs.contracts.unkept.Unkept.after as F
@@ -68,7 +68,7 @@ module _ {M : Type 1} {𝓤 : Ura M} (𝓛 : Logic 𝓤) (at_mem : Memory → SP
         regoal ! (λ (us : List Val). prop (WpFn 𝓤 H C Λ function ((u ∷ []) ++ (us ++ [])) Post)) is₁ refl $
         enter ! C Λ function (u ∷ v ∷ []) Post $ alloc_all ! (λ l. pass_all ! refl ((tt, tt), ((tt, tt), tt)) $
         sets ! (agg ! (no_more !)) refl (tt, tt) $
-        nothing ! $ none_made ! $ fjoin ! $
+        nothing ! $ fieldless_struct_made ! $ fjoin ! $
         returns ! (look_at ! 0 refl) $ free_all ! refl $
         suffices ! _ (ends_at 𝓛 ended stayed held z none told (tt, (tt, tt)) (tt, (tt, tt))) $ says ! refl $
         nothing ! $ nothing ! $ fjoin ! $ nothing ! $ fjoin ! $ move ! (2 ∷ 0 ∷ 1 ∷ []) $ done !)))

@@ -1,4 +1,4 @@
--- `empty` tells of no action: the struct has no bytes, so the walk may say of what it tells.
+-- `empty` represents no action. The struct has no bytes, so the walk may choose what it represents.
 use Rattle.std.proofs.Common.{[], ◌∷◌, refl}
 use seplogic.Ra.Ura.{Ura}
 use mir.Syntax.{Fn}
@@ -23,7 +23,7 @@ use denote.Triple.Entry.{alive}
 use denote.Triple.Spec.{Meets, triple_of}
 use denote.Triple.Table.{entered}
 use denote.Triple.Walked.{says, Stays, walk_of, ends_at, walk_Meets}
-use Rattle.sim_state.proofs.Walks.{none, none_made}
+use Rattle.sim_state.proofs.Walks.{none, fieldless_struct_made}
 use Rattle.sim_state.specs.contracts.unkept.Unkept as Unkept
 use Rattle.sim_state.specs.contracts.unkept.Unkept.empty as F
 use Rattle.sim_state.specs.contracts.unkept.Unkept.empty.Key.{name as #self}
@@ -61,7 +61,7 @@ module _ {M : Type 1} {𝓤 : Ura M} (𝓛 : Logic 𝓤) (at_mem : Memory → SP
         keep ! (0 ∷ []) $ split ! $ move ! (1 ∷ []) $ drop ! $
         enter ! C Λ function [] Post $ alloc_all ! (λ l. pass_all ! refl tt $
         sets ! (agg ! (no_more !)) refl (tt, tt) $
-        nothing ! $ none_made ! $ fjoin ! $
+        nothing ! $ fieldless_struct_made ! $ fjoin ! $
         returns ! (look_at ! 0 refl) $ free_all ! refl $
         suffices ! _ (ends_at 𝓛 ended stayed held z none told tt tt) $ says ! refl $
         nothing ! $ move ! (2 ∷ 0 ∷ 1 ∷ []) $ done !)

@@ -1,7 +1,7 @@
 use Rattle.std.proofs.Common.{◌<◌, length, max, sym, ap, ap₂, ◌∙◌, subst, arith}
 use Rattle.sim_stations.specs.Stations.{both_free, pair_at, AreTimesOf}
 use Rattle.sim_stations.specs.Rows.{Rowed}
-use Rattle.sim_stations.proofs.InRows.{pair_read, pair_there, times_for_pair_read, times_known, times_known_are_same}
+use Rattle.sim_stations.proofs.InRows.{pair_read, pair_at_station, times_for_pair_read, times_known, times_known_are_same}
 use Rattle.sim_stations.proofs.rows.Rows.free.Goals as goal
 
 pub bounds-times-pair : goal.bounds-times-pair
@@ -30,4 +30,4 @@ returns-clause-free g c =
     let at = pair_read q.pairs.items c.args.station p within c.index-pair.ensures in
     let times : AreTimesOf c.args.times.now q.free.times p = times_for_pair_read c.args.times.now q.free.times q.pairs.items c.args.station p at (subst (λ (r : Rowed). AreTimesOf c.args.times.now r.free (pair_at r.pairs c.args.station)) (sym c.self.view_is) c.requires.times) in
     let same = times_known_are_same c.args.times.now q.free.times p times in
-    c.max.ensures ∙ ap₂ max same.cpu same.side ∙ ap (both_free q.free.times) (sym (pair_there q.pairs.items c.args.station p at)) ∙ ap (λ (r : Rowed). both_free r.free (pair_at r.pairs c.args.station)) c.self.view_is
+    c.max.ensures ∙ ap₂ max same.cpu same.side ∙ ap (both_free q.free.times) (sym (pair_at_station q.pairs.items c.args.station p at)) ∙ ap (λ (r : Rowed). both_free r.free (pair_at r.pairs c.args.station)) c.self.view_is

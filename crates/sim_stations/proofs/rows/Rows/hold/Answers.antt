@@ -3,7 +3,7 @@ use Rattle.sim_queue.specs.Map.{key_at}
 use Rattle.sim_stations.specs.Stations.{held_by, pair_at, AreKnown}
 use Rattle.sim_stations.specs.Rows.{Rowed, seen, AreBothTold, IsInRows, AreHeads}
 use Rattle.sim_stations.proofs.Heads.{empty_group_has_no_head}
-use Rattle.sim_stations.proofs.InRows.{pair_read, pair_there, known_for_pair_read, times_held_are_same, both_told_by_same_times, held_inside, held_heads}
+use Rattle.sim_stations.proofs.InRows.{pair_read, pair_at_station, known_for_pair_read, times_held_are_same, both_heads_updated_by_same_times, held_inside, held_heads}
 use Rattle.sim_stations.proofs.rows.Rows.hold.Goals as goal
 
 pub raise_both-requires-clause-cpu : goal.raise_both-requires-clause-cpu
@@ -63,7 +63,7 @@ invariant_of-self g c =
     let side = slice_index times p.side in
     let within : c.args.station < length q.pairs.items = omega (arith, c.requires.exists, ap (λ (r : Rowed). length r.pairs) c.self.view_is) in
     let exist = c.self.invariant.0.exist c.args.station p (pair_read q.pairs.items c.args.station p within c.index-pair.ensures) in
-    let told : AreBothTold q.rows (held_by q.free.times p times) q.heads c.raise_both.new.heads p = both_told_by_same_times q.rows times (held_by q.free.times p times) q.heads c.raise_both.new.heads p (times_held_are_same times q.free.times p exist.0 exist.1) c.raise_both.ensures.told in
+    let told : AreBothTold q.rows (held_by q.free.times p times) q.heads c.raise_both.new.heads p = both_heads_updated_by_same_times q.rows times (held_by q.free.times p times) q.heads c.raise_both.new.heads p (times_held_are_same times q.free.times p exist.0 exist.1) c.raise_both.ensures.told in
     subst (λ f. IsInRows q.rows q.pairs.items q.turned.items f × AreHeads q.rows c.raise_both.new.heads f) (sym c.with-self-inside.ensures) (held_inside q.rows q.heads q.pairs.items q.turned.items q.free.times c.self.invariant.0 c.self.invariant.1 p cpu side, held_heads q.rows q.heads q.pairs.items q.turned.items q.free.times c.self.invariant.0 c.self.invariant.1 p cpu side c.raise_both.new.heads told)
 
 pub returns-clause-held : goal.returns-clause-held
@@ -72,7 +72,7 @@ returns-clause-held g c =
     let p = c.index-pair.result.now in
     let times = c.args.times.now in
     let within : c.args.station < length q.pairs.items = omega (arith, c.requires.exists, ap (λ (r : Rowed). length r.pairs) c.self.view_is) in
-    let pair = pair_there q.pairs.items c.args.station p (pair_read q.pairs.items c.args.station p within c.index-pair.ensures) in
+    let pair = pair_at_station q.pairs.items c.args.station p (pair_read q.pairs.items c.args.station p within c.index-pair.ensures) in
     ap (λ f. record { keys = seen q.turned.items q.rows.keys; pairs = q.pairs.items; turned = q.turned.items; free = f }) (c.with-self-inside.ensures ∙ ap (λ x. held_by q.free.times x times) (sym pair)) ∙ ap (λ (r : Rowed). record { keys = r.keys; pairs = r.pairs; turned = r.turned; free = held_by r.free (pair_at r.pairs c.args.station) times }) c.self.view_is
 
 pub returns-clause-counted : goal.returns-clause-counted

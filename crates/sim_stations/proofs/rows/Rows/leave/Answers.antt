@@ -1,7 +1,7 @@
 use Rattle.std.proofs.Common.{◌≡◌, ◌<◌, Some, length, set, slice_get, slice_index, sym, ap, ◌∙◌, subst, arith}
 use Rattle.sim_stations.specs.Stations.{held_by, pair_at, AreKnown}
 use Rattle.sim_stations.specs.Rows.{Rowed, place_in, turned_at, AreBothTold, IsInRows, AreHeads}
-use Rattle.sim_stations.proofs.InRows.{known_for_pair_read, times_held_are_same, both_told_by_same_times, held_long, with_key, if_some, pair_read, pair_there, turned_read, written_inside, left_heads, written_seen}
+use Rattle.sim_stations.proofs.InRows.{known_for_pair_read, times_held_are_same, both_heads_updated_by_same_times, held_long, with_key, existing_key_is_at_zero, pair_read, pair_at_station, turned_read, written_inside, left_heads, written_seen}
 use Rattle.sim_stations.proofs.rows.Rows.leave.Given.{Over}
 use Rattle.sim_stations.proofs.rows.Rows.leave.Goals.{After-tell_both}
 use Rattle.sim_stations.proofs.rows.Rows.leave.Goals as goal
@@ -26,7 +26,7 @@ module _ (g : Over) (c : After-tell_both g) where
       let q = c.self.inside in
       let p = c.index-pair.result.now in
       let exist = c.self.invariant.0.exist c.args.station p at in
-      both_told_by_same_times c.write.new.rows c.args.times.now (held_by q.free.times p c.args.times.now) q.heads c.tell_both.new.heads p (times_held_are_same c.args.times.now q.free.times p exist.0 exist.1) c.tell_both.ensures.told
+      both_heads_updated_by_same_times c.write.new.rows c.args.times.now (held_by q.free.times p c.args.times.now) q.heads c.tell_both.new.heads p (times_held_are_same c.args.times.now q.free.times p exist.0 exist.1) c.tell_both.ensures.told
 
 pub tell_both-requires-clause-cpu : goal.tell_both-requires-clause-cpu
 tell_both-requires-clause-cpu g c =
@@ -67,7 +67,7 @@ invariant_of-self g c =
     let times = c.args.times.now in
     let cpu = slice_index times p.cpu in
     let side = slice_index times p.side in
-    let zero = if_some c.args.key c.requires.at_zero in
+    let zero = existing_key_is_at_zero c.args.key c.requires.at_zero in
     subst (λ f. IsInRows c.write.new.rows q.pairs.items q.turned.items f × AreHeads c.write.new.rows c.tell_both.new.heads f) (sym c.with-self-inside.ensures) (written_inside q.rows q.heads q.pairs.items q.turned.items q.free.times c.self.invariant.0 c.self.invariant.1 c.args.station p (at g c) c.args.key zero c.write.new.rows (is_new g c) (held_by q.free.times p times) (held_long q.free.times p cpu side), left_heads q.rows q.heads q.pairs.items q.turned.items q.free.times c.self.invariant.0 c.self.invariant.1 c.args.station p (at g c) c.args.key zero c.write.new.rows (is_new g c) cpu side c.tell_both.new.heads (told g c))
 
 pub returns-clause-held : goal.returns-clause-held
@@ -75,9 +75,9 @@ returns-clause-held g c =
     let q = c.self.inside in
     let p = c.index-pair.result.now in
     let times = c.args.times.now in
-    let zero = if_some c.args.key c.requires.at_zero in
+    let zero = existing_key_is_at_zero c.args.key c.requires.at_zero in
     let keys = written_seen q.rows q.heads q.pairs.items q.turned.items q.free.times c.self.invariant.0 c.self.invariant.1 c.args.station p (at g c) c.args.key zero c.write.new.rows (is_new g c) in
-    let free = c.with-self-inside.ensures ∙ ap (λ x. held_by q.free.times x times) (sym (pair_there q.pairs.items c.args.station p (at g c))) in
+    let free = c.with-self-inside.ensures ∙ ap (λ x. held_by q.free.times x times) (sym (pair_at_station q.pairs.items c.args.station p (at g c))) in
     (λ i. record { keys = keys i; pairs = q.pairs.items; turned = q.turned.items; free = free i }) ∙ ap (λ (r : Rowed). record { keys = set r.keys c.args.station c.args.key; pairs = r.pairs; turned = r.turned; free = held_by r.free (pair_at r.pairs c.args.station) times }) c.self.view_is
 
 pub returns-clause-counted : goal.returns-clause-counted

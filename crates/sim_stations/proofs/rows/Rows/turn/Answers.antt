@@ -6,7 +6,7 @@ use Rattle.sim_queue.specs.Groups.{Grouped}
 use Rattle.sim_stations.specs.Stations.{at_time, pair_at, AreTimesOf}
 use Rattle.sim_stations.specs.Rows.{Rowed, place_in, turned_at, seen, AreBothTold, IsInRows}
 use Rattle.sim_stations.proofs.Heads.{at_own_time_is_itself}
-use Rattle.sim_stations.proofs.InRows.{times_for_pair_read, times_known, times_known_are_same, both_told_by_same_times, with_key, key_zero, pair_read, turned_read, turned_zero, turned_inside, turned_heads, turned_seen}
+use Rattle.sim_stations.proofs.InRows.{times_for_pair_read, times_known, times_known_are_same, both_heads_updated_by_same_times, with_key, key_zero, pair_read, turned_read, turned_zero, turned_inside, turned_heads, turned_seen}
 use Rattle.sim_stations.proofs.rows.Rows.turn.Given.{Over}
 use Rattle.sim_stations.proofs.rows.Rows.turn.Goals.{After-tell_both-arg-3-1, After-tell_both}
 use Rattle.sim_stations.proofs.rows.Rows.turn.Goals as goal
@@ -81,7 +81,7 @@ module _ (g : Over) (c : After-tell_both g) where
   told =
       let q = c.self.inside in
       let p = c.index-pair.result.now in
-      both_told_by_same_times c.put.new.self c.args.times.now q.free.times q.heads c.tell_both.new.heads p (times_known_are_same c.args.times.now q.free.times p times) c.tell_both.ensures.told
+      both_heads_updated_by_same_times c.put.new.self c.args.times.now q.free.times q.heads c.tell_both.new.heads p (times_known_are_same c.args.times.now q.free.times p times) c.tell_both.ensures.told
 
   over : set c.self.inside.turned.items c.args.station (not c.index-turned.result.now) ≡ set c.self.inside.turned.items c.args.station (not (turned_at c.self.inside.turned.items c.args.station))
   over = ap (λ b. set c.self.inside.turned.items c.args.station (not b)) turned

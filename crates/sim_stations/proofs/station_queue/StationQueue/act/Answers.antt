@@ -5,8 +5,8 @@ use Rattle.sim_stations.specs.declared.key_place.KeyPlace.TheVariants.{Nowhere}
 use Rattle.sim_stations.specs.Stations.{Stationed, when_free, pair_at, pair_of, held, held_by, IsLaterBy, AreKnown, cost_of_waiting}
 use Rattle.sim_stations.specs.Kept.{IsFound, IsDeparted}
 use Rattle.sim_stations.specs.Moves.{HaveReturned, held_once_more}
-use Rattle.sim_stations.proofs.Moves.{held_returned}
-use Rattle.sim_stations.proofs.Changed.{seen_size, found_within, fewer_left, cost_falls}
+use Rattle.sim_stations.proofs.Moves.{have_returned_after_hold}
+use Rattle.sim_stations.proofs.Changed.{seen_length_is_slot_count, found_within, ahead_no_more_after_departure, cost_falls}
 use Rattle.sim_stations.proofs.station_queue.StationQueue.act.Goals as goal
 
 pub depart-requires-clause-found : goal.depart-requires-clause-found
@@ -95,9 +95,9 @@ returns-clause-counted g c =
     let q = c.self.inside in
     let found = subst (IsFound q.ahead q.waiting) (ap (λ (s : Stationed). s.found) c.self.view_is ∙ c.requires.found) c.self.invariant.1 in
     let within = found_within q.ahead q.waiting q.rows q.stands.items c.self.invariant.0 c.args.slot found in
-    let fewer = cost_falls k (set q.stands.items c.args.slot Nowhere) q.stands.items (fewer_left q.ahead q.waiting q.rows q.stands.items c.self.invariant.0 c.args.slot within) in
+    let fewer = cost_falls k (set q.stands.items c.args.slot Nowhere) q.stands.items (ahead_no_more_after_departure q.ahead q.waiting q.rows q.stands.items c.self.invariant.0 c.args.slot within) in
     let stands = ap (λ (s : Stationed). cost_of_waiting k s.stands) c.self.view_is in
-    let spent = c.depart.ensures.counted k (omega (arith, l, seen_size q.ahead q.waiting q.rows q.stands.items c.self.invariant.0, ap (λ (s : Stationed). length s.keys) c.self.view_is)) in
+    let spent = c.depart.ensures.counted k (omega (arith, l, seen_length_is_slot_count q.ahead q.waiting q.rows q.stands.items c.self.invariant.0, ap (λ (s : Stationed). length s.keys) c.self.view_is)) in
     omega (arith, fewer, stands, spent)
 
 pub returns-clause-returned : goal.returns-clause-returned
@@ -110,7 +110,7 @@ returns-clause-returned g c =
     λ holds returns have.
     let was = subst (λ (s : Stationed). HaveReturned s.pairs s.turned s.free holds returns) (sym c.self.view_is) have in
     let later = subst (λ (s : Stationed). IsLaterBy s.free (pair_of s c.args.slot) c.args.times.now) (sym c.self.view_is) c.requires.later in
-    let now = held_returned q.rows.pairs q.rows.turned q.rows.free holds returns was pair cpu side later in
+    let now = have_returned_after_hold q.rows.pairs q.rows.turned q.rows.free holds returns was pair cpu side later in
     let at_pairs = subst (λ ps. HaveReturned ps q.rows.turned (held q.rows.free pair cpu side) (held_once_more holds pair) returns) (sym d.pairs) now in
     let at_turned = subst (λ bs. HaveReturned c.depart.new.rows.pairs bs (held q.rows.free pair cpu side) (held_once_more holds pair) returns) (sym d.turned) at_pairs in
     let at_free = subst (λ fs. HaveReturned c.depart.new.rows.pairs c.depart.new.rows.turned fs (held_once_more holds pair) returns) (sym d.free) at_turned in

@@ -7,12 +7,12 @@ use Rattle.sim_stations.specs.declared.station_queue.Look.{Look}
 use Rattle.sim_stations.specs.Stations.{Stationed}
 use Rattle.sim_stations.specs.Rows.{Rowed}
 use Rattle.sim_stations.specs.Kept.{IsKept, IsFirstOfAll, seen_of}
-use Rattle.sim_stations.proofs.Least.{not_empty, empty_both}
+use Rattle.sim_stations.proofs.Least.{not_empty, seen_empty_if_both_empty}
 use Rattle.sim_stations.proofs.station_queue.StationQueue.is_empty.Goals as goal
 
 -- whether there is a first key
 told : (ahead : List (Option Timed)) (waiting : Grouped Timed) (rows : Rowed) (stands : List KeyPlace) → IsKept ahead waiting rows stands → (r : Option Look) → (is_some r ≡ false → IsEmptyMap ahead × IsEmptyMap rows.keys) → IfSome r (λ f. IsFirstOfAll ahead rows f.key f.is_ahead) → (b : Bool) → is_some r ≡ not b → (IsTrue b → IsEmptyMap (seen_of ahead waiting rows)) × (IsEmptyMap (seen_of ahead waiting rows) → IsTrue b)
-told ahead waiting rows stands kept None none first true e = (λ t. let both = none refl in empty_both ahead waiting rows stands kept both.0 both.1, λ empty. refl)
+told ahead waiting rows stands kept None none first true e = (λ t. let both = none refl in seen_empty_if_both_empty ahead waiting rows stands kept both.0 both.1, λ empty. refl)
 told ahead waiting rows stands kept None none first false e = absurd (cc)
 told ahead waiting rows stands kept (Some f) none first true e = absurd (cc)
 told ahead waiting rows stands kept (Some f) none first false e = (λ t. absurd (cc), λ empty. absurd (not_empty ahead waiting rows stands kept f.key f.is_ahead first empty))

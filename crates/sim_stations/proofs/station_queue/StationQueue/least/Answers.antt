@@ -9,19 +9,19 @@ use Rattle.sim_queue.specs.Groups.{Grouped}
 use Rattle.sim_stations.specs.Stations.{Stationed, pair_of, AreTimesOf, AreOfSlots, cost_of_waiting}
 use Rattle.sim_stations.specs.Moves.{HaveReturned, HaveMoved}
 use Rattle.sim_stations.specs.Kept.{IsKept, IsFound}
-use Rattle.sim_stations.proofs.Changed.{seen_size}
+use Rattle.sim_stations.proofs.Changed.{seen_length_is_slot_count}
 use Rattle.sim_stations.proofs.station_queue.StationQueue.least.Goals as goal
 
 whole : {X : Type 0} (n : ℕ) (xs ys : List X) → n ≡ length xs → take n (xs ++ ys) ≡ xs
 whole n xs ys e = take-append-le n xs ys (omega (arith, e)) ∙ take_all n xs (omega (arith, e))
 
-found_of : (ahead : List (Option Timed)) (waiting : Grouped Timed) (r : Option (ℕ × Timed)) → IfSome r (λ x. IsFound ahead waiting (Some x.0)) → IsFound ahead waiting (option_map (λ (x : ℕ × Timed). x.0) r)
-found_of ahead waiting None h = tt
-found_of ahead waiting (Some x) h = h
+found_slot_of_least : (ahead : List (Option Timed)) (waiting : Grouped Timed) (r : Option (ℕ × Timed)) → IfSome r (λ x. IsFound ahead waiting (Some x.0)) → IsFound ahead waiting (option_map (λ (x : ℕ × Timed). x.0) r)
+found_slot_of_least ahead waiting None h = tt
+found_slot_of_least ahead waiting (Some x) h = h
 
-slot_is : (r : Option (ℕ × Timed)) (found : Option ℕ) → found ≡ option_map (λ (x : ℕ × Timed). x.0) r → IfSome r (λ x. found ≡ Some x.0)
-slot_is None found e = tt
-slot_is (Some x) found e = e
+found_is_slot_of_least : (r : Option (ℕ × Timed)) (found : Option ℕ) → found ≡ option_map (λ (x : ℕ × Timed). x.0) r → IfSome r (λ x. found ≡ Some x.0)
+found_is_slot_of_least None found e = tt
+found_is_slot_of_least (Some x) found e = e
 
 pub settle-least-requires-clause-kept : goal.settle-least-requires-clause-kept
 settle-least-requires-clause-kept g c =
@@ -35,7 +35,7 @@ settle-least-requires-clause-of_slots g c =
 pub settle-least-requires-clause-times : goal.settle-least-requires-clause-times
 settle-least-requires-clause-times g c = λ slot l.
     let q = c.self.inside in
-    let size = seen_size q.ahead q.waiting q.rows q.stands.items c.self.invariant.0 in
+    let size = seen_length_is_slot_count q.ahead q.waiting q.rows q.stands.items c.self.invariant.0 in
     let times = subst (λ (s : Stationed). (i : ℕ) → i < length s.keys → AreTimesOf c.args.times.now s.free (pair_of s i)) (sym c.self.view_is) c.requires.times in
     times slot (omega (arith, l, size))
 
@@ -44,7 +44,7 @@ invariant_of-self g c =
     let q = c.self.inside in
     let same : take q.stands.len (c.settle-least.new.stands ++ drop (length c.settle-least.new.stands) q.stands.items) ≡ c.settle-least.new.stands = whole q.stands.len c.settle-least.new.stands (drop (length c.settle-least.new.stands) q.stands.items) (omega (arith, c.settle-least.auto.stands, ap length c.deref_mut.ensures.value, q.stands.ok.0)) in
     let e = c.settle-least.ensures in
-    (subst (IsKept c.settle-least.new.ahead c.settle-least.new.waiting c.settle-least.new.rows) (sym same) e.kept, subst (IsFound c.settle-least.new.ahead c.settle-least.new.waiting) (sym c.slot_of-self-inside.ensures) (found_of c.settle-least.new.ahead c.settle-least.new.waiting c.settle-least.result e.found))
+    (subst (IsKept c.settle-least.new.ahead c.settle-least.new.waiting c.settle-least.new.rows) (sym same) e.kept, subst (IsFound c.settle-least.new.ahead c.settle-least.new.waiting) (sym c.slot_of-self-inside.ensures) (found_slot_of_least c.settle-least.new.ahead c.settle-least.new.waiting c.settle-least.result e.found))
 
 pub returns-clause-none : goal.returns-clause-none
 returns-clause-none g c =
@@ -55,7 +55,7 @@ returns-clause-least g c =
     subst (λ (s : Stationed). IfSome c.settle-least.result (λ r. IsLeast event_before s.keys r.0 r.1)) c.self.view_is c.settle-least.ensures.least
 
 pub returns-clause-found : goal.returns-clause-found
-returns-clause-found g c = slot_is c.settle-least.result c.slot_of-self-inside.result c.slot_of-self-inside.ensures
+returns-clause-found g c = found_is_slot_of_least c.settle-least.result c.slot_of-self-inside.result c.slot_of-self-inside.ensures
 
 pub returns-clause-keys : goal.returns-clause-keys
 returns-clause-keys g c = c.settle-least.ensures.seen ∙ ap (λ (s : Stationed). s.keys) c.self.view_is
@@ -74,7 +74,7 @@ returns-clause-counted g c =
     λ k l.
     let q = c.self.inside in
     let same : take q.stands.len (c.settle-least.new.stands ++ drop (length c.settle-least.new.stands) q.stands.items) ≡ c.settle-least.new.stands = whole q.stands.len c.settle-least.new.stands (drop (length c.settle-least.new.stands) q.stands.items) (omega (arith, c.settle-least.auto.stands, ap length c.deref_mut.ensures.value, q.stands.ok.0)) in
-    let size = seen_size q.ahead q.waiting q.rows q.stands.items c.self.invariant.0 in
+    let size = seen_length_is_slot_count q.ahead q.waiting q.rows q.stands.items c.self.invariant.0 in
     let spent = c.settle-least.ensures.counted k (omega (arith, l, size, ap (λ (s : Stationed). length s.keys) c.self.view_is)) in
     let now = ap (cost_of_waiting k) same in
     let old = ap (cost_of_waiting k) c.deref_mut.ensures.value ∙ ap (λ (s : Stationed). cost_of_waiting k s.stands) c.self.view_is in

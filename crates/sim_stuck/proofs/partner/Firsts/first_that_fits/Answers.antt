@@ -1,6 +1,6 @@
 use Rattle.std.proofs.Common.{◌∙◌}
 use Rattle.goal_graph.proofs.ForCallers.{kind_from_op}
-use Rattle.sim_stuck.proofs.Least.{send_found, receive_found, none_found}
+use Rattle.sim_stuck.proofs.Least.{send_found, receive_found, nothing_fits_calc}
 use Rattle.sim_stuck.proofs.partner.Firsts.first_that_fits.Goals as goal
 
 pub returns-in-Recv : goal.returns-in-Recv
@@ -13,4 +13,4 @@ returns-in-Send c = λ ids order are.
 
 pub returns-in-Calc : goal.returns-in-Calc
 returns-in-Calc c = λ ids order are.
-    none_found c.args.sched.now ids c.args.self.now are c.args.id c.in-Calc.nanos (kind_from_op _ _ _ _ c.op.ensures.op c.in-Calc.is)
+    nothing_fits_calc c.args.sched.now ids c.args.self.now are c.args.id c.in-Calc.nanos (kind_from_op _ _ _ _ c.op.ensures.op c.in-Calc.is)

@@ -6,7 +6,7 @@ use Rattle.goal_graph.specs.declared.plan.Kind.{Kind}
 use Rattle.sim_match.specs.declared.pattern.Pattern.{Pattern}
 use Rattle.sim_match.specs.Patterns.{pattern_cmp}
 use Rattle.sim_stuck.specs.Patterns.{is_for}
-use Rattle.sim_stuck.proofs.PatternFacts.{four_put}
+use Rattle.sim_stuck.proofs.PatternFacts.{put_at_four_patterns_where_accepted}
 use Rattle.sim_stuck.proofs.partner.Firsts.put.Goals as goal
 
 -- what is at q after it was put at the pattern at this index
@@ -23,5 +23,5 @@ returns-in_ok-insert-in-Send-4-clause-sends c = λ q.
     ∙ ap (put_at patterns 2 q id) (c.in_ok-insert-in-Send-2.ensures.updates.0 q
     ∙ ap (put_at patterns 1 q id) (c.in_ok-insert-in-Send.ensures.updates.0 q)))
     ∙ ap (λ (ps : List Pattern). put_at ps 3 q id (put_at ps 2 q id (put_at ps 1 q id (put_at ps 0 q id was)))) c.patterns_for.ensures
-    ∙ four_put q c.args.id.rank c.in-Send.to c.in-Send.tag id was
+    ∙ put_at_four_patterns_where_accepted q c.args.id.rank c.in-Send.to c.in-Send.tag id was
     ∙ ap (λ (kind : Kind). cond (is_for q c.args.id (Some kind)) id was) (sym c.in-Send.is)

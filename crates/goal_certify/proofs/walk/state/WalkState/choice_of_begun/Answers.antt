@@ -2,7 +2,7 @@ use Rattle.std.proofs.Common.{List, sym, ap, ◌∙◌}
 use Rattle.goal_graph.specs.declared.plan.Kind.TheVariants.{Calc, Send, Recv}
 use Rattle.goal_graph.specs.Schedule.{Plan, op_at}
 use Rattle.goal_graph.proofs.ForCallers.{kind_from_op}
-use Rattle.goal_certify.proofs.Chosen.{idle_begun, arrives_next, no_receive}
+use Rattle.goal_certify.proofs.Chosen.{idle_begun, arrives_next, newest_begin_is_not_of_receive}
 use Rattle.goal_certify.proofs.walk.state.WalkState.choice_of_begun.Goals as goal
 
 pub returns-in-Calc : goal.returns-in-Calc
@@ -18,4 +18,4 @@ returns-in-Send c =
 pub unreachable-requires : goal.unreachable-requires
 unreachable-requires c =
     let is = sym (ap (λ (plans : List Plan). op_at plans c.args.id) c.sched.ensures) ∙ c.op.ensures.op in
-    no_receive c.args.self.now.plans c.args.self.now.history c.args.id c.known.ensures.each c.requires.newest (record { room = c.in-Recv.bytes; from = c.in-Recv.from; tag = c.in-Recv.tag; kind = kind_from_op _ c.args.id c.op.result.now (Recv c.in-Recv.bytes c.in-Recv.from c.in-Recv.tag) is c.in-Recv.is })
+    newest_begin_is_not_of_receive c.args.self.now.plans c.args.self.now.history c.args.id c.known.ensures.each c.requires.newest (record { room = c.in-Recv.bytes; from = c.in-Recv.from; tag = c.in-Recv.tag; kind = kind_from_op _ c.args.id c.op.result.now (Recv c.in-Recv.bytes c.in-Recv.from c.in-Recv.tag) is c.in-Recv.is })

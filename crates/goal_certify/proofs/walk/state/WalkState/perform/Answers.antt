@@ -1,7 +1,7 @@
 use Rattle.std.proofs.Common.{◌∙◌}
 use Rattle.goal_certify.specs.WalkSoFar.{act_of, acts, entry_known}
 use Rattle.goal_certify.proofs.Places.{allowed_exists}
-use Rattle.goal_certify.proofs.Performed.{may_at, entry_is, posts, arrives, fresh, partner_exists, performed}
+use Rattle.goal_certify.proofs.Performed.{may_at, entry_is, posts, arrives, fresh, partner_exists, represents_after_performed}
 use Rattle.goal_certify.proofs.walk.state.WalkState.perform.Goals as goal
 
 pub entry-entry-requires : goal.entry-entry-requires
@@ -41,4 +41,4 @@ invariant_of-self c =
     let may = may_at _ _ a.class a.op c.self.view_is c.requires in
     let was = entry_is _ _ a.op c.entry-entry.result c.self.view_is c.entry-entry.ensures in
     let told = c.write_met.ensures (entry_known plans h) (c.deref_mut.ensures.value ∙ m.known) in
-    performed plans c.self.inside.history.items c.self.inside.entries.items c.self.inside.matcher m a may c.push.new.self.items c.deref_mut.result.now c.write_met.new.entries c.meet-partner.new.matcher c.self.inside.entries.len c.meet-partner.result c.entry-entry.result c.with_class-done.result was c.with_class-done.ensures c.push.ensures c.self.inside.entries.ok.0 c.deref_mut.ensures.value c.write_met.auto.entries c.meet-partner.ensures.met c.meet-partner.ensures.plans c.meet-partner.ensures.actions told
+    represents_after_performed plans c.self.inside.history.items c.self.inside.entries.items c.self.inside.matcher m a may c.push.new.self.items c.deref_mut.result.now c.write_met.new.entries c.meet-partner.new.matcher c.self.inside.entries.len c.meet-partner.result c.entry-entry.result c.with_class-done.result was c.with_class-done.ensures c.push.ensures c.self.inside.entries.ok.0 c.deref_mut.ensures.value c.write_met.auto.entries c.meet-partner.ensures.met c.meet-partner.ensures.plans c.meet-partner.ensures.actions told

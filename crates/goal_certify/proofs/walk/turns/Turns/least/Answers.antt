@@ -1,7 +1,7 @@
 use Rattle.std.proofs.Common.{ℕ, ◌≡◌, ◌<◌, true, nat_lt, List, Option, length, get_or, sym, ap, ◌∙◌, subst, arith}
 use Rattle.sim_queue.specs.Map.{IsEmptyMap, IsLeast}
 use Rattle.goal_certify.specs.Turns.{is_on}
-use Rattle.goal_certify.proofs.Turns.{word_inside, none_at_all, is_least}
+use Rattle.goal_certify.proofs.Turns.{word_inside, empty_map_if_heads_zero, is_least}
 use Rattle.goal_certify.proofs.walk.turns.Turns.least.Goals as goal
 
 pub lowest-word-requires : goal.lowest-word-requires
@@ -32,7 +32,7 @@ overflow_cast-result c =
 
 pub returns-in_default-clause-none : goal.returns-in_default-clause-none
 returns-in_default-clause-none c =
-    subst IsEmptyMap c.self.view_is (none_at_all c.self.inside.words.items c.self.inside.heads.items c.self.inside.count c.self.invariant (λ a. sym (ap (λ ws. get_or ws a 0) c.deref.ensures.value) ∙ c.in_default.ensures.none a))
+    subst IsEmptyMap c.self.view_is (empty_map_if_heads_zero c.self.inside.words.items c.self.inside.heads.items c.self.inside.count c.self.invariant (λ a. sym (ap (λ ws. get_or ws a 0) c.deref.ensures.value) ∙ c.in_default.ensures.none a))
 
 pub returns : goal.returns
 returns c =
