@@ -1,7 +1,6 @@
 -- Plans that bytes mean have a file, and the faults of bytes describe them.
 use Rattle.std.proofs.Common.{◌≡◌, ℕ, ◌+◌, ◌<◌, ◌≤◌, Bool, true, false, cond, ltb, List, [], ◌∷◌, ◌++◌, length, take, drop, Result, Ok, Err, refl, sym, ap, subst, ◌∙◌, append_assoc, arith, inl, inr}
-use Rattle.std.proofs.lemmas.Bool.{le-ltb}
-use Rattle.std.proofs.lemmas.Bool.Decides.{nat_tests}
+use Rattle.std.proofs.lemmas.Bool.{le-ltb, ltb-true}
 use Rattle.std.proofs.lemmas.List.{take-take, take-append-le, take-append-drop, drop_all, length-take}
 use Rattle.goal_graph.specs.Schedule.{Plan}
 use Rattle.goal_binary.specs.declared.fault.FileFault.{FileFault}
@@ -34,9 +33,6 @@ failed f = Err f
 
 failed_injective : (d f : FileFault) → failed d ≡ failed f → d ≡ f
 failed_injective d f e = cc
-
-ltb-true : (m n : ℕ) → ltb m n ≡ true → m < n
-ltb-true m n h = grind (arith, nat_tests)
 
 meaning_ok : (bytes : List ℕ) (x : List Plan × ℕ) → plans_at bytes ≡ Ok x → meaning bytes ≡ whole_or_extra (length bytes) x
 unfolding meaning

@@ -2,8 +2,7 @@
 use Rattle.std.proofs.Common.{◌≡◌, ◌⊎◌, ℕ, ◌+◌, ◌-◌, ◌<◌, ◌≤◌, Bool, true, false, cond, ltb, leb, List, [], ◌∷◌, ◌++◌, length, get_or, replicate, take, drop, Some, Ok, Err, refl, sym, ap, subst, ◌∙◌, arith, inl, inr}
 use Rattle.std.specs.Prelude.{slice_get}
 use Rattle.std.specs.Int.{w32, w64, from_le_bytes}
-use Rattle.std.proofs.lemmas.Bool.{cases_lt, lt-ltb, le-ltb, ltb-false, le-leb}
-use Rattle.std.proofs.lemmas.Bool.Decides.{nat_tests}
+use Rattle.std.proofs.lemmas.Bool.{cases_lt, lt-ltb, le-ltb, ltb-true, ltb-false, le-leb}
 use Rattle.std.proofs.lemmas.List.{append-nil, take_at, drop-take, drop_at, length-append, length-take, get_or-drop, get_or-take, get_or-replicate, get_or_past, length-replicate}
 use Rattle.std.proofs.lemmas.Option.{slice_get_past, slice_get-get_or}
 use Rattle.goal_binary.specs.declared.fault.FileFault.{FileFault}
@@ -33,9 +32,6 @@ any_number n = Unit {0}
 
 pub take_all : (n : ℕ) (xs : List ℕ) → length xs ≡ n → take n xs ≡ xs
 take_all n xs len = ap (take n) (sym (append-nil xs)) ∙ take_at xs [] n len
-
-pub less_from_ltb : (m n : ℕ) → ltb m n ≡ true → m < n
-less_from_ltb m n h = grind (arith, nat_tests)
 
 pairs_equal_from_parts : (x y a b : ℕ) → x ≡ y → a ≡ b → pair x a ≡ pair y b
 pairs_equal_from_parts x y a b e f = cc
@@ -110,7 +106,7 @@ module _ {V : ℕ → Type 0} (l : Layout) (width : ℕ) (value : List ℕ → �
 
       go : (short good : Bool) → ltb (length bytes - at) width ≡ short → test (value (take width (drop at bytes))) ≡ good
           → cond short (Err (Short (length bytes))) (allow good at (pair (value (take width (drop at bytes))) (at + width))) ≡ Err fault → ReadStop l (field width value test) bytes at fault
-      go true good is passed e = subst (λ (f : FileFault). ReadStop l (field width value test) bytes at f) (fault_of_injective (Short (length bytes)) fault e) (made (Short (length bytes)) (refl, omega (arith, less_from_ltb (length bytes - at) width is)))
+      go true good is passed e = subst (λ (f : FileFault). ReadStop l (field width value test) bytes at f) (fault_of_injective (Short (length bytes)) fault e) (made (Short (length bytes)) (refl, omega (arith, ltb-true (length bytes - at) width is)))
       go false true is passed e = absurd cc
       go false false is passed e =
           let room : at + width ≤ length bytes = omega (arith, ltb-false _ _ is, can.some) in

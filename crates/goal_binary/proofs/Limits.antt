@@ -1,10 +1,11 @@
 -- What is read of bytes has a file: its numbers fit, and its sizes and counts are within their limits.
-use Rattle.std.proofs.Common.{◌≡◌, ◌⊎◌, ℕ, zero, suc, ◌/◌, ◌%◌, ◌^◌, ◌<◌, ◌≤◌, Bool, true, false, cond, eqb, ltb, leb, ◌||◌, Option, Some, None, List, [], ◌∷◌, ◌++◌, length, take, drop, Ok, All, refl, sym, ap, subst, ◌∙◌, arith, inl, inr}
+use Rattle.std.proofs.Common.{◌≡◌, ◌⊎◌, ℕ, zero, suc, ◌/◌, ◌%◌, ◌^◌, ◌<◌, ◌≤◌, Bool, true, false, cond, eqb, ltb, ◌||◌, Some, None, List, [], ◌∷◌, ◌++◌, length, take, drop, Ok, All, refl, sym, ap, subst, ◌∙◌, arith, inl, inr}
 use Rattle.std.specs.List.{AllByRecursion}
-use Rattle.std.proofs.lemmas.Bool.{le-leb}
+use Rattle.std.proofs.lemmas.Bool.{ltb-true, le-leb, lt-leb}
 use Rattle.std.proofs.lemmas.Bool.Decides.{nat_tests}
 use Rattle.std.proofs.lemmas.List.{length-take, length-drop}
 use Rattle.std.proofs.lemmas.List.Elements.{All-from_recursion, All-append}
+use Rattle.std.proofs.lemmas.Option.{same_Some}
 use Rattle.goal_limits.specs.declared.limits.TheConstants.{MAX_OPS, MAX_DEPS, MAX_NOTES, MAX_BYTES, MAX_NANOS}
 use Rattle.goal_graph.specs.Schedule.{Plan}
 use Rattle.goal_graph.specs.Fault.{op_count, dep_count, note_count}
@@ -20,8 +21,9 @@ use Rattle.goal_binary.specs.Reading.{form_of, most_nic, most_peer, most_tag, mo
 use Rattle.goal_binary.proofs.Steps.{IsBytes, bind_ok, ok_injective}
 use Rattle.goal_binary.proofs.FieldsTaken.{IsBytes-drop, IsBytes-take, leb-le}
 use Rattle.goal_binary.proofs.Readers.{Reader, then, give, field}
-use Rattle.goal_binary.proofs.FieldsRead.{passes_from, first_of, value_32, value_64, passes_always, up_to, byte_at_is_field, tested_byte_is_field, less_from_ltb, u32_at_is_field, tested_u32_is_field, tested_u64_is_field}
+use Rattle.goal_binary.proofs.FieldsRead.{passes_from, first_of, value_32, value_64, passes_always, up_to, byte_at_is_field, tested_byte_is_field, u32_at_is_field, tested_u32_is_field, tested_u64_is_field}
 use Rattle.goal_binary.proofs.NumbersTaken.{packed_up_to_ok}
+use Rattle.goal_binary.proofs.Packed.{some_of}
 use Rattle.goal_binary.proofs.PackedItems.{IsHead, is_head_sound}
 use Rattle.goal_binary.proofs.ItemsRead.{made_op, made_dep, halved_dep}
 use Rattle.goal_binary.proofs.RanksRead.{made_plan, list_of, body, records_are_count_then_ranks}
@@ -95,15 +97,9 @@ u64_up_to_gives most =
 eqb-zero : (n : ℕ) → n ≤ 0 → eqb n 0 ≡ true
 eqb-zero n h = grind (arith, nat_tests)
 
-abbrev some_of : ℕ → Option ℕ
-some_of n = Some n
-
-some_number_injective : (n v : ℕ) → some_of n ≡ some_of v → n ≡ v
-some_number_injective n v e = cc
-
 value_below_bound_unless_any : (any : Bool) (n bound v : ℕ) → n < bound → cond any None (some_of n) ≡ Some v → v < bound
 value_below_bound_unless_any true n bound v lt e = absurd cc
-value_below_bound_unless_any false n bound v lt e = omega (arith, lt, some_number_injective n v e)
+value_below_bound_unless_any false n bound v lt e = omega (arith, lt, same_Some n v e)
 
 -- numbers that an operation of this form may have
 record AreNumbers (f : OpForm) (peer tag size cpu nic : ℕ) : Type 0 where
@@ -205,15 +201,12 @@ most_nic_of_message zero flags some = absurd (omega (arith, some))
 most_nic_of_message (suc zero) flags some = refl
 most_nic_of_message (suc (suc k)) flags some = refl
 
-leb_false_if_greater : (m n : ℕ) → n < m → leb m n ≡ false
-leb_false_if_greater m n h = grind (arith, nat_tests)
-
 has_room : (head : ℕ) → IsHead head → HasRoom (head_of head)
 has_room head good = go (ltb head 32) refl good.nic_fits
   where
     go : (b : Bool) → ltb head 32 ≡ b → (b || ltb 0 (head % 4)) ≡ true → HasRoom (head_of head)
-    go true is e = inl (leb_false_if_greater 32 head (less_from_ltb head 32 is))
-    go false is e = inr (most_nic_of_message (head % 4) (head / 4 % 4) (less_from_ltb 0 (head % 4) e))
+    go true is e = inl (lt-leb 32 head (ltb-true head 32 is))
+    go false is e = inr (most_nic_of_message (head % 4) (head / 4 % 4) (ltb-true 0 (head % 4) e))
 
 head_gives : Gives HasRoom head_at
 unfolding head_at head_byte_at then give

@@ -1,6 +1,6 @@
 -- Each number is read by a reader, in both layouts.
 use Rattle.std.proofs.Common.{◌≡◌, ◌⊎◌, ℕ, ◌+◌, ◌-◌, ◌<◌, ◌≤◌, Bool, true, false, ltb, leb, ◌&&◌, List, [], ◌∷◌, ◌++◌, length, take, Option, Some, None, Ok, Err, refl, sym, ap, subst, ◌∙◌, arith, inl, inr}
-use Rattle.std.proofs.lemmas.Bool.{le-leb}
+use Rattle.std.proofs.lemmas.Bool.{ltb-true, le-leb}
 use Rattle.std.proofs.lemmas.List.{drop_at, length-drop, length-take}
 use Rattle.goal_limits.specs.declared.limits.TheConstants.{MAX_RANKS}
 use Rattle.goal_graph.proofs.ForCallers.{and_left, and_right}
@@ -12,7 +12,7 @@ use Rattle.goal_binary.specs.Fields.{Read, ◌>>=◌, allow, given, groups_at, u
 use Rattle.goal_binary.proofs.Steps.{IsBytes, bind_ok, allow_ok}
 use Rattle.goal_binary.proofs.FieldsTaken.{leb-le}
 use Rattle.goal_binary.proofs.Readers.{Reader, Completed, Halts, ReadStop, Reads, reads_as}
-use Rattle.goal_binary.proofs.FieldsRead.{pair, less_from_ltb, fault_of_injective, u32_tested_reads}
+use Rattle.goal_binary.proofs.FieldsRead.{pair, fault_of_injective, u32_tested_reads}
 use Rattle.goal_binary.proofs.Packed.{read_of, field_ends, groups_again-low, groups_cut, groups_same, packed_ok}
 
 -- a packed number that passes a test
@@ -150,6 +150,6 @@ rank_count_reads l =
     let fits : ℕ → Bool = λ n. leb n MAX_RANKS && ltb 0 n in
     reads_as (λ bytes at. number_at bytes l at >>= λ x. allow (fits x.0) at x) (λ bytes at. rank_count_at bytes l at) (λ bytes at. refl)
     (number_reads l fits (λ n passed. record {
-      some = less_from_ltb 0 n (and_right (leb n MAX_RANKS) (ltb 0 n) passed);
+      some = ltb-true 0 n (and_right (leb n MAX_RANKS) (ltb 0 n) passed);
       within = leb-le n MAX_RANKS (and_left (leb n MAX_RANKS) (ltb 0 n) passed);
     }) (inr refl))

@@ -1,7 +1,7 @@
 -- Packed numbers, both ways.
 use Rattle.std.proofs.Common.{◌≡◌, ℕ, zero, suc, ◌+◌, ◌-◌, ◌*◌, ◌/◌, ◌%◌, ◌^◌, ◌<◌, ◌≤◌, Bool, true, false, cond, ltb, ◌&&◌, List, [], ◌∷◌, ◌++◌, length, get_or, take, drop, Option, Some, None, Ok, Err, refl, sym, ap, subst, ◌∙◌, arith, inl, inr}
-use Rattle.std.proofs.lemmas.Bool.{cases_lt, lt-ltb, le-ltb, ltb-false}
-use Rattle.std.proofs.lemmas.Option.{slice_get_past, slice_get-get_or}
+use Rattle.std.proofs.lemmas.Bool.{cases_lt, lt-ltb, le-ltb, ltb-true, ltb-false}
+use Rattle.std.proofs.lemmas.Option.{slice_get_past, slice_get-get_or, same_Some}
 use Rattle.goal_graph.proofs.ForCallers.{and_left, and_right}
 use Rattle.goal_binary.specs.declared.fault.FileFault.{FileFault}
 use Rattle.goal_binary.specs.declared.fault.FileFault.TheVariants.{Short}
@@ -12,14 +12,11 @@ use Rattle.goal_binary.proofs.Steps.{IsBytes, bind_ok, ok_injective, Takes, Take
 use Rattle.goal_binary.proofs.FieldsTaken.{IsBytes-drop, IsBytes-take, byte_taken}
 use Rattle.goal_binary.proofs.FieldsAgain.{IsReadAs, byte_again}
 use Rattle.goal_binary.proofs.Readers.{take-shorter}
-use Rattle.goal_binary.proofs.FieldsRead.{passes_from, first_of, passes_always, byte_at_is_field, byte_reads, less_from_ltb, fault_of_injective}
+use Rattle.goal_binary.proofs.FieldsRead.{passes_from, first_of, passes_always, byte_at_is_field, byte_reads, fault_of_injective}
 use Rattle.goal_binary.specs.declared.layout.Layout.TheVariants.{Packed}
 
-abbrev some_of : ℕ → Option ℕ
+abbrev pub some_of : ℕ → Option ℕ
 some_of n = Some n
-
-some_of_number_injective : (n v : ℕ) → some_of n ≡ some_of v → n ≡ v
-some_of_number_injective n v e = cc
 
 abbrev pub read_of : Option ℕ → ℕ → Option ℕ × ℕ
 read_of v after = (v, after)
@@ -40,9 +37,9 @@ joined_number_is_above group (Some n) v e = go (ltb 0 n && ltb n (2 ^ 57)) refl 
     go true is e = record {
       n = n;
       is = refl;
-      some = less_from_ltb 0 n (and_left (ltb 0 n) (ltb n (2 ^ 57)) is);
-      few = less_from_ltb n (2 ^ 57) (and_right (ltb 0 n) (ltb n (2 ^ 57)) is);
-      whole = sym (some_of_number_injective (group + 128 * n) v e);
+      some = ltb-true 0 n (and_left (ltb 0 n) (ltb n (2 ^ 57)) is);
+      few = ltb-true n (2 ^ 57) (and_right (ltb 0 n) (ltb n (2 ^ 57)) is);
+      whole = sym (same_Some (group + 128 * n) v e);
     }
     go false is e = absurd cc
 
@@ -93,9 +90,9 @@ module _ (bytes : List ℕ) (fits : IsBytes bytes) where
       → groups_after bytes left group low ≡ Ok (read_of (Some v) after) → Takes bytes at (groups (suc left) v) after
   rest_taken left at v after group lower takes width true is e =
       let same = ok_injective (read_of (Some group.0) group.1) (read_of (Some v) after) e in
-      let v_is : group.0 ≡ v = some_of_number_injective group.0 v (ap (λ (p : Option ℕ × ℕ). p.0) same) in
+      let v_is : group.0 ≡ v = same_Some group.0 v (ap (λ (p : Option ℕ × ℕ). p.0) same) in
       let place : group.1 ≡ after = ap (λ (p : Option ℕ × ℕ). p.1) same in
-      let low : v < 128 = omega (arith, v_is, less_from_ltb group.0 128 is) in
+      let low : v < 128 = omega (arith, v_is, ltb-true group.0 128 is) in
       rw (groups-low left v low, ← v_is, ← place) takes
   rest_taken left at v after group lower takes width false is e =
       let o = bind_ok (groups_at bytes left group.1) (λ others. Ok (read_of (below (group.0 - 128) others.0) others.1)) (read_of (Some v) after) e in

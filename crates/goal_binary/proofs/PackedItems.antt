@@ -1,6 +1,6 @@
 -- The parts of an operation in version 2.
 use Rattle.std.proofs.Common.{◌≡◌, ℕ, zero, suc, ◌+◌, ◌*◌, ◌/◌, ◌%◌, ◌<◌, ◌≤◌, Bool, true, false, cond, ltb, leb, eqb, ◌&&◌, ◌||◌, List, [], ◌∷◌, refl, arith}
-use Rattle.std.proofs.lemmas.Bool.{lt-ltb, le-leb, eqb-true}
+use Rattle.std.proofs.lemmas.Bool.{ltb-true, lt-ltb, le-leb, lt-leb, eqb-true}
 use Rattle.std.proofs.lemmas.Bool.Decides.{nat_tests}
 use Rattle.goal_graph.proofs.ForCallers.{and_left, and_right}
 use Rattle.goal_binary.specs.declared.form.OpForm.{OpForm}
@@ -8,7 +8,6 @@ use Rattle.goal_binary.specs.declared.form.OpForm.TheVariants as form
 use Rattle.goal_binary.specs.File.{packed, kind_code, flags_of, peer_in, tag_in, size_of, flag_unless_zero, byte_unless_zero, packed_if_some}
 use Rattle.goal_binary.specs.Reading.{most_flags, form_of, has_peer, has_tag, kind_of, is_head}
 use Rattle.goal_binary.proofs.FieldsTaken.{leb-le}
-use Rattle.goal_binary.proofs.FieldsRead.{less_from_ltb}
 
 -- a number that is not 0
 abbrev pub is_some : ℕ → Bool
@@ -34,22 +33,19 @@ eqb_one_true n h = grind (arith, nat_tests)
 is_none : (n : ℕ) → n ≡ 0 → eqb n 1 ≡ false
 is_none n h = grind (arith, nat_tests)
 
-is_less : (m n : ℕ) → n < m → leb m n ≡ false
-is_less m n h = grind (arith, nat_tests)
-
 pub joined_head_has_parts : (kind flags : ℕ) (cpu nic : Bool) → kind < 4 → flags < 4 → HasParts (joined kind flags cpu nic) kind flags cpu nic
 joined_head_has_parts kind flags false false k f = record {
   kind_is = omega (arith, k, f);
   flags_are = omega (arith, k, f);
   cpu_is = is_none _ (omega (arith, k, f));
-  nic_is = is_less _ _ (omega (arith, k, f));
+  nic_is = lt-leb _ _ (omega (arith, k, f));
   small = omega (arith, k, f);
 }
 joined_head_has_parts kind flags true false k f = record {
   kind_is = omega (arith, k, f);
   flags_are = omega (arith, k, f);
   cpu_is = eqb_one_true _ (omega (arith, k, f));
-  nic_is = is_less _ _ (omega (arith, k, f));
+  nic_is = lt-leb _ _ (omega (arith, k, f));
   small = omega (arith, k, f);
 }
 joined_head_has_parts kind flags false true k f = record {
@@ -99,7 +95,7 @@ is_head_sound head passed =
     let abc = and_left (a && b && c) d passed in
     let ab = and_left (a && b) c abc in
     record {
-      small = less_from_ltb head 64 (and_left a b ab);
+      small = ltb-true head 64 (and_left a b ab);
       kind_fits = leb-le (head % 4) 2 (and_right a b ab);
       flags_fit = leb-le (head / 4 % 4) (most_flags (head % 4)) (and_right (a && b) c abc);
       nic_fits = and_right (a && b && c) d passed;

@@ -26,29 +26,18 @@ use Rattle.goal_binary.proofs.FieldsAgain.{IsReadAs}
 use Rattle.goal_binary.proofs.NumbersAgain.{count_again, rank_count_again, opening_again}
 use Rattle.goal_binary.proofs.PackedAgain.{append_of_six_regrouped}
 use Rattle.goal_binary.proofs.ItemsAgain.{op_again, dep_again, note_again, list_again}
-
--- the counts of a rank after the ranks before it
-record AreFew (ops deps notes : ℕ) (p : Plan) : Type 0 where
-  op_room : ops + length p.ops ≤ MAX_OPS
-  dep_room : deps + length p.deps ≤ MAX_DEPS
-  note_room : notes + length p.notes ≤ MAX_NOTES
-
--- all counts of these ranks are within the limits
-record AreAllFew (plans : List Plan) : Type 0 where
-  ops : op_count plans ≤ MAX_OPS
-  deps : dep_count plans ≤ MAX_DEPS
-  notes : note_count plans ≤ MAX_NOTES
+use Rattle.goal_binary.proofs.RanksRead.{AreFew, AreWithin}
 
 count_with_next_rank_le : (f : Plan → ℕ) (count : List Plan → ℕ) (sum : (ps : List Plan) → count ps ≡ sum_by f ps) (before : List Plan) (p : Plan) (ps : List Plan) → count before + f p ≤ count (before ++ p ∷ ps)
 count_with_next_rank_le f count sum before p ps =
     omega (arith, sum before, sum (before ++ p ∷ ps), sum_by-append f before (p ∷ ps), sum_by-cons f p ps)
 
-few-next : (before : List Plan) (p : Plan) (ps : List Plan) → AreAllFew (before ++ p ∷ ps) → AreFew (op_count before) (dep_count before) (note_count before) p
+few-next : (before : List Plan) (p : Plan) (ps : List Plan) → AreWithin (before ++ p ∷ ps) → AreFew (op_count before) (dep_count before) (note_count before) p
 unfolding op_count dep_count note_count
 few-next before p ps few = record {
-  op_room = omega (arith, few.ops, count_with_next_rank_le (λ (p : Plan). length p.ops) op_count (λ ps. refl) before p ps);
-  dep_room = omega (arith, few.deps, count_with_next_rank_le (λ (p : Plan). length p.deps) dep_count (λ ps. refl) before p ps);
-  note_room = omega (arith, few.notes, count_with_next_rank_le (λ (p : Plan). length p.notes) note_count (λ ps. refl) before p ps);
+  ops_within = omega (arith, few.ops, count_with_next_rank_le (λ (p : Plan). length p.ops) op_count (λ ps. refl) before p ps);
+  deps_within = omega (arith, few.deps, count_with_next_rank_le (λ (p : Plan). length p.deps) dep_count (λ ps. refl) before p ps);
+  notes_within = omega (arith, few.notes, count_with_next_rank_le (λ (p : Plan). length p.notes) note_count (λ ps. refl) before p ps);
 }
 
 module _ (bytes : List ℕ) (l : Layout) where
@@ -67,9 +56,9 @@ module _ (bytes : List ℕ) (l : Layout) where
       let ns = flat_map (spelled_note l) p.notes in
       let regrouped : spelled_rank l p ++ rest ≡ spelled_count l (length p.ops) ++ (spelled_count l (length p.deps) ++ (spelled_count l (length p.notes) ++ (os ++ (ds ++ (ns ++ rest))))) =
       append_of_six_regrouped (spelled_count l (length p.ops)) (spelled_count l (length p.deps)) (spelled_count l (length p.notes)) os ds ns rest in
-      let a = count_again bytes l MAX_OPS ops at (length p.ops) (spelled_count l (length p.deps) ++ (spelled_count l (length p.notes) ++ (os ++ (ds ++ (ns ++ rest))))) (omega (arith, few.op_room)) few.op_room (h ∙ regrouped) in
-      let b = count_again bytes l MAX_DEPS deps a.place (length p.deps) (spelled_count l (length p.notes) ++ (os ++ (ds ++ (ns ++ rest)))) (omega (arith, few.dep_room)) few.dep_room a.rest_is in
-      let c = count_again bytes l MAX_NOTES notes b.place (length p.notes) (os ++ (ds ++ (ns ++ rest))) (omega (arith, few.note_room)) few.note_room b.rest_is in
+      let a = count_again bytes l MAX_OPS ops at (length p.ops) (spelled_count l (length p.deps) ++ (spelled_count l (length p.notes) ++ (os ++ (ds ++ (ns ++ rest))))) (omega (arith, few.ops_within)) few.ops_within (h ∙ regrouped) in
+      let b = count_again bytes l MAX_DEPS deps a.place (length p.deps) (spelled_count l (length p.notes) ++ (os ++ (ds ++ (ns ++ rest)))) (omega (arith, few.deps_within)) few.deps_within a.rest_is in
+      let c = count_again bytes l MAX_NOTES notes b.place (length p.notes) (os ++ (ds ++ (ns ++ rest))) (omega (arith, few.notes_within)) few.notes_within b.rest_is in
       let d = list_again bytes (op_at bytes l) (spelled_op l) OpFits (op_again bytes l) p.ops c.place (ds ++ (ns ++ rest)) (recursion_from_All OpFits p.ops fits.ops) c.rest_is in
       let f = list_again bytes (dep_at bytes l) (spelled_dep l) DepFits (dep_again bytes l) p.deps d.place (ns ++ rest) (recursion_from_All DepFits p.deps fits.deps) d.rest_is in
       let g = list_again bytes (note_at bytes l) (spelled_note l) IsNoteInWidth (note_again bytes l) p.notes f.place rest (recursion_from_All IsNoteInWidth p.notes fits.notes) f.rest_is in
@@ -79,7 +68,7 @@ module _ (bytes : List ℕ) (l : Layout) where
         rest_is = g.rest_is;
       }
 
-  ranks_again : (ps before : List Plan) (at : ℕ) (rest : List ℕ) → AllByRecursion PlanFits ps → AreAllFew (before ++ ps) → drop at bytes ≡ flat_map (spelled_rank l) ps ++ rest → IsReadAs bytes (ranks_at bytes l (length ps) before at) (before ++ ps) rest
+  ranks_again : (ps before : List Plan) (at : ℕ) (rest : List ℕ) → AllByRecursion PlanFits ps → AreWithin (before ++ ps) → drop at bytes ≡ flat_map (spelled_rank l) ps ++ rest → IsReadAs bytes (ranks_at bytes l (length ps) before at) (before ++ ps) rest
   unfolding ranks_at
   ranks_again [] before at rest fits few h =
       record { place = at; is = ap (λ (ps : List Plan). Ok (ps, at)) (sym (append-nil before)); rest_is = h }
@@ -87,7 +76,7 @@ module _ (bytes : List ℕ) (l : Layout) where
       let regrouped : flat_map (spelled_rank l) (p ∷ ps) ++ rest ≡ spelled_rank l p ++ (flat_map (spelled_rank l) ps ++ rest) = ap (λ (t : List ℕ). t ++ rest) (flat_map-cons (spelled_rank l) p ps) ∙ append_assoc (spelled_rank l p) (flat_map (spelled_rank l) ps) rest in
       let joined : (before ++ p ∷ []) ++ ps ≡ before ++ p ∷ ps = append_assoc before (p ∷ []) ps in
       let a = rank_again p (op_count before) (dep_count before) (note_count before) at (flat_map (spelled_rank l) ps ++ rest) fits.0 (few-next before p ps few) (h ∙ regrouped) in
-      let r = ranks_again ps (before ++ p ∷ []) a.place rest fits.1 (subst AreAllFew (sym joined) few) a.rest_is in
+      let r = ranks_again ps (before ++ p ∷ []) a.place rest fits.1 (subst AreWithin (sym joined) few) a.rest_is in
       record { place = r.place; is = rw a.is (r.is ∙ ap (λ (qs : List Plan). Ok (qs, r.place)) joined); rest_is = r.rest_is }
 
 -- a schedule has a file

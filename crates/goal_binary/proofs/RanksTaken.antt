@@ -1,5 +1,5 @@
 -- Bytes that mean plans are the file of these plans.
-use Rattle.std.proofs.Common.{◌≡◌, ℕ, zero, suc, ◌<◌, Bool, true, false, cond, ltb, List, [], ◌∷◌, ◌++◌, length, drop, Ok, Err, All, refl, sym, ap, subst, ◌∙◌, append_assoc, arith, inl, inr}
+use Rattle.std.proofs.Common.{◌≡◌, ℕ, zero, suc, ◌<◌, ltb, List, [], ◌∷◌, ◌++◌, length, drop, Ok, All, refl, sym, ap, subst, ◌∙◌, append_assoc, arith, inl, inr}
 use Rattle.std.specs.List.{flat_map}
 use Rattle.std.proofs.lemmas.Bool.{cases_lt, ltb-false}
 use Rattle.std.proofs.lemmas.List.{append-nil, drop_all, get_or_past}
@@ -7,7 +7,6 @@ use Rattle.std.proofs.lemmas.List.Concat.{flat_map-cons}
 use Rattle.goal_limits.specs.declared.limits.TheConstants.{MAX_OPS, MAX_DEPS, MAX_NOTES}
 use Rattle.goal_graph.specs.Schedule.{Plan}
 use Rattle.goal_graph.specs.Fault.{op_count, dep_count, note_count}
-use Rattle.goal_binary.specs.declared.fault.FileFault.{FileFault}
 use Rattle.goal_binary.specs.declared.layout.TheConstants.{MAGIC}
 use Rattle.goal_binary.specs.declared.layout.Layout.{Layout}
 use Rattle.goal_binary.specs.Layouts.{version_of}
@@ -17,13 +16,9 @@ use Rattle.goal_binary.specs.Fields.{Read, count_at, opening_at, rank_count_at}
 use Rattle.goal_binary.specs.Reading.{list_at, op_at, dep_at, note_at, rank_at, ranks_at, records_at}
 use Rattle.goal_binary.specs.Meaning.{plans_at, meaning}
 use Rattle.goal_binary.proofs.Steps.{IsBytes, bind_ok, ok_injective, Takes, Takes-then}
+use Rattle.goal_binary.proofs.FieldsTaken.{guard_ok}
 use Rattle.goal_binary.proofs.NumbersTaken.{number_taken, count_ok, rank_count_taken, opening_taken}
 use Rattle.goal_binary.proofs.ItemsTaken.{op_taken, dep_taken, note_taken}
-
--- a test that passed
-guard_ok : {A : Type 0} (b : Bool) (d : FileFault) (x y : A) → cond b (Err d) (Ok x) ≡ Ok y → (b ≡ false) × (x ≡ y)
-guard_ok true d x y e = absurd cc
-guard_ok false d x y e = (refl, cc)
 
 pub IsBytes-All : (bytes : List ℕ) → All (λ (b : ℕ). b < 256) bytes → IsBytes bytes
 IsBytes-All bytes all i =

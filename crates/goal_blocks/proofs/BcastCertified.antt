@@ -1,7 +1,7 @@
 -- The broadcast is certified, for every number of ranks, every root and every size.
 use Rattle.std.proofs.Common.{ℕ, zero, suc, ◌+◌, ◌^◌, ◌<◌, ◌≤◌, ◌≡◌, ◌==◌, ◌&&◌, ◌⊎◌, nat_lt, inl, inr, Bool, true, false, List, [], ◌∷◌, map, length, All, Option, Some, if◌then◌else◌, refl, sym, ap, ◌∙◌, subst, arith, eq-eqb}
 use Rattle.std.specs.List.{range_with_len, sum_by}
-use Rattle.std.proofs.lemmas.Bool.{lt-ltb, ne_eqb}
+use Rattle.std.proofs.lemmas.Bool.{lt-ltb}
 use Rattle.goal_limits.specs.Limits.{weight_limit, rank_limit}
 use Rattle.goal_graph.specs.declared.plan.Kind.{Kind}
 use Rattle.goal_graph.specs.declared.plan.Kind.TheVariants.{Calc, Send, Recv}
@@ -24,6 +24,7 @@ use Rattle.goal_blocks.proofs.EntryFacts.{length_plans}
 use Rattle.goal_blocks.proofs.Ring.{virtual_rank_zero_is_root}
 use Rattle.goal_blocks.proofs.RingAndTree.{back_below, digits_some}
 use Rattle.goal_blocks.proofs.MadeFits.{bcast_few, bcast_fits}
+use Rattle.goal_blocks.proofs.BcastOfTwo.{successor_slot_is_not_zero}
 use Rattle.goal_blocks.proofs.BcastPaired.{TreeHop, tree_send, tree_recv, tree_messages}
 use Rattle.goal_blocks.proofs.Sizes.{sum_below_few, sum_low_few, entries_small}
 use Rattle.goal_blocks.proofs.Totals.{entries_few}
@@ -102,16 +103,13 @@ module _ (ranks root bytes : ℕ) (rooted : root < ranks) (few : ranks ≤ rank_
   touches_zero (suc v) (suc i) k (inl e) = e
   touches_zero (suc v) (suc i) k (inr m) = absurd m
 
-  successor_is_not_zero : (k : ℕ) → (suc k == 0) ≡ false
-  successor_is_not_zero k = ne_eqb (suc k) 0 (λ e. omega (arith, e))
-
   wanted_at_end : (r : ℕ) → r < ranks → wanted (Bcast root) ranks r 0 (single root 0) ≡ true
   unfolding wanted is_value
   wanted_at_end r inside = rw (lt-ltb r ranks inside, eq-eqb root root refl) refl
 
   nothing_wanted_elsewhere : (r k : ℕ) (v : Value) → wanted (Bcast root) ranks r (suc k) v ≡ true
   unfolding wanted
-  nothing_wanted_elsewhere r k v = rw (successor_is_not_zero k) (go (nat_lt r ranks))
+  nothing_wanted_elsewhere r k v = rw (successor_slot_is_not_zero k) (go (nat_lt r ranks))
     where
       go : (b : Bool) → (if b then true else true) ≡ true
       go true = refl
@@ -164,7 +162,7 @@ module _ (ranks root bytes : ℕ) (rooted : root < ranks) (few : ranks ≤ rank_
       go true true = omega arith
       go true false = omega arith
       go false b = omega arith
-  first_cap r (suc k) = rw (successor_is_not_zero k) (go (nat_lt r ranks) (r == root))
+  first_cap r (suc k) = rw (successor_slot_is_not_zero k) (go (nat_lt r ranks) (r == root))
     where
       go : (a b : Bool) → length (if a then (if b && false then single root 0 else []) else []) ≤ 0
       go true true = omega arith

@@ -3,7 +3,6 @@
 use Rattle.std.proofs.Common.{⊎_elim, ℕ, zero, suc, ◌+◌, ◌<◌, ◌≤◌, ◌^◌, ◌≡◌, ◌⊎◌, inl, inr, Bool, true, List, [], ◌∷◌, map, flat_map, length, Contains, Option, Some, None, refl, sym, ap, ◌∙◌, subst, arith}
 use Rattle.std.specs.List.{sum_by, range_with_len}
 use Rattle.std.proofs.lemmas.List.{length-map}
-use Rattle.std.proofs.lemmas.List.FromFn.{length-map-range_with_len}
 use Rattle.std.proofs.lemmas.List.Sums.{sum_by-cons, sum_by-append}
 use Rattle.goal_limits.specs.Limits.{weight_limit}
 use Rattle.goal_graph.specs.declared.action.OpId.{OpId}
@@ -25,12 +24,12 @@ use Rattle.goal_blocks.specs.Matched.{IsMatched}
 use Rattle.goal_blocks.specs.Weight.{sum_below}
 use Rattle.goal_blocks.specs.Certification.{IsSmall, HasEqualLengths, HoldsWanted, IsCertified}
 use Rattle.goal_blocks.specs.Right.{IsRightEverywhere}
-use Rattle.goal_blocks.specs.Entries.{Entry, op_of, plan_by, made_by}
+use Rattle.goal_blocks.specs.Entries.{Entry, plan_by, made_by}
 use Rattle.goal_blocks.specs.Levels.{AreLevels}
 use Rattle.goal_blocks.specs.Messages.{AreMessages, AreChannelsPaired}
 use Rattle.goal_blocks.proofs.Orders.{Mem}
 use Rattle.goal_blocks.proofs.Effects.{mem_contains, contains_mem, written_touched, set_slot_holds_value, write_map}
-use Rattle.goal_blocks.proofs.EntryFacts.{slots_of_span, length_plans, kind_there, needs_there, slots_there, adds_there, kind_only}
+use Rattle.goal_blocks.proofs.EntryFacts.{slots_of_span, length_ops_by, length_plans, kind_there, needs_there, slots_there, adds_there, kind_only}
 use Rattle.goal_blocks.proofs.Matched.{op_has_kind}
 use Rattle.goal_blocks.proofs.MessagesPaired.{messages_paired, message_of_send, one_channel}
 use Rattle.goal_blocks.proofs.Levels.{levels_end}
@@ -76,10 +75,6 @@ unfolding places_of_rank
 sum_places f r i [] = refl
 sum_places f r i (o ∷ os) =
     sum_by-cons f (op_at r i) (places_of_rank r (i + 1) os) ∙ ap (λ (n : ℕ). f (op_at r i) + n) (sum_places f r (i + 1) os) ∙ sym (sum_by-cons (λ (k : ℕ). f (op_at r k)) i (range_with_len (i + 1) (length os)))
-
-length_ops_by : (n : ℕ) (e : ℕ → Entry) → length (plan_by n e).ops ≡ n
-unfolding plan_by
-length_ops_by n e = length-map-range_with_len (λ (i : ℕ). op_of (e i)) 0 n
 
 sum_from : (count : ℕ → ℕ) (e : ℕ → ℕ → Entry) (load : ℕ → ℕ → ℕ) (a n : ℕ) → sum_by (λ (x : OpId). load x.rank x.op) (places_from a (map (λ (r : ℕ). plan_by (count r) (e r)) (range_with_len a n))) ≡ sum_by (λ (r : ℕ). sum_by (load r) (range_with_len 0 (count r))) (range_with_len a n)
 unfolding places_from

@@ -121,6 +121,10 @@ module _ (i j : ℕ) (e : Entry) where
       flat_map-append (added_by i) (map (λ (s : Span). Moves j s.lo s.hi) e.moves) (map (λ (a : Adding). Adds j a.from a.to) e.adds)
       ∙ rw (adds_of_moves i j e.moves, adds_of_others i j other e.adds) refl
 
+pub length_ops_by : (n : ℕ) (e : ℕ → Entry) → length (plan_by n e).ops ≡ n
+unfolding plan_by
+length_ops_by n e = length-map-range_with_len (λ (i : ℕ). op_of (e i)) 0 n
+
 module _ (ranks : ℕ) (count : ℕ → ℕ) (e : ℕ → ℕ → Entry) where
   abbrev plans : List Plan
   plans = made_by ranks count e
@@ -175,10 +179,6 @@ module _ (ranks : ℕ) (count : ℕ → ℕ) (e : ℕ → ℕ → Entry) where
   unfolding made_by
   length_plans = length-map-range_with_len (λ (r : ℕ). plan_by (count r) (e r)) 0 ranks
 
-  length_ops : (r : ℕ) → length (plan_by (count r) (e r)).ops ≡ count r
-  unfolding plan_by
-  length_ops r = length-map-range_with_len (λ (i : ℕ). op_of (e r i)) 0 (count r)
-
   no_kind_past_ranks : (x : OpId) (k : Kind) → ranks ≤ x.rank → kind_at plans x ≡ Some k → ⊥
   unfolding kind_at op_at
   no_kind_past_ranks x k past h =
@@ -188,7 +188,7 @@ module _ (ranks : ℕ) (count : ℕ → ℕ) (e : ℕ → ℕ → Entry) where
   no_kind_past_ops : (x : OpId) (k : Kind) → x.rank < ranks → count x.rank ≤ x.op → kind_at plans x ≡ Some k → ⊥
   unfolding kind_at op_at
   no_kind_past_ops x k in_rank past h =
-      let none = slice_get_past (plan_by (count x.rank) (e x.rank)).ops x.op (omega (arith, length_ops x.rank)) in
+      let none = slice_get_past (plan_by (count x.rank) (e x.rank)).ops x.op (omega (arith, length_ops_by (count x.rank) (e x.rank))) in
       absurd (cc (rw (made_plan_of_rank x.rank in_rank, none) at h))
 
   pub kind_only : (x : OpId) (k : Kind) → kind_at plans x ≡ Some k → IsEntry x k

@@ -23,6 +23,7 @@ use Rattle.goal_graph.specs.Fault.{value_fits, has_peer, is_calc, dep_in_range, 
 use Rattle.goal_blocks.specs.Slots.{Adding}
 use Rattle.goal_blocks.specs.Entries.{Entry, Span, op_of, deps_of, notes_of, plan_by, made_by}
 use Rattle.goal_blocks.specs.Fitting.{IsFitting, AreFitting, need_total, note_total}
+use Rattle.goal_blocks.proofs.EntryFacts.{length_ops_by, length_plans}
 
 -- if P holds throughout the list of each item, then it holds throughout their concatenation
 pub All-flat_map : {X Y : Type 0} (P : Y → Type 0) (f : X → List Y) (xs : List X) → All (λ x. All P (f x)) xs → All P (flat_map f xs)
@@ -105,10 +106,6 @@ module _ (ranks n i : ℕ) (e : Entry) (inside : i < n) (fit : IsFitting ranks i
         (All-map (λ (m : Note). note_fits ops m ≡ true) _ e.adds (λ k d l. add_fits (get_or e.adds k d) (fit.adds k d l)))
 
 module _ (ranks : ℕ) (count : ℕ → ℕ) (e : ℕ → ℕ → Entry) (fit : AreFitting ranks count e) where
-  length_ops : (r : ℕ) → length (plan_by (count r) (e r)).ops ≡ count r
-  unfolding plan_by
-  length_ops r = length-map-range_with_len (λ (i : ℕ). op_of (e r i)) 0 (count r)
-
   module _ (r : ℕ) (in_rank : r < ranks) where
     op_here : (i : ℕ) → i < count r → slice_get (plan_by (count r) (e r)).ops i ≡ Some (op_of (e r i))
     unfolding plan_by
@@ -143,17 +140,13 @@ module _ (ranks : ℕ) (count : ℕ → ℕ) (e : ℕ → ℕ → Entry) (fit : 
     rank_fits n =
         rw (
           first_fault-of_none (λ (o : Op). (value_fits o.kind o.nic ≡ true) × (has_peer ranks o.kind ≡ true)) (op_fault ranks n) (λ k o h. rw (h.0, h.1) refl) 0 (plan_by (count r) (e r)).ops ops_fit,
-          length_ops r,
+          length_ops_by (count r) (e r),
           first_fault-of_none (λ (d : Dep). (dep_in_range (count r) d ≡ true) × (d.earlier < d.later)) (dep_fault (count r) n) (λ k d h. rw h.0 refl) 0 (plan_by (count r) (e r)).deps deps_fit,
           first_fault-of_none (λ (m : Note). note_fits (plan_by (count r) (e r)).ops m ≡ true) (note_fault (plan_by (count r) (e r)).ops n) (λ k m h. rw h refl) 0 (plan_by (count r) (e r)).notes notes_fit,
         ) refl
 
     deps_lower_in : All (λ (d : Dep). d.earlier < d.later) (plan_by (count r) (e r)).deps
     deps_lower_in k d l = (deps_fit k d l).1
-
-  length_made : length (made_by ranks count e) ≡ ranks
-  unfolding made_by
-  length_made = length-map-range_with_len (λ (r : ℕ). plan_by (count r) (e r)) 0 ranks
 
   -- if P holds of the plan of each rank, then it holds of all plans
   All-made : (P : Plan → Type 0) → ((r : ℕ) → r < ranks → P (plan_by (count r) (e r))) → All P (made_by ranks count e)
@@ -169,7 +162,7 @@ module _ (ranks : ℕ) (count : ℕ → ℕ) (e : ℕ → ℕ → Entry) (fit : 
   unfolding op_count
   op_count_made =
       sum_made (λ (p : Plan). length p.ops)
-      ∙ ap (λ (f : ℕ → ℕ). sum_by f (range_with_len 0 ranks)) (λ i r. length_ops r i)
+      ∙ ap (λ (f : ℕ → ℕ). sum_by f (range_with_len 0 ranks)) (λ i r. length_ops_by (count r) (e r) i)
 
   length_deps : (r : ℕ) → length (plan_by (count r) (e r)).deps ≡ sum_by (λ (i : ℕ). length (e r i).needs) (range_with_len 0 (count r))
   unfolding plan_by
@@ -207,7 +200,7 @@ module _ (ranks : ℕ) (count : ℕ → ℕ) (e : ℕ → ℕ → Entry) (fit : 
   made_counts_within_limits : count_fault (made_by ranks count e) ≡ None
   unfolding count_fault
   made_counts_within_limits =
-      rw (length_made, op_count_made, dep_count_made, note_count_made, some ranks fit.some_rank, no_count_over_limit MAX_RANKS ranks fit.few_ranks, no_count_over_limit MAX_OPS _ fit.few_ops, no_count_over_limit MAX_DEPS _ fit.few_needs, no_count_over_limit MAX_NOTES _ fit.few_notes) refl
+      rw (length_plans ranks count e, op_count_made, dep_count_made, note_count_made, some ranks fit.some_rank, no_count_over_limit MAX_RANKS ranks fit.few_ranks, no_count_over_limit MAX_OPS _ fit.few_ops, no_count_over_limit MAX_DEPS _ fit.few_needs, no_count_over_limit MAX_NOTES _ fit.few_notes) refl
     where
       some : (n : ℕ) → 0 < n → eqb n 0 ≡ false
       some n h = grind (arith, nat_tests)
@@ -215,7 +208,7 @@ module _ (ranks : ℕ) (count : ℕ → ℕ) (e : ℕ → ℕ → Entry) (fit : 
   made_has_no_plain_fault : plain_fault (made_by ranks count e) ≡ None
   unfolding plain_fault
   made_has_no_plain_fault =
-      rw (made_counts_within_limits, length_made)
+      rw (made_counts_within_limits, length_plans ranks count e)
       (first_fault-of_none (λ (p : Plan). (n : ℕ) → rank_fault ranks n p ≡ None) (rank_fault ranks) (λ n p h. h n) 0 (made_by ranks count e) (All-made (λ (p : Plan). (n : ℕ) → rank_fault ranks n p ≡ None) (λ r l. rank_fits r l)))
 
   pub fitting_accepted : IsAccepted (made_by ranks count e)

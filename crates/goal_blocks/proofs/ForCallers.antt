@@ -17,6 +17,7 @@ pub use Rattle.goal_blocks.proofs.Faults.{heavy_not}
 pub use Rattle.goal_blocks.proofs.SomeWalk.{IsFirst, takes_first, nothing_allowed_if_none_found, some_walk}
 pub use Rattle.goal_blocks.proofs.MadeCertified.{made_certified, made_right, made_right_at_any_weight}
 pub use Rattle.goal_blocks.proofs.Sorted.{length_merge, sorted_merge, merge_none, lower_than_not_lower, not_lower_transitive, not_lower_is_equal, all_by_recursion_weaker}
+pub use Rattle.goal_blocks.proofs.SlotRanges.{length_of_slots_from}
 pub use Rattle.goal_blocks.proofs.SlotSums.{slot_length_at_most_stored, stored_set}
 pub use Rattle.goal_blocks.proofs.Exchange.{initial_in_first_block, wanted_in_first_block, exchange_with_first_block, stored_exchanged, exchange_twice}
 pub use Rattle.goal_blocks.proofs.StoreFacts.{same_place}

@@ -19,7 +19,7 @@ use Rattle.goal_blocks.specs.Generated.{made}
 use Rattle.goal_blocks.specs.Messages.{AreMessages}
 use Rattle.goal_blocks.proofs.Orders.{Mem}
 use Rattle.goal_blocks.proofs.EntryFacts.{slots_of_span, length_plans}
-use Rattle.goal_blocks.proofs.Ring.{back_by_root_injective, root_has_virtual_rank_zero}
+use Rattle.goal_blocks.proofs.Ring.{back_cancels, root_has_virtual_rank_zero}
 use Rattle.goal_blocks.proofs.RingAndTree.{back_below, upward_some, upward_few}
 use Rattle.goal_blocks.proofs.Trees.{rounds_few, child_below}
 use Rattle.goal_blocks.proofs.Tree.{rounds_low, low_zero, IsInRound, round_of_descendant, round_of_descendant_unique, round_in_block}
@@ -149,7 +149,7 @@ module _ (ranks root bytes : ℕ) (rooted : root < ranks) (few : ranks ≤ rank_
       low_rank = back_below ranks r root inside
 
       given : rounds ranks (back ranks r root) ≤ i → IsInShare ranks root (back ranks r root) (2 ^ low (back ranks r root)) k → Traced r i k
-      given ge is = ⊎_elim (λ lt. heard ge is (round_of_descendant ranks few (back ranks r root) (back ranks k root) lt (back_below ranks k root is.slot) is.before)) (λ le. inl (first_own r k inside (back_by_root_injective ranks r k root inside is.slot rooted (let from = is.from in omega (arith, le, from))), λ j l w. absurd (let above_v = (writes_round (back ranks r root) j k low_rank w).round.from in let some = pow_pos j in omega (arith, above_v, some, le)))) (cases_lt (back ranks r root) (back ranks k root))
+      given ge is = ⊎_elim (λ lt. heard ge is (round_of_descendant ranks few (back ranks r root) (back ranks k root) lt (back_below ranks k root is.slot) is.before)) (λ le. inl (first_own r k inside (back_cancels ranks k r root is.slot inside (omega (arith, rooted)) (let from = is.from in omega (arith, le, from))), λ j l w. absurd (let above_v = (writes_round (back ranks r root) j k low_rank w).round.from in let some = pow_pos j in omega (arith, above_v, some, le)))) (cases_lt (back ranks r root) (back ranks k root))
         where
           heard : rounds ranks (back ranks r root) ≤ i → IsInShare ranks root (back ranks r root) (2 ^ low (back ranks r root)) k → (j : ℕ) × IsInRound ranks (back ranks r root) (back ranks k root) j → Traced r i k
           heard ge is (j, at) = inr (j, (let lt = at.round in omega (arith, lt)), round_writes (back ranks r root) j k low_rank is.slot at, now (subst (λ (x : Entry). Mem j x.needs) (sym (entry_sends (back ranks r root) i ge)) (range_contains_number 0 (rounds ranks (back ranks r root)) j (omega arith) (let lt = at.round in omega (arith, lt)))), refl, λ l m w. inl (inr (round_of_descendant_unique ranks few (back ranks r root) (back ranks k root) l j (writes_round (back ranks r root) l k low_rank w).round at)))
@@ -176,7 +176,7 @@ module _ (ranks root bytes : ℕ) (rooted : root < ranks) (few : ranks ≤ rank_
   Ended r k = Final ranks count entry first (wanted (Gather root) ranks) item_of_slot item_of_slot r k
 
   final_root : (k : ℕ) → k < ranks → Ended root k
-  final_root k slot = ⊎_elim (λ some. heard (round_of_descendant ranks few (back ranks root root) (back ranks k root) (omega (arith, some, none)) (back_below ranks k root slot) (let high = back_below ranks k root slot in let top : low (back ranks root root) ≡ 32 = ap low (root_has_virtual_rank_zero ranks root) ∙ low_zero in subst (λ (n : ℕ). back ranks k root < back ranks root root + 2 ^ n) (sym top) (omega (arith, high, few))))) (λ zero. inr (inl (λ j l w. absurd (let from = (writes_round (back ranks root root) j k low_root w).round.from in let some = pow_pos j in omega (arith, from, some, zero)), subst (λ (u : Value). wanted (Gather root) ranks root k u ≡ true) (sym (first_own root k rooted (back_by_root_injective ranks root k root rooted slot rooted (omega (arith, zero, none))))) (wanted_at_root root k rooted slot refl)))) (cases_lt 0 (back ranks k root))
+  final_root k slot = ⊎_elim (λ some. heard (round_of_descendant ranks few (back ranks root root) (back ranks k root) (omega (arith, some, none)) (back_below ranks k root slot) (let high = back_below ranks k root slot in let top : low (back ranks root root) ≡ 32 = ap low (root_has_virtual_rank_zero ranks root) ∙ low_zero in subst (λ (n : ℕ). back ranks k root < back ranks root root + 2 ^ n) (sym top) (omega (arith, high, few))))) (λ zero. inr (inl (λ j l w. absurd (let from = (writes_round (back ranks root root) j k low_root w).round.from in let some = pow_pos j in omega (arith, from, some, zero)), subst (λ (u : Value). wanted (Gather root) ranks root k u ≡ true) (sym (first_own root k rooted (back_cancels ranks k root root slot rooted (omega (arith, rooted)) (omega (arith, zero, none))))) (wanted_at_root root k rooted slot refl)))) (cases_lt 0 (back ranks k root))
     where
       none : back ranks root root ≡ 0
       none = root_has_virtual_rank_zero ranks root

@@ -18,6 +18,7 @@ use Rattle.goal_graph.specs.Matching.{Pair, accepts, fits_kinds, fits, other_in,
 use Rattle.goal_graph.specs.Allowed.{first_class, last_class, has_started, has_ended, is_met, is_ready, is_served, may, allowed}
 use Rattle.goal_graph.specs.Interleaving.{IsInterleaving, IsCompleteInterleaving}
 use Rattle.goal_blocks.specs.Placed.{IsPermutation, placed_op, placed_act, placed_kind, placed_of}
+use Rattle.goal_blocks.proofs.PlacedPlans.{placed_op_after_back}
 
 module _ (ranks : ℕ) (to back : ℕ → ℕ) (perm : IsPermutation ranks to back) where
   -- numbers of ranks are the same where the renamed ones are
@@ -41,10 +42,6 @@ module _ (ranks : ℕ) (to back : ℕ → ℕ) (perm : IsPermutation ranks to ba
   happened_placed class x [] = refl
   happened_placed class x (a ∷ h) =
       λ i. happened_placed class x h i || (is_of class a && same_place_op a.op x i)
-
-  -- each operation is renamed from one
-  pub op_back : (y : OpId) → placed_op to (placed_op back y) ≡ y
-  op_back y = λ i. record { rank = perm.to_back y.rank i; op = y.op }
 
   accepts_placed : (source : Option ℕ) (r : ℕ) → accepts (option_map to source) (to r) ≡ accepts source r
   accepts_placed None r = refl
@@ -236,5 +233,5 @@ module _ (ranks : ℕ) (to back : ℕ → ℕ) (perm : IsPermutation ranks to ba
         pub all_from : (h : List Act) → IsCompleteInterleaving plans eager_back h → IsCompleteInterleaving other eager (map (placed_act to) h)
         all_from h done = record {
           each = run_from h done.each;
-          none_left = λ b. (λ i. allowed other eager (map (placed_act to) h) b.class (sym (op_back b.op) i)) ∙ (allowed_placed h b.class (placed_op back b.op) ∙ done.none_left (record { class = b.class; op = placed_op back b.op }));
+          none_left = λ b. (λ i. allowed other eager (map (placed_act to) h) b.class (sym (placed_op_after_back ranks to back perm b.op) i)) ∙ (allowed_placed h b.class (placed_op back b.op) ∙ done.none_left (record { class = b.class; op = placed_op back b.op }));
         }

@@ -1,10 +1,10 @@
 -- Powers of two.
-use Rattle.std.proofs.Common.{◌≡◌, ℕ, zero, suc, ◌+◌, ◌-◌, ◌*◌, ◌^◌, ◌<◌, eqb, Bool, true, refl, arith}
+use Rattle.std.proofs.Common.{◌≡◌, ℕ, zero, suc, ◌+◌, ◌-◌, ◌*◌, ◌^◌, ◌<◌, Bool, true, refl, arith}
 use Rattle.std.specs.Int.{is_power_of_two, IsPowerOfTwo}
 use Rattle.std.specs.Int.RustNames.{count_ones}
 use Rattle.std.specs.Int.Count.{ones, ones_in}
 use Rattle.std.proofs.Math.Nat.{pow-suc}
-use Rattle.std.proofs.lemmas.Bool.Decides.{nat_tests}
+use Rattle.std.proofs.lemmas.Bool.{eqb-true}
 use Rattle.std.proofs.lemmas.Nat.{leading_top, ones_cat, zero_from_ones, pow_pos}
 use Rattle.goal_limits.specs.declared.collective.Collective.{Collective}
 use Rattle.goal_limits.specs.declared.collective.Collective.TheVariants.{Allreduce}
@@ -18,11 +18,8 @@ ones_of_one : count_ones 1 ≡ 1
 unfolding ones ones_in
 ones_of_one = refl
 
-is_one_from_test : (m : ℕ) → eqb m 1 ≡ true → m ≡ 1
-is_one_from_test m h = grind (arith, nat_tests)
-
 power_of_two_is_positive : (n : ℕ) → is_power_of_two n ≡ true → 0 < n
-power_of_two_is_positive zero h = absurd (omega (arith, is_one_from_test (count_ones 0) h, ones_of_zero))
+power_of_two_is_positive zero h = absurd (omega (arith, eqb-true (count_ones 0) 1 h, ones_of_zero))
 power_of_two_is_positive (suc n) h = omega arith
 
 -- a number with one binary digit 1
@@ -32,7 +29,7 @@ power_from_test n small one =
     let below : n - 2 ^ top.0 < 2 ^ top.0 = omega (arith, top.2, top.3, pow-suc 2 top.0) in
     let parts : 1 * 2 ^ top.0 + (n - 2 ^ top.0) ≡ n = omega (arith, top.2) in
     let count = ones_cat top.0 1 (n - 2 ^ top.0) below in
-    let one' : count_ones n ≡ 1 = is_one_from_test (count_ones n) one in
+    let one' : count_ones n ≡ 1 = eqb-true (count_ones n) 1 one in
     let rest : count_ones (n - 2 ^ top.0) ≡ 0 = omega (arith, rw parts at count, one', ones_of_one) in
     let none = zero_from_ones (n - 2 ^ top.0) rest in
     (top.0, omega (arith, none, top.2))

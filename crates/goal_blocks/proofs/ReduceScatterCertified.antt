@@ -22,7 +22,7 @@ use Rattle.goal_blocks.specs.Generated.{made}
 use Rattle.goal_blocks.proofs.Orders.{Mem}
 use Rattle.goal_blocks.proofs.Slim.{All_one}
 use Rattle.goal_blocks.proofs.EntryFacts.{slots_of_span, length_plans}
-use Rattle.goal_blocks.proofs.Ring.{ahead_cases, back_cases, back_ahead, ahead_back}
+use Rattle.goal_blocks.proofs.Ring.{ahead_cases, back_cases, back_ahead, ahead_back, back_cancels}
 use Rattle.goal_blocks.proofs.RingAndTree.{ahead_below, back_below}
 use Rattle.goal_blocks.proofs.MadePaired.{at, at_of_equal_numbers}
 use Rattle.goal_blocks.proofs.Sizes.{sum_below_few, sum_low_few, entries_small}
@@ -30,7 +30,7 @@ use Rattle.goal_blocks.proofs.Totals.{entries_few, sum_range_few}
 use Rattle.goal_blocks.proofs.AllgatherCertified.{slots_of_single_slot}
 use Rattle.goal_blocks.proofs.Rounds.{cases_triple}
 use Rattle.goal_blocks.proofs.Blueprint.{moved, touches, writes, Precedes, now, IsThere, Origin, Final, IsBlueprint, IsBounded, blueprint_certified}
-use Rattle.goal_blocks.proofs.Wishes.{is_value_reflexive}
+use Rattle.goal_blocks.proofs.Wishes.{of_each_single, is_value_reflexive}
 use Rattle.goal_blocks.proofs.Picked.{picked, picked_few, picked_same, insert_picked, picked_none, picked_all}
 
 module _ (ranks bytes : ℕ) (some : 0 < ranks) (few : ranks ≤ 128) where
@@ -52,16 +52,6 @@ module _ (ranks bytes : ℕ) (some : 0 < ranks) (few : ranks ≤ 128) where
       go (inl (l, f)) (inr (m, g)) = omega (arith, p, q, s, t, u, e, l, f, m, g)
       go (inr (l, f)) (inl (m, g)) = omega (arith, p, q, s, t, u, e, l, f, m, g)
       go (inr (l, f)) (inr (m, g)) = omega (arith, p, q, s, t, u, e, l, f, m, g)
-
-  -- two ranks are equal if going back c places from each leads to the same rank
-  back_cancels : (k r c : ℕ) → k < ranks → r < ranks → c ≤ ranks → back ranks k c ≡ back ranks r c → k ≡ r
-  back_cancels k r c p q s e = go (back_cases ranks k c) (back_cases ranks r c)
-    where
-      go : ((k < c) × (back ranks k c ≡ k + ranks - c)) ⊎ ((c ≤ k) × (back ranks k c ≡ k - c)) → ((r < c) × (back ranks r c ≡ r + ranks - c)) ⊎ ((c ≤ r) × (back ranks r c ≡ r - c)) → k ≡ r
-      go (inl (l, f)) (inl (m, g)) = omega (arith, p, q, s, e, l, f, m, g)
-      go (inl (l, f)) (inr (m, g)) = omega (arith, p, q, s, e, l, f, m, g)
-      go (inr (l, f)) (inl (m, g)) = omega (arith, p, q, s, e, l, f, m, g)
-      go (inr (l, f)) (inr (m, g)) = omega (arith, p, q, s, e, l, f, m, g)
 
   -- from the rank after the one that is s + 1 places back, s places lead to r
   after_back : (r s : ℕ) → r < ranks → s < ranks → back ranks r (back ranks r (s + 1) + 1) ≡ s
@@ -118,7 +108,7 @@ module _ (ranks bytes : ℕ) (some : 0 < ranks) (few : ranks ≤ 128) where
   window_more : (r b s : ℕ) → r < ranks → b < ranks → back ranks r (b + 1) ≡ s → insert_one (record { rank = r; item = b }) (window b s) ≡ window b (s + 1)
   unfolding window
   window_more r b s p q e =
-      insert_picked_rank (is_within b s) (is_within b (s + 1)) r b 0 ranks (omega arith) (omega arith) (omega (arith, p)) (within_no b s r (omega (arith, e))) (within_yes b (s + 1) r (omega (arith, e))) (λ k inside d. within_same b s k (λ f. d (back_cancels k r (b + 1) inside p (omega (arith, q)) (f ∙ sym e))))
+      insert_picked_rank (is_within b s) (is_within b (s + 1)) r b 0 ranks (omega arith) (omega arith) (omega (arith, p)) (within_no b s r (omega (arith, e))) (within_yes b (s + 1) r (omega (arith, e))) (λ k inside d. within_same b s k (λ f. d (back_cancels ranks k r (b + 1) inside p (omega (arith, q)) (f ∙ sym e))))
 
   window_none : (b : ℕ) → window b 0 ≡ []
   unfolding window
@@ -406,10 +396,6 @@ module _ (ranks bytes : ℕ) (some : 0 < ranks) (few : ranks ≤ 128) where
       go : (b : Bool) → (if b then true else true) ≡ true
       go true = refl
       go false = refl
-
-  of_each_single : of_each 1 0 ≡ single 0 0
-  unfolding of_each
-  of_each_single = refl
 
   slots_end_as_wanted : (r k : ℕ) → r < ranks → Final ranks count entry first (wanted ReduceScatter ranks) rs_finds rs_leaves r k
   slots_end_as_wanted r k p = ⊎_elim (λ same. subst (λ (n : ℕ). Final ranks count entry first (wanted ReduceScatter ranks) rs_finds rs_leaves r n) (sym same) (own (cases_lt ranks 2))) (λ d. inl (nothing_wanted_elsewhere r k d)) (cases_eq k r)

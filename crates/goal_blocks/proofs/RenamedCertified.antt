@@ -25,15 +25,12 @@ use Rattle.goal_blocks.specs.Laws.{IsUndoneBy, IsRenamed, KeepsSlots}
 use Rattle.goal_blocks.proofs.AllowedAlike.{kind_alike, pairs_alike, allowed_alike, complete_into}
 use Rattle.goal_blocks.proofs.RenamedValues.{add_under, renamed_held, held_named}
 use Rattle.goal_blocks.proofs.RenamedNotes.{places_renamed, renamed_is, renamed_back}
-use Rattle.goal_blocks.proofs.RenamedRight.{send_alike, receive_alike, channel_alike, joined_alike, all_end_alike, wanted_alike}
+use Rattle.goal_blocks.proofs.RenamedRight.{back, send_alike, receive_alike, channel_alike, joined_alike, all_end_alike, wanted_alike}
 use Rattle.goal_blocks.proofs.RenamedSmall.{renamed_small}
 use Rattle.goal_blocks.proofs.SumPermuted.{stored_permuted}
 
 -- what certification asks of channels and of the walk
 module _ (plans other : List Plan) (ops : (x : OpId) → op_at other x ≡ op_at plans x) (need : (x : OpId) → needs other x ≡ needs plans x) where
-  abbrev back : (x : OpId) → op_at plans x ≡ op_at other x
-  back x = sym (ops x)
-
   pub takes_alike : (w : List Act) → TakesFirst other w → TakesFirst plans w
   takes_alike [] takes = tt
   takes_alike (a ∷ h) takes =
@@ -43,12 +40,12 @@ module _ (plans other : List Plan) (ops : (x : OpId) → op_at other x ≡ op_at
   matched_alike m = record {
     no_wildcard = λ x room from tag is. m.no_wildcard x room from tag (kind_alike plans other ops x ∙ is);
     no_double_channel = record {
-      sends = λ x y c is_x is_y of_x of_y. m.no_double_channel.sends x y c (send_alike other plans back x is_x) (send_alike other plans back y is_y) (channel_alike plans other ops x ∙ of_x) (channel_alike plans other ops y ∙ of_y);
-      receives = λ x y c is_x is_y of_x of_y. m.no_double_channel.receives x y c (receive_alike other plans back x is_x) (receive_alike other plans back y is_y) (channel_alike plans other ops x ∙ of_x) (channel_alike plans other ops y ∙ of_y);
+      sends = λ x y c is_x is_y of_x of_y. m.no_double_channel.sends x y c (send_alike other plans (back plans other ops) x is_x) (send_alike other plans (back plans other ops) y is_y) (channel_alike plans other ops x ∙ of_x) (channel_alike plans other ops y ∙ of_y);
+      receives = λ x y c is_x is_y of_x of_y. m.no_double_channel.receives x y c (receive_alike other plans (back plans other ops) x is_x) (receive_alike other plans (back plans other ops) y is_y) (channel_alike plans other ops x ∙ of_x) (channel_alike plans other ops y ∙ of_y);
     };
     no_unpaired = record {
-      sends = λ x is. let p = m.no_unpaired.sends x (send_alike other plans back x is) in (p.0, joined_alike plans other ops x p.0 p.1);
-      receives = λ x is. let p = m.no_unpaired.receives x (receive_alike other plans back x is) in (p.0, joined_alike plans other ops p.0 x p.1);
+      sends = λ x is. let p = m.no_unpaired.sends x (send_alike other plans (back plans other ops) x is) in (p.0, joined_alike plans other ops x p.0 p.1);
+      receives = λ x is. let p = m.no_unpaired.receives x (receive_alike other plans (back plans other ops) x is) in (p.0, joined_alike plans other ops p.0 x p.1);
     };
     no_stall = record {
       walk = m.no_stall.walk;

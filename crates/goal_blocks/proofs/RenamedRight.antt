@@ -52,7 +52,7 @@ module _ (plans other : List Plan) (ops : (x : OpId) → op_at other x ≡ op_at
 
 -- it ends in the same pairs
 module _ (plans other : List Plan) (ops : (x : OpId) → op_at other x ≡ op_at plans x) where
-  abbrev back : (x : OpId) → op_at plans x ≡ op_at other x
+  abbrev pub back : (x : OpId) → op_at plans x ≡ op_at other x
   back x = sym (ops x)
 
   pub all_end_alike : (eager : OpId → Bool) (h : List Act) → AllEnd other eager h → AllEnd plans eager h

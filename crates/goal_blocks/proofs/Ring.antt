@@ -37,10 +37,10 @@ ahead_back ranks r s p q = go (back_cases ranks r s) (ahead_cases ranks (back ra
     go (inr (a, e)) (inl (b, f)) = omega (arith, p, q, a, e, b, f)
     go (inr (a, e)) (inr (b, f)) = omega (arith, p, q, a, e, b, f)
 
--- two ranks with the same distance from the root are equal
-pub back_by_root_injective : (ranks r k root : ℕ) → r < ranks → k < ranks → root < ranks → back ranks k root ≡ back ranks r root → k ≡ r
-back_by_root_injective ranks r k root p q z e =
-    sym (ahead_back ranks k root q (omega (arith, z))) ∙ ap (λ (v : ℕ). ahead ranks v root) e ∙ ahead_back ranks r root p (omega (arith, z))
+-- two ranks are equal if going back c places from each leads to the same rank
+pub back_cancels : (ranks k r c : ℕ) → k < ranks → r < ranks → c ≤ ranks → back ranks k c ≡ back ranks r c → k ≡ r
+back_cancels ranks k r c p q s e =
+    sym (ahead_back ranks k c p s) ∙ ap (λ (v : ℕ). ahead ranks v c) e ∙ ahead_back ranks r c q s
 
 -- the root has the virtual rank 0, and no other rank has
 pub root_has_virtual_rank_zero : (ranks root : ℕ) → back ranks root root ≡ 0
@@ -48,4 +48,4 @@ root_has_virtual_rank_zero ranks root =
     ⊎_elim (λ p. absurd (let lt = p.0 in omega (arith, lt))) (λ p. let e = p.1 in omega (arith, e)) (back_cases ranks root root)
 
 pub virtual_rank_zero_is_root : (ranks r root : ℕ) → r < ranks → root < ranks → back ranks r root ≡ 0 → r ≡ root
-virtual_rank_zero_is_root ranks r root p z e = back_by_root_injective ranks root r root z p z (e ∙ sym (root_has_virtual_rank_zero ranks root))
+virtual_rank_zero_is_root ranks r root p z e = back_cancels ranks r root root p z (omega (arith, z)) (e ∙ sym (root_has_virtual_rank_zero ranks root))

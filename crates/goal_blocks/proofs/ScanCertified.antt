@@ -29,7 +29,7 @@ use Rattle.goal_blocks.proofs.MadePaired.{LineHop, line_send, line_recv, line_me
 use Rattle.goal_blocks.proofs.Sizes.{sum_below_few, sum_low_few, entries_small}
 use Rattle.goal_blocks.proofs.Totals.{sum_range_few}
 use Rattle.goal_blocks.proofs.Blueprint.{moved, touches, writes, Precedes, now, IsThere, Origin, Final, IsBlueprint, IsBounded, blueprint_certified}
-use Rattle.goal_blocks.proofs.Wishes.{length_of_each, is_value_reflexive}
+use Rattle.goal_blocks.proofs.Wishes.{length_of_each, of_each_single, is_value_reflexive}
 
 -- a contribution that is lower than none in a value is inserted at the end
 insert_last : (c : Contribution) (v : Value) → All (λ (d : Contribution). is_lower c d ≡ false) v → insert_one c v ≡ v ++ c ∷ []
@@ -50,10 +50,6 @@ of_each_with_next n =
         go : (b : Bool) → nat_lt n q ≡ b → b ≡ false
         go true e = absurd (let m = ltb-true n q e in omega (arith, m, l))
         go false e = refl
-
-of_each_single : of_each 1 0 ≡ single 0 0
-unfolding of_each
-of_each_single = refl
 
 -- what each operation finds in the slots that it reads, and leaves in those that it writes
 scan_finds : ℕ → ℕ → ℕ → Value

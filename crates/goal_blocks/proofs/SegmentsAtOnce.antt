@@ -20,7 +20,7 @@ use Rattle.goal_blocks.specs.Right.{EndsInItsPairs}
 use Rattle.goal_blocks.specs.Certification.{IsCertified}
 use Rattle.goal_blocks.specs.Segments.{exchange, initial_in, IsCertifiedIn, HoldsSegment}
 use Rattle.goal_blocks.specs.Joined.{joined, all_starts, is_elsewhere, keeps_out}
-use Rattle.goal_blocks.proofs.Sorted.{merge_none, sorted_merge, length_merge}
+use Rattle.goal_blocks.proofs.Sorted.{merge_first_none, merge_none, sorted_merge, length_merge}
 use Rattle.goal_blocks.proofs.Starts.{initial_sorted}
 use Rattle.goal_blocks.proofs.Wishes.{value_equal}
 use Rattle.goal_blocks.proofs.Right.{certified_right}
@@ -186,16 +186,12 @@ module _ (what : Collective) (width count : ℕ) (plans : List Plan) (eager : Op
   at_once_merges_next_segment n rank slot =
       ap (λ (s : Store). value plans eager s h rank slot) (more_starts n) ∙ joined_holds plans eager (all_starts what width n (length plans)) (initial_in what width n (length plans)) h rank slot
 
-  merge_of_empty_left : (v : Value) → merge [] v ≡ v
-  unfolding merge
-  merge_of_empty_left v = refl
-
   -- the first n segments leave later blocks empty; an earlier block has what its own segment leaves
   later_empty : (n : ℕ) → n ≤ count → (j rank slot : ℕ) → n ≤ j → j < count → rank < length plans → slot < width → at_once n rank (j * width + slot) ≡ []
   later_empty zero le j rank slot later low inside within =
       ap (λ (s : Store). value plans eager s h rank (j * width + slot)) no_starts ∙ empty_store_stays_empty plans eager h rank (j * width + slot)
   later_empty (suc n) le j rank slot later low inside within =
-      at_once_merges_next_segment n rank (j * width + slot) ∙ ((λ i. merge (later_empty n (omega (arith, le)) j rank slot (omega (arith, later)) low inside within i) (segment_leaves_other_blocks_empty n j rank slot (omega (arith, le)) low inside within (λ e. omega (arith, e, later)) i)) ∙ merge_of_empty_left [])
+      at_once_merges_next_segment n rank (j * width + slot) ∙ ((λ i. merge (later_empty n (omega (arith, le)) j rank slot (omega (arith, later)) low inside within i) (segment_leaves_other_blocks_empty n j rank slot (omega (arith, le)) low inside within (λ e. omega (arith, e, later)) i)) ∙ merge_first_none [])
 
   earlier_block_has_own_segment : (n : ℕ) → n ≤ count → (j rank slot : ℕ) → j < n → rank < length plans → slot < width → at_once n rank (j * width + slot) ≡ alone j rank (j * width + slot)
   earlier_block_has_own_segment zero le j rank slot low inside within = absurd (omega (arith, low))
@@ -204,7 +200,7 @@ module _ (what : Collective) (width count : ℕ) (plans : List Plan) (eager : Op
     where
       here : (j ≡ n → at_once n rank (j * width + slot) ≡ []) → j ≡ n → merge (at_once n rank (j * width + slot)) (alone n rank (j * width + slot)) ≡ alone j rank (j * width + slot)
       here rest e =
-          (λ i. merge (rest e i) (alone (sym e i) rank (j * width + slot))) ∙ merge_of_empty_left (alone j rank (j * width + slot))
+          (λ i. merge (rest e i) (alone (sym e i) rank (j * width + slot))) ∙ merge_first_none (alone j rank (j * width + slot))
 
       before : (j < n → at_once n rank (j * width + slot) ≡ alone j rank (j * width + slot)) → (j ≡ n → ⊥) → merge (at_once n rank (j * width + slot)) (alone n rank (j * width + slot)) ≡ alone j rank (j * width + slot)
       before rest ne =

@@ -17,6 +17,7 @@ use Rattle.goal_blocks.specs.Entries.{Entry, Span, notes_of}
 use Rattle.goal_blocks.specs.Positions.{ahead, back, share}
 use Rattle.goal_blocks.proofs.Orders.{Mem}
 use Rattle.goal_blocks.proofs.SlotLists.{slots_none}
+use Rattle.goal_blocks.proofs.SlotRanges.{length_of_slots_from}
 use Rattle.goal_blocks.proofs.EntryFacts.{slots_of_span}
 use Rattle.goal_blocks.proofs.Fitting.{sum_by-map}
 use Rattle.goal_blocks.proofs.Ring.{ahead_cases, back_cases}
@@ -41,11 +42,6 @@ mem_slots_from lo zero k above below = absurd (omega (arith, above, below))
 mem_slots_from lo (suc n) k above below =
     ⊎_elim (λ lt. inr (mem_slots_from (lo + 1) n k (omega (arith, lt)) (omega (arith, below)))) (λ ge. inl (omega (arith, above, ge))) (cases_lt lo k)
 
-slots_length : (lo n : ℕ) → length (slots_from lo n) ≡ n
-unfolding slots_from
-slots_length lo zero = refl
-slots_length lo (suc n) = ap suc (slots_length (lo + 1) n)
-
 mem_append : {A : Type 0} (x : A) (xs ys : List A) → Mem x (xs ++ ys) → Mem x xs ⊎ Mem x ys
 mem_append x [] ys m = inr m
 mem_append x (y ∷ xs) ys (inl e) = inl (inl e)
@@ -67,7 +63,7 @@ no_adds (x ∷ xs) = sum_by-cons (λ (a : Adding). 0) x xs ∙ (let rest = no_ad
 span_lengths : (spans : List Span) → sum_by (λ (s : Span). s.hi + 1 - s.lo) spans ≡ sum_by (λ (s : Span). length (slots_of_span s)) spans
 span_lengths [] = refl
 span_lengths (s ∷ spans) =
-    let here = slots_length s.lo (s.hi + 1 - s.lo) in
+    let here = length_of_slots_from s.lo (s.hi + 1 - s.lo) in
     let rest = span_lengths spans in
     rw (sum_by-cons (λ (s : Span). s.hi + 1 - s.lo) s spans, sum_by-cons (λ (s : Span). length (slots_of_span s)) s spans) (omega (arith, here, rest))
 
@@ -171,8 +167,8 @@ module _ (ranks root v s : ℕ) (rooted : root < ranks) (inside : v < ranks) (so
 
   pub share_length : length (flat_map slots_of_span (share ranks root v s)) ≡ min s (ranks - v)
   share_length =
-      let a = slots_length lo first_run in
-      let b = slots_length 0 (many - first_run) in
+      let a = length_of_slots_from lo first_run in
+      let b = length_of_slots_from 0 (many - first_run) in
       ap length share_slots ∙ length-append (slots_from lo first_run) (slots_from 0 (many - first_run)) ∙ omega (arith, a, b)
 
   -- the spans of a share are low

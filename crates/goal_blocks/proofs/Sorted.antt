@@ -165,7 +165,7 @@ module _ (sum more a b : Value) (i j : ℕ) (l : i < length a) (m : j < length b
       ∙ ap (λ (x : Value). sum ++ get_or a i none ∷ merge (drop (i + 1) a) x) (drop_is_get_and_rest b j m) ∙ ap (λ (x : Value). sum ++ x) (sym step)
       ∙ ap (λ (x : Value). sum ++ merge x (get_or b j none ∷ drop (j + 1) b)) (sym (drop_is_get_and_rest a i l)) ∙ ap (λ (x : Value). sum ++ merge (drop i a) x) (sym (drop_is_get_and_rest b j m))
 
-merge_first_none : (v : Value) → merge [] v ≡ v
+pub merge_first_none : (v : Value) → merge [] v ≡ v
 unfolding merge
 merge_first_none v = refl
 

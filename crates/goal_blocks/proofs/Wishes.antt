@@ -1,12 +1,12 @@
 -- Values against what is wanted of them.
-use Rattle.std.proofs.Common.{ℕ, zero, suc, ◌+◌, ◌<◌, ◌≤◌, ◌==◌, ◌&&◌, nat_lt, ◌≡◌, ◌⊎◌, Bool, true, false, [], ◌∷◌, length, map, get_or, if◌then◌else◌, refl, sym, ap, ◌∙◌, arith, subst, eq-eqb, ⊎_elim, ◌||◌, inl, inr}
+use Rattle.std.proofs.Common.{ℕ, zero, suc, ◌+◌, ◌<◌, ◌≤◌, ◌==◌, ◌&&◌, nat_lt, ◌≡◌, ◌⊎◌, Bool, true, false, [], ◌∷◌, length, map, get_or, if◌then◌else◌, refl, sym, ap, ◌∙◌, arith, subst, eq-eqb, ⊎_elim, ◌||◌}
 use Rattle.std.specs.List.{range_with_len, list_all}
-use Rattle.std.proofs.lemmas.Bool.{and_parts, eqb-true, true≢false, false_from_ne_true, le-ltb, lt-ltb, cases_eq, ltb-true, ltb-false}
+use Rattle.std.proofs.lemmas.Bool.{and_parts, eqb-true, true≢false, false_from_ne_true, le-ltb, lt-ltb, cases_eq}
 use Rattle.std.proofs.lemmas.List.{same_lists, get_or_default}
 use Rattle.std.proofs.lemmas.List.FromFn.{length-map-range_with_len, get_or-map-range_with_len}
 use Rattle.goal_limits.specs.declared.collective.Collective.{Collective}
 use Rattle.goal_blocks.specs.Values.{Contribution, Value, is_lower}
-use Rattle.goal_blocks.specs.Collectives.{of_each, is_one, is_value, has_one, wanted, wanted_at}
+use Rattle.goal_blocks.specs.Collectives.{single, of_each, is_one, is_value, has_one, wanted, wanted_at}
 use Rattle.goal_blocks.specs.Stored.{ComesFirst, IsSorted}
 
 abbrev pub item_of : ℕ → ℕ → Contribution
@@ -55,6 +55,10 @@ different_is_not_value v w ne = sym (false_from_ne_true (is_value v w) (λ t. ne
 pub length_of_each : (n item : ℕ) → length (of_each n item) ≡ n
 unfolding of_each
 length_of_each n item = length-map-range_with_len (λ (q : ℕ). item_of q item) 0 n
+
+pub of_each_single : of_each 1 0 ≡ single 0 0
+unfolding of_each
+of_each_single = refl
 
 pub get_of_each : (n item k : ℕ) (d : Contribution) → k < n → get_or (of_each n item) k d ≡ item_of k item
 unfolding of_each
@@ -174,10 +178,3 @@ found_up_to_next_rank v next i c l is rank item found q b = ⊎_elim here (λ ne
 
 pub place_of : (c : Contribution) (q : ℕ) → c.rank ≡ q → c.item ≡ 0 → c ≡ item_of q 0
 place_of c q rank item = λ j. record { rank = rank j; item = item j }
-
-pub cases_below : (a b : ℕ) → (a < b) ⊎ (b ≤ a)
-cases_below a b = go (nat_lt a b) refl
-  where
-    go : (t : Bool) → nat_lt a b ≡ t → (a < b) ⊎ (b ≤ a)
-    go true e = inl (ltb-true a b e)
-    go false e = inr (ltb-false a b e)

@@ -1,5 +1,6 @@
 -- Segments that leave the blocks of all others empty.
 use Rattle.std.proofs.Common.{ℕ, ◌+◌, ◌*◌, ◌<◌, ◌≤◌, ◌≡◌, ◌&&◌, ◌⊎◌, inl, inr, ⊎_elim, not, nat_lt, nat_le, Bool, true, false, List, [], ◌∷◌, length, Option, Some, None, IfSome, IfNone, if◌then◌else◌, refl, sym, ap, ◌∙◌, subst, arith}
+use Rattle.std.proofs.Math.Bool.{not-not}
 use Rattle.std.proofs.lemmas.Bool.{le-ltb, lt-ltb, lt-leb}
 use Rattle.goal_graph.specs.Schedule.{Plan}
 use Rattle.goal_graph.specs.Action.{Act}
@@ -25,14 +26,10 @@ unfolding is_value
 is_empty_value_iff_length_zero [] = refl
 is_empty_value_iff_length_zero (c ∷ v) = sym (ap not (lt-ltb 0 (length (c ∷ v)) (omega arith)))
 
-not_not : (b : Bool) → not (not b) ≡ b
-not_not true = refl
-not_not false = refl
-
 -- a slot of one of the blocks, but not of this one, may hold nothing
 pub nonempty_iff_not_keeps_out : (width count block rank slot size : ℕ) (v : Value) → size ≡ length v → slot < count * width → (slot < block * width) ⊎ (block * width + width ≤ slot) → nat_lt 0 size ≡ not (keeps_out width count block rank slot v)
 nonempty_iff_not_keeps_out width count block rank slot size v same inside out =
-    ap (λ (n : ℕ). nat_lt 0 n) same ∙ (sym (not_not (nat_lt 0 (length v))) ∙ ap not (sym (ap (λ (b : Bool). if b then is_value v [] else true) (⊎_elim before after out) ∙ is_empty_value_iff_length_zero v)))
+    ap (λ (n : ℕ). nat_lt 0 n) same ∙ (sym (not-not (nat_lt 0 (length v))) ∙ ap not (sym (ap (λ (b : Bool). if b then is_value v [] else true) (⊎_elim before after out) ∙ is_empty_value_iff_length_zero v)))
   where
     within : nat_lt slot (count * width) ≡ true
     within = lt-ltb slot (count * width) inside

@@ -1,6 +1,6 @@
 -- Which action of one operation may happen, class by class.
 use Rattle.std.proofs.Common.{⊎_elim, ◌≡◌, ◌&&◌, Bool, true, false, not, List, Option, Some, None, inl, inr, refl, sym, ap, ◌∙◌, subst}
-use Rattle.std.proofs.lemmas.Bool.{cases_Bool, both_ways, false_from_ne_true}
+use Rattle.std.proofs.lemmas.Bool.{cases_Bool, both_ways, and_right, false_from_ne_true}
 use Rattle.goal_graph.specs.declared.action.OpId.{OpId}
 use Rattle.goal_graph.specs.declared.action.Class.{Class}
 use Rattle.goal_graph.specs.declared.action.Class.TheVariants.{Arrive, Serve, Data, Post, Begin}
@@ -105,13 +105,9 @@ module _ (plans : List Plan) (h : List Act) (x : OpId) where
   pub may_transfer_iff_fresh_and_paired : IsSend plans x → may_act plans h Data x ≡ (not (happened Data x h) && is_paired (pairs plans h) x)
   may_transfer_iff_fresh_and_paired k = of_kind Data (Send k.bytes k.to k.tag) k.kind
 
-  no_and : (b : Bool) → (b && false) ≡ false
-  no_and true = refl
-  no_and false = refl
-
   pub unpaired_may_not_serve : IsReceive plans x → partner (pairs plans h) x ≡ None → may_act plans h Serve x ≡ false
   unpaired_may_not_serve k e =
-      of_kind Serve (Recv k.room k.from k.tag) k.kind ∙ ap (λ (o : Option OpId). not (happened Serve x h) && is_served plans no_send h o) e ∙ no_and (not (happened Serve x h))
+      of_kind Serve (Recv k.room k.from k.tag) k.kind ∙ ap (λ (o : Option OpId). not (happened Serve x h) && is_served plans no_send h o) e ∙ and_right (not (happened Serve x h)) false refl
 
   pub may_serve_iff_fresh_and_transferred : IsReceive plans x → (m : OpId) → partner (pairs plans h) x ≡ Some m → may_act plans h Serve x ≡ (not (happened Serve x h) && happened Data m h)
   may_serve_iff_fresh_and_transferred k m e =

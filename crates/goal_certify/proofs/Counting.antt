@@ -1,5 +1,5 @@
 -- How many slots operations move.
-use Rattle.std.proofs.Common.{⊎_elim, ℕ, zero, suc, ◌+◌, ◌-◌, ◌*◌, ◌^◌, ◌<◌, ◌≤◌, ◌≡◌, ◌≢◌, List, [], ◌∷◌, ◌++◌, length, map, take, get_or, set, slice_get, Some, eq-eqb, refl, sym, ap, ◌∙◌, subst, arith, add-zero, zero-add, append-nil, append_assoc, get_or-set_same, get_or-set_other}
+use Rattle.std.proofs.Common.{⊎_elim, ℕ, suc, ◌+◌, ◌-◌, ◌*◌, ◌^◌, ◌<◌, ◌≤◌, ◌≡◌, ◌≢◌, List, [], ◌∷◌, ◌++◌, length, map, take, get_or, set, slice_get, Some, eq-eqb, refl, sym, ap, ◌∙◌, subst, arith, add-zero, zero-add, append-nil, append_assoc, get_or-set_same, get_or-set_other}
 use Rattle.std.specs.List.{sum_by, flat_map}
 use Rattle.std.proofs.lemmas.Bool.{cases_eq, ne_eqb}
 use Rattle.std.proofs.lemmas.List.{get_or_default, length-set, length-take-le, map-append, take_more}
@@ -11,17 +11,13 @@ use Rattle.goal_graph.specs.declared.plan.Op.{Op}
 use Rattle.goal_graph.specs.declared.plan.Note.{Note}
 use Rattle.goal_graph.specs.declared.plan.Note.TheVariants.{Moves, Adds}
 use Rattle.goal_graph.specs.Schedule.{Plan, places_of_rank, places_from, operations}
-use Rattle.goal_blocks.specs.Slots.{slots_from, moved_by, slots}
+use Rattle.goal_blocks.specs.Slots.{moved_by, slots}
 use Rattle.goal_blocks.specs.Certification.{moved_count}
+use Rattle.goal_blocks.proofs.ForCallers.{length_of_slots_from}
 use Rattle.goal_certify.proofs.Sizing.{notes_at_some}
 
-pub length-slots_from : (lo n : ℕ) → length (slots_from lo n) ≡ n
-unfolding slots_from
-length-slots_from lo zero = refl
-length-slots_from lo (suc n) = ap suc (length-slots_from (lo + 1) n)
-
 moved_length_of_named_op : (op of lo hi : ℕ) → of ≡ op → length (moved_by op (Moves of lo hi)) ≡ hi + 1 - lo
-moved_length_of_named_op op of lo hi e = rw (eq-eqb of op e) (length-slots_from lo (hi + 1 - lo))
+moved_length_of_named_op op of lo hi e = rw (eq-eqb of op e) (length_of_slots_from lo (hi + 1 - lo))
 
 moved_length_of_other_op : (op of lo hi : ℕ) → of ≢ op → length (moved_by op (Moves of lo hi)) ≡ 0
 moved_length_of_other_op op of lo hi differ = rw (ne_eqb of op differ) refl

@@ -8,7 +8,7 @@ use Rattle.goal_graph.specs.declared.plan.Kind.TheVariants.{Calc, Send, Recv}
 use Rattle.goal_graph.specs.declared.plan.Op.{Op}
 use Rattle.goal_graph.specs.Schedule.{Plan, op_at, kind_at, IsSend, IsReceive}
 use Rattle.goal_graph.specs.Fault.{IsOp}
-use Rattle.goal_graph.proofs.ForCallers.{kind_from_op, send_is_op, receive_is_op}
+use Rattle.goal_graph.proofs.ForCallers.{kind_from_op, not_send_receive, send_is_op, receive_is_op}
 use Rattle.std.proofs.lemmas.List.Elements.{All-contains}
 use Rattle.goal_graph.specs.Order.{IsBefore}
 use Rattle.goal_blocks.specs.Channels.{Channel, channel_in, channel, AreOfOneChannel, HasNoWildcard, HasNoDoubleChannel}
@@ -30,12 +30,6 @@ pub record StandsAt (plans : List Plan) (x : OpId) (e : End) : Type 0 where
   pub of_channel : channel plans x ≡ Some (channel_at e)
   pub send : e.is_send ≡ true → IsSend plans x
   pub receive : e.is_send ≡ false → IsReceive plans x
-
-not_send_and_receive : (plans : List Plan) (x : OpId) → IsSend plans x → IsReceive plans x → ⊥
-not_send_and_receive plans x s r = go (sym s.kind ∙ r.kind)
-  where
-    go : ◌≡◌ {A = Option Kind} (Some (Send s.bytes s.to s.tag)) (Some (Recv r.room r.from r.tag)) → ⊥
-    go e = cc e
 
 module _ (plans : List Plan) where
   pub stands_at : (x : OpId) (e : End) → end_of plans x ≡ Some e → StandsAt plans x e
@@ -168,8 +162,8 @@ paired_ends plans x z e at other un = go (cases_Bool e.is_send) un
 
     go : (e.is_send ≡ true) ⊎ (e.is_send ≡ false) → IsUnpaired plans x → ⊥
     go (inl b) (inl un) = un.1 z (of_one_channel_if_at_ends plans x z e b at other)
-    go (inl b) (inr un) = not_send_and_receive plans x (s.send b) un.0
-    go (inr b) (inl un) = not_send_and_receive plans x un.0 (s.receive b)
+    go (inl b) (inr un) = not_send_receive plans x (s.send b) un.0
+    go (inr b) (inl un) = not_send_receive plans x un.0 (s.receive b)
     go (inr b) (inr un) = un.1 z (of_one_channel_if_at_ends plans z x (other_end e) (ap not b) other (at ∙ ap (λ (d : End). Some d) (sym (other_twice e))))
 
 module _ (plans : List Plan) (entries : List OpAtEnd) (are : AreEndsOf plans entries) where

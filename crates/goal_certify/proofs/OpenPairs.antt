@@ -1,7 +1,7 @@
 -- The open pairs of a rank are its races.
 use Rattle.std.proofs.Common.{⊎_elim, ℕ, ◌≡◌, ◌<◌, ◌≤◌, ◌⊎◌, ◌&&◌, inl, inr, Bool, true, false, not, List, length, get_or, flat_map, All, Contains, Option, Some, None, slice_get, if◌then◌else◌, refl, sym, ap, ◌∙◌, subst, arith, true≢false}
 use Rattle.std.specs.Option.{option_map, option_and_then}
-use Rattle.std.proofs.lemmas.Bool.{cases_lt, and_parts, cases_Bool}
+use Rattle.std.proofs.lemmas.Bool.{cases_lt, and_parts, cases_Bool, not-true}
 use Rattle.std.proofs.lemmas.Option.{slice_get_within, slice_get_read}
 use Rattle.std.proofs.lemmas.List.Elements.{All-contains, Contains-get_or}
 use Rattle.goal_limits.specs.Limits.{certified_op_limit, slot_limit}
@@ -35,16 +35,12 @@ pub none_skipped : (before shared : List ℕ) (x second next count : ℕ) → ((
 none_skipped before shared x second next count so_far skipped y low high within both =
     ⊎_elim (λ passed. so_far y low passed within both) (λ from. open_shared before shared x y both (skipped y from high)) (cases_lt y second)
 
-is_false : (b : Bool) → not b ≡ true → b ≡ false
-is_false true h = absurd (true≢false (sym h))
-is_false false h = refl
-
 -- no lesser operation is open with y, where the row of y has none but those that end before y starts
 pub none_open : (before shared : List ℕ) (x y : ℕ) → x < certified_op_limit → y < certified_op_limit → IsMutual shared → (has shared y x ≡ true → has before y x ≡ false → ⊥) → is_open before shared x y ≡ true → ⊥
 none_open before shared x y low high both_ways ordered both =
     let a = and_parts (has shared x y) (not (has before y x) && not (has before x y)) both in
     let b = and_parts (not (has before y x)) (not (has before x y)) a.1 in
-    ordered (both_ways x y low high a.0) (is_false (has before y x) b.0)
+    ordered (both_ways x y low high a.0) (not-true (has before y x) b.0)
 
 module _ (plans : List Plan) (rank : ℕ) (touches : List Touch) (touchers writers : List ℕ) (known : AreTouches plans rank touches) (marked : AreMarked false touches touchers) (written_marked : AreMarked true touches writers) where
   -- both touch the slot, and one of them writes it
@@ -123,7 +119,7 @@ module _ (plans : List Plan) (rank : ℕ) (touches : List Touch) (touchers write
     open_parts x y h =
         let a = and_parts (has shared x y) (not (has before y x) && not (has before x y)) h in
         let b = and_parts (not (has before y x)) (not (has before x y)) a.1 in
-        (a.0, is_false (has before y x) b.0, is_false (has before x y) b.1)
+        (a.0, not-true (has before y x) b.0, not-true (has before x y) b.1)
 
     -- an open pair races at each slot at which it meets
     open_race : (x y s : ℕ) → x < y → y < length (ops_at plans rank) → is_open before shared x y ≡ true → Met x y s → IsRace plans (record { rank = rank; first = x; second = y; slot = s })

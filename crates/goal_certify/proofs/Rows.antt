@@ -1,6 +1,6 @@
 -- What writes of words do to rows of bits.
 use Rattle.std.proofs.Common.{◌≡◌, ◌≢◌, ℕ, ◌+◌, ◌*◌, ◌/◌, ◌%◌, ◌^◌, ◌-◌, ◌<◌, ◌≤◌, ◌⊎◌, Bool, true, false, eqb, List, ◌++◌, length, replicate, get_or, set, refl, sym, ap, ◌∙◌, subst, inl, inr, ⊎_elim, arith, w64, eq-eqb, ne_eqb, get_or-set_same, get_or-set_other, true≢false}
-use Rattle.std.proofs.lemmas.Bool.{cases_eq, cases_lt, cases_Bool}
+use Rattle.std.proofs.lemmas.Bool.{cases_eq, cases_lt, cases_Bool, eqb-true}
 use Rattle.std.proofs.Math.ListN.{get_or-append}
 use Rattle.std.proofs.Math.Seq.{get_or-append_right}
 use Rattle.std.proofs.lemmas.Nat.{and_le_l}
@@ -30,18 +30,15 @@ bit_or_cases a b i h =
           ]
     ]
 
-equals_one : (a : ℕ) → eqb a 1 ≡ true → a ≡ 1
-equals_one a h = ⊎_elim (λ e. e) (λ n. absurd (true≢false (sym h ∙ ne_eqb a 1 n))) (cases_eq a 1)
-
 bit_or_left : (a b i : ℕ) → eqb (bit_at a i) 1 ≡ true → eqb (bit_at (bit_or a b) i) 1 ≡ true
 bit_or_left a b i h =
-    let x : bit_at a i ≡ 1 = equals_one _ h in
+    let x : bit_at a i ≡ 1 = eqb-true _ 1 h in
     let y : bit_at b i < 2 = bit_at-lt b i in
     eq-eqb _ 1 (omega (arith, bit_at_or a b i))
 
 bit_or_right : (a b i : ℕ) → eqb (bit_at b i) 1 ≡ true → eqb (bit_at (bit_or a b) i) 1 ≡ true
 bit_or_right a b i h =
-    let x : bit_at b i ≡ 1 = equals_one _ h in
+    let x : bit_at b i ≡ 1 = eqb-true _ 1 h in
     let y : bit_at a i < 2 = bit_at-lt a i in
     eq-eqb _ 1 (omega (arith, bit_at_or a b i))
 
@@ -209,7 +206,7 @@ cleared_less old new row words most places all j r k small h =
     ]
 
 -- words of 0 past the end add nothing
-zero_words : (n i : ℕ) → get_or {A = ℕ} (replicate n 0) i 0 ≡ 0
+pub zero_words : (n i : ℕ) → get_or {A = ℕ} (replicate n 0) i 0 ≡ 0
 zero_words n i =
     elim (cases_lt i n) [
       | inl inside ↦ get_or-replicate n i 0 0 inside
@@ -250,7 +247,7 @@ below_lowest word i fits low =
 pub covered_if_bit_clear : (these : List ℕ) (row : ℕ) (others : List ℕ) (other k : ℕ) → k < certified_op_limit → get_or others (32 * other + k / 64) 0 < 2 ^ 64 → bit_at (bit_and (get_or these (32 * row + k / 64) 0) (bit_not w64 (get_or others (32 * other + k / 64) 0))) (k % 64) ≡ 0 → has these row k ≡ true → has others other k ≡ false → ⊥
 unfolding has
 covered_if_bit_clear these row others other k small fits none h alone =
-    let x : bit_at (get_or these (32 * row + k / 64) 0) (k % 64) ≡ 1 = equals_one _ h in
+    let x : bit_at (get_or these (32 * row + k / 64) 0) (k % 64) ≡ 1 = eqb-true _ 1 h in
     let y : bit_at (get_or others (32 * other + k / 64) 0) (k % 64) ≢ 1 = λ e. true≢false (sym (eq-eqb _ 1 e) ∙ alone) in
     let z : bit_at (get_or others (32 * other + k / 64) 0) (k % 64) < 2 = bit_at-lt _ (k % 64) in
     let n : bit_at (bit_not w64 (get_or others (32 * other + k / 64) 0)) (k % 64) ≡ 1 - bit_at (get_or others (32 * other + k / 64) 0) (k % 64) = bit_at_not w64 _ (k % 64) fits (omega arith) in

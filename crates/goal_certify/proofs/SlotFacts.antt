@@ -18,10 +18,9 @@ use Rattle.goal_blocks.specs.Slots.{slots_from, moved_by, added_by, slots, adds}
 use Rattle.goal_blocks.specs.Values.{Value, Store, merge, set_slot, write, add_all}
 use Rattle.goal_blocks.specs.Weight.{stored}
 use Rattle.goal_blocks.specs.Certification.{NamesLowSlots, moved_count, IsSmall}
-use Rattle.goal_blocks.proofs.ForCallers.{length_merge, slot_length_at_most_stored, stored_set}
+use Rattle.goal_blocks.proofs.ForCallers.{length_merge, length_of_slots_from, slot_length_at_most_stored, stored_set}
 use Rattle.goal_certify.specs.Carried.{size_of, AddsOver}
 use Rattle.goal_certify.proofs.Places.{rank_below, notes_there}
-use Rattle.goal_certify.proofs.Counting.{length-slots_from}
 use Rattle.goal_graph.proofs.ForCallers.{all_of_empty, all_of_single}
 
 abbrev pub IsLow : ℕ → Type 0
@@ -71,7 +70,7 @@ moved_length_at_most_count : (op : ℕ) (n : Note) → length (moved_by op n) �
 moved_length_at_most_count op (Moves of lo hi) = go (of == op)
   where
     go : (b : Bool) → length (if b then slots_from lo (hi + 1 - lo) else []) ≤ hi + 1 - lo
-    go true = omega (arith, length-slots_from lo (hi + 1 - lo))
+    go true = omega (arith, length_of_slots_from lo (hi + 1 - lo))
     go false = omega arith
 moved_length_at_most_count op (Adds of from to) = omega arith
 

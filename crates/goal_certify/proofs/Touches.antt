@@ -49,13 +49,6 @@ slots_from_below_end lo (suc n) k (zero, b, e) = let f : lo ≡ k = e in omega a
 slots_from_below_end lo (suc n) k (suc i, b, e) =
     let r : k < (lo + 1) + n = slots_from_below_end (lo + 1) n k (i, omega (arith, b), e) in omega arith
 
-same_number : (k : ℕ) → (k == k) ≡ true
-same_number k = eq-eqb k k refl
-
--- a test of numbers that passes
-equal_if_number_test_true : (k n : ℕ) → (k == n) ≡ true → k ≡ n
-equal_if_number_test_true k n h = eqb-true k n h
-
 -- another touch of an operation that moves slots
 pub moved_none : (op : ℕ) (writes : Bool) (lo : ℕ) (ts : List Touch) → ts ≡ ts ++ moved op writes (slots_from lo (lo - lo))
 unfolding moved slots_from
@@ -129,14 +122,14 @@ module _ (plans : List Plan) (rank : ℕ) (p : Plan) (at : slice_get plans rank 
   -- a slot that a note moves is one that its operation moves
   slot_of_note_is_moved : (op lo hi s : ℕ) → Contains p.notes (Moves op lo hi) → Contains (slots_from lo (hi + 1 - lo)) s → Contains (flat_map (moved_by op) p.notes) s
   slot_of_note_is_moved op lo hi s cn cs =
-      flat_map_in (moved_by op) p.notes (Moves op lo hi) s cn (subst (λ (b : Bool). Contains (if b then slots_from lo (hi + 1 - lo) else []) s) (sym (same_number op)) cs)
+      flat_map_in (moved_by op) p.notes (Moves op lo hi) s cn (subst (λ (b : Bool). Contains (if b then slots_from lo (hi + 1 - lo) else []) s) (sym (eq-eqb op op refl)) cs)
 
   abbrev adding : ℕ → ℕ → Adding
   adding from to = record { from = from; to = to }
 
   adding_of_note_is_added : (op from to : ℕ) → Contains p.notes (Adds op from to) → Contains (flat_map (added_by op) p.notes) (adding from to)
   adding_of_note_is_added op from to cn =
-      flat_map_in (added_by op) p.notes (Adds op from to) (adding from to) cn (subst (λ (b : Bool). Contains (if b then adding from to ∷ [] else []) (adding from to)) (sym (same_number op)) (contains_first (adding from to) [] (adding from to) refl))
+      flat_map_in (added_by op) p.notes (Adds op from to) (adding from to) cn (subst (λ (b : Bool). Contains (if b then adding from to ∷ [] else []) (adding from to)) (sym (eq-eqb op op refl)) (contains_first (adding from to) [] (adding from to) refl))
 
   -- what a touch is, by the kind of its operation
   abbrev Fits : Option Kind → Touch → Type 0
@@ -194,7 +187,7 @@ module _ (plans : List Plan) (rank : ℕ) (p : Plan) (at : slice_get plans rank 
           where
             test : (b : Bool) → (of == k) ≡ b → Contains (if b then slots_from lo (hi + 1 - lo) else []) s → Found w
             test true e cs =
-                there lo hi (subst (λ (j : ℕ). Contains p.notes (Moves j lo hi)) (equal_if_number_test_true of k e) cn) cs
+                there lo hi (subst (λ (j : ℕ). Contains p.notes (Moves j lo hi)) (eqb-true of k e) cn) cs
             test false e cs = absurd (omega (arith, cs.1))
         by_note (Adds of from to) cn cs = absurd (omega (arith, cs.1))
 
@@ -208,7 +201,7 @@ module _ (plans : List Plan) (rank : ℕ) (p : Plan) (at : slice_get plans rank 
         where
           test : (b : Bool) → (of == k) ≡ b → Contains (if b then adding from to ∷ [] else []) a → Contains p.notes (Adds k a.from a.to)
           test true e (zero, b, f) =
-              subst (λ (x : Adding). Contains p.notes (Adds k x.from x.to)) f (subst (λ (j : ℕ). Contains p.notes (Adds j from to)) (equal_if_number_test_true of k e) cn)
+              subst (λ (x : Adding). Contains p.notes (Adds k x.from x.to)) f (subst (λ (j : ℕ). Contains p.notes (Adds j from to)) (eqb-true of k e) cn)
           test true e (suc i, b, f) = absurd (omega (arith, b))
           test false e ca = absurd (omega (arith, ca.1))
 

@@ -8,6 +8,7 @@ use Rattle.std.proofs.lemmas.List.FromFn.{length-map-range_with_len, get_or-map-
 use Rattle.std.proofs.lemmas.Nat.Bits.{bit_at_set_same, bit_at_set_other, bit_at_clear_same, bit_at_clear_other, bit_at-zero, bit_at-trailing_zeros}
 use Rattle.sim_queue.specs.Map.{key_at, IsEmptyMap, IsLeast}
 use Rattle.goal_certify.specs.Turns.{is_on, turns_of, AreTurns}
+use Rattle.goal_certify.proofs.Rows.{zero_words}
 
 -- a bit of a word
 abbrev bit : ℕ → ℕ → Bool
@@ -204,17 +205,10 @@ module _ (words heads : List ℕ) (count : ℕ) (was : AreTurns words heads coun
       marks = λ w w_on. elim (cases_eq w (at / 64)) [ inl e ↦ omega (arith, ap (λ i. get_or new i 0) e, some) | inr apart ↦ omega (arith, same w apart, was.marks w w_on) ];
     }
 
-zero_at : (n i : ℕ) → get_or {A = ℕ} (replicate n 0) i 0 ≡ 0
-zero_at n i =
-    elim (cases_lt i n) [
-      | inl inside ↦ get_or-replicate n i 0 0 inside
-      | inr past ↦ get_or_past (replicate n 0) i 0 (omega (arith, length-replicate {A = ℕ} n 0))
-    ]
-
 -- no bits at all
 pub no_bits : (n k : ℕ) → is_on (replicate n 0) k ≡ false
 unfolding is_on
-no_bits n k = ap (λ w. bit w k) (zero_at n (k / 64)) ∙ ap (λ b. eqb b 1) (bit_at-zero (k % 64))
+no_bits n k = ap (λ w. bit w k) (zero_words n (k / 64)) ∙ ap (λ b. eqb b 1) (bit_at-zero (k % 64))
 
 -- the lowest bit of the first word marked in the heads is the lowest of all
 module _ (words heads : List ℕ) (count : ℕ) (was : AreTurns words heads count) where
@@ -265,7 +259,7 @@ sound_none words heads count n m e f room heads_room few heads_few fits = record
   few = omega (arith, few, len);
   heads_few = omega (arith, heads_few, heads_len);
   low = λ k on. absurd (true≢false (sym on ∙ ap (λ ws. is_on ws k) e ∙ no_bits n k));
-  marked = λ w some. absurd (omega (arith, some, ap (λ ws. get_or ws w 0) e, zero_at n w));
+  marked = λ w some. absurd (omega (arith, some, ap (λ ws. get_or ws w 0) e, zero_words n w));
   marks = λ w on. absurd (true≢false (sym on ∙ ap (λ ws. is_on ws w) f ∙ no_bits m w));
 }
   where

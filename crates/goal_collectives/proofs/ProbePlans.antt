@@ -12,7 +12,7 @@ use Rattle.goal_graph.specs.declared.plan.Op.{Op}
 use Rattle.goal_graph.specs.declared.plan.Dep.{Dep}
 use Rattle.goal_graph.specs.Schedule.{Plan}
 use Rattle.goal_graph.specs.Fault.{value_fits, has_peer, is_rank, dep_in_range, op_fault, dep_fault, first_fault, rank_fault, count_fault, count_over, op_count, dep_count, note_count, plain_fault, IsAccepted}
-use Rattle.goal_graph.proofs.ForCallers.{dep_in_range-parts, count_within_limit}
+use Rattle.goal_graph.proofs.ForCallers.{all_of_empty, dep_in_range-parts, count_within_limit}
 use Rattle.goal_blocks.proofs.ForCallers.{first_fault-of_none, lower_have_depths}
 use Rattle.goal_collectives.specs.declared.draws.Round.{Round}
 use Rattle.goal_collectives.specs.Probe.{probe_ranks, next_state, drawn, round_from, state_before, op_in, requires_end, after_last, source_in, with_work, with_receive, at_rank, with_round, idle, idle_ranks, probed}
@@ -21,9 +21,6 @@ use Rattle.goal_collectives.specs.Probe.{probe_ranks, next_state, drawn, round_f
 all_cons : {X : Type 0} (P : X → Type 0) (x : X) (xs : List X) → P x → All P xs → All P (x ∷ xs)
 all_cons P x xs h t zero d l = h
 all_cons P x xs h t (suc k) d l = t k d (omega arith)
-
-all_of_empty : {X : Type 0} (P : X → Type 0) → All P []
-all_of_empty P k d l = absurd (omega arith)
 
 -- the numbers of a round
 pub record IsSmall (x : Round) : Type 0 where

@@ -1,6 +1,6 @@
 -- The scan of a text reads its pieces.
 use Rattle.std.proofs.Common.{◌≡◌, ◌≢◌, ℕ, ◌+◌, ◌<◌, ◌≤◌, Bool, true, false, ◌&&◌, not, List, [], ◌∷◌, ◌++◌, length, Option, Some, None, IsSome, ◌==◌, nat_lt, refl, sym, ap, subst, ◌∙◌, arith, append_assoc}
-use Rattle.std.proofs.lemmas.Bool.{false≢true}
+use Rattle.std.proofs.lemmas.Bool.{false≢true, and_parts}
 use Rattle.std.proofs.lemmas.Bool.Decides.{nat_tests}
 use Rattle.std.proofs.lemmas.List.{append-nil}
 use Rattle.goal_lexer.specs.declared.mode.Form.{Form}
@@ -205,11 +205,6 @@ module _ (xs : List ℕ) (going : Going xs) (start : ℕ) (inside : List ℕ) (e
 
 -- a byte in a block comment
 module _ (xs : List ℕ) (going : Going xs) (start : ℕ) (inside : List ℕ) (none : has_close inside ≡ false) where
-  and_parts : (a b : Bool) → (a && b) ≡ true → (a ≡ true) × (b ≡ true)
-  and_parts true true is = (refl, refl)
-  and_parts true false is = cc
-  and_parts false b is = cc
-
   in_block_comment : (c : ℕ) (s : Bool) → (ends_in_star inside && c == slash) ≡ s →
       Read (BlockComment start (ends_in_star inside)) start (slash ∷ star ∷ inside) (c ∷ xs)
   in_block_comment c true is_s =

@@ -28,7 +28,7 @@ mode_stays_over mode test one place (x ∷ xs) each =
     ap (λ (r : Scanned). after_tokens r.1 (scan r.0 (place + 1) xs)) (one place x each.0)
     ∙ ap (after_tokens []) (mode_stays_over mode test one (place + 1) xs each.1)
 
-next_after_blank : (place c : ℕ) → is_blank c ≡ true → next Between place c ≡ (Between, [])
+pub next_after_blank : (place c : ℕ) → is_blank c ≡ true → next Between place c ≡ (Between, [])
 next_after_blank place c blank =
     let no_word : begins_word c ≡ false = grind (arith, nat_tests) in
     let no_digit : is_digit c ≡ false = grind (arith, nat_tests) in

@@ -7,7 +7,7 @@ use Rattle.goal_lexer.specs.declared.tokens.Token.{Token}
 use Rattle.goal_lexer.specs.declared.mode.Form.{Form}
 use Rattle.goal_lexer.specs.declared.mode.Mode.{Mode}
 use Rattle.goal_lexer.specs.declared.mode.Mode.TheVariants.{Between, Run, Slash, LineComment, BlockComment, Failed}
-use Rattle.goal_lexer.specs.Bytes.{is_blank, begins_word, is_digit, slash, star, line_feed}
+use Rattle.goal_lexer.specs.Bytes.{slash, star, line_feed}
 use Rattle.goal_lexer.specs.Scan.{Scanned, after_tokens, next, scan, scanned, ended}
 use Rattle.goal_lexer.specs.Runs.{run_token}
 use Rattle.goal_lexer.specs.Sound.{IsSound, IsRun}
@@ -21,6 +21,7 @@ use Rattle.goal_lexer.proofs.NothingLaws.{bytes_with_form_are_run_bytes}
 use Rattle.goal_lexer.proofs.ReadingLaws.{in_line}
 use Rattle.goal_lexer.proofs.ScanLaws.{scan_after_no_token}
 use Rattle.goal_lexer.proofs.StandsLaws.{scan_past_run}
+use Rattle.goal_lexer.proofs.StretchLaws.{next_after_blank}
 use Rattle.goal_lexer.proofs.WholeLaws.{scan_of_run, next_sign}
 use Rattle.goal_lexer.proofs.TakenLaws.{spelled-push, tokens_of-push}
 
@@ -94,12 +95,6 @@ scan_byte : (mode new : Mode) (place c : ℕ) (ts : List Token) (rest : List ℕ
 unfolding scan
 scan_byte mode new place c ts rest made = ap (λ (r : Scanned). after_tokens r.1 (scan r.0 (place + 1) rest)) made
 
-next_blank : (place c : ℕ) → is_blank c ≡ true → next Between place c ≡ (Between, [])
-next_blank place c is =
-    let no_word : begins_word c ≡ false = grind (arith, nat_tests) in
-    let no_digit : is_digit c ≡ false = grind (arith, nat_tests) in
-    rw (no_word, no_digit, is)
-
 -- the line feed after a line comment
 scan_line_end : (start place : ℕ) (ds : List ℕ) → scan (LineComment start) place (line_feed ∷ ds) ≡ scan Between place (line_feed ∷ ds)
 unfolding scan
@@ -108,7 +103,7 @@ scan_line_end start place ds = refl
 -- a piece and what follows it
 scan_piece : (p : Piece) (place : ℕ) (rest : List ℕ) → IsRight p rest → (rest ≡ [] → (more : List ℕ) → IsRight p more) →
     scan Between place (bytes_of p ++ rest) ≡ after_tokens (piece_tokens place p) (scan Between (place + length (bytes_of p)) rest)
-scan_piece (blank c) place rest right settled = scan_byte Between Between place c [] rest (next_blank place c right)
+scan_piece (blank c) place rest right settled = scan_byte Between Between place c [] rest (next_after_blank place c right)
 scan_piece (line_comment inside) place [] right settled =
     let no : 97 ≡ line_feed = (settled refl (97 ∷ [])).1 in absurd (omega arith)
 scan_piece (line_comment inside) place (d ∷ ds) right settled =

@@ -1,6 +1,7 @@
 -- A lexer that represents a text has taken whole pieces and then what is open.
 use Rattle.std.proofs.Common.{◌≡◌, ℕ, ◌+◌, ◌≤◌, Bool, true, false, ◌&&◌, not, List, [], ◌∷◌, ◌++◌, length, Option, Some, None, IsSome, ◌==◌, nat_lt, if◌then◌else◌, refl, sym, ap, subst, ◌∙◌, arith, append_assoc, length-append}
 use Rattle.std.specs.Prelude.{⊤}
+use Rattle.std.proofs.lemmas.Bool.{and_parts}
 use Rattle.std.proofs.lemmas.Bool.Decides.{nat_tests}
 use Rattle.std.proofs.lemmas.List.{append-nil}
 use Rattle.goal_lexer.specs.declared.tokens.Token.{Token}
@@ -301,11 +302,6 @@ module _ (start : ℕ) (text : List ℕ) (tokens : List Token) (c : ℕ) (cut : 
       cut_after_byte_by_equal_scan text tokens c (next (LineComment start) (length text) c) (Between, []) (rw is_s)
       (λ sound. subst (λ (ts : List Token). Cut any_bytes Between (text ++ c ∷ []) (ts ++ [])) (append-nil tokens)
       (byte_is_piece EndsLine text (tokens ++ []) c ready (λ more. same) (blank c) refl (λ more. ap is_blank same) tt))
-
-and_parts : (a b : Bool) → (a && b) ≡ true → (a ≡ true) × (b ≡ true)
-and_parts true true is = (refl, refl)
-and_parts true false is = cc
-and_parts false b is = cc
 
 -- a byte in a block comment
 module _ (start : ℕ) (closes : Bool) (text : List ℕ) (tokens : List Token) (c : ℕ) (cut : Cut any_bytes (BlockComment start closes) text tokens) where

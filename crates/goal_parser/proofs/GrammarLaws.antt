@@ -40,7 +40,8 @@ use Rattle.goal_parser.specs.Ranks.{ranks_with, ranks_of}
 use Rattle.goal_parser.specs.Counts.{counts_of}
 use Rattle.goal_parser.specs.Items.{defined_as, is_defined, first_outside, first_unknown, dep_uses, note_uses, used_with, used_of}
 use Rattle.goal_parser.specs.Faults.{fault_by, token_fault, syntax_fault, number_fault, rank_fault, rank_fault_of, fault_if, option_fault, defined_fault, label_fault, label_fault_of, count_fault, unknown_fault, unknown_fault_of}
-use Rattle.goal_parser.proofs.ParserLaws.{first_is_none, second_is_none, no_fault_if_false, rank_passes}
+use Rattle.goal_parser.proofs.ParserLaws.{first_is_none, second_is_none, no_fault_if_false, no_fault_unless_true, rank_passes}
+use Rattle.goal_parser.proofs.LimitLaws.{state_after}
 use Rattle.goal_parser.specs.Grammar.{Amount, plain, marked, Setting, tag, cpu, nic, Item, calc, send, recv, requires, irequires, moves, adds, Block, Written, number_or_any, amount_token, setting_tokens, label_tokens, item_tokens, block_tokens, text_tokens, amount, tag_of, cpu_of, nic_of, op_said, defined_before, defined_by, definitions, dep_said, note_said, plan_said, rank_said, AreSaid, used_by, is_tag, is_cpu, is_nic, AreGivenOnce, HasOptionsOnce, KeepsRules, AreRight, IsWritten, IsNewRank}
 
 -- what is kept of the tokens so far, except for the newest action and the newest head
@@ -87,10 +88,6 @@ kept_with s k at draft head kept = record {
   notes = notes_with s k head kept.notes;
   plans = plans_with s k kept.rank (plan_with s draft kept) kept.plans;
 }
-
--- the state after the token
-abbrev behind : State → TokenKind → State
-behind s k = unwrap_or (entry s k) s
 
 -- the dependency and the note of an item, by their labels
 abbrev dep_named : Item → List NamedDep
@@ -150,7 +147,7 @@ count_push_at_most_one p xs x none few =
     by true is = let e = none is in omega arith
     by false is = omega arith
 
-abbrev labels_in : List Mention → List (List ℕ)
+abbrev pub labels_in : List Mention → List (List ℕ)
 labels_in us = map (λ (u : Mention). u.label) us
 
 abbrev is_label : List ℕ → Definition → Bool
@@ -747,7 +744,7 @@ record Fits (s : State) (kept : Kept) (head : ItemHead) (k : TokenKind) : Type 0
 abbrev Steps : State → Type 0
 Steps s = (k : TokenKind) (at : ℕ) (kept : Kept) (draft : Draft) (head : ItemHead) (ks : List TokenKind) →
     is_none (entry s k) ≡ false → has_option k draft ≡ false → Fits s kept head k → At s kept draft head ks →
-    At (behind s k) (kept_with s k at draft head kept) (draft_with s k draft) (head_with s k at head) (ks ++ k ∷ [])
+    At (state_after s k) (kept_with s k at draft head kept) (draft_with s k draft) (head_with s k at head) (ks ++ k ∷ [])
 
 no_blocks_are_right : (n : ℕ) → AreRight (record { ranks = n; blocks = [] })
 no_blocks_are_right n = record {
@@ -1127,10 +1124,6 @@ record Passes (s : State) (draft : Draft) (ranks : ℕ) (blocks : List ℕ) (ds 
   below : IsBelow s ranks k
   fresh : label_fault_of ds subject k ≡ None
   found : unknown_fault_of ds us k ≡ None
-
-no_fault_unless_true : (b : Bool) (f : TextFault) → fault_if (not b) f ≡ None → b ≡ true
-no_fault_unless_true true f h = refl
-no_fault_unless_true false f h = cc
 
 below_passes : (s : State) (ranks : ℕ) (blocks : List ℕ) (k : TokenKind) (at : ℕ) → rank_fault_of s ranks blocks k at ≡ None → IsBelow s ranks k
 below_passes state.Block ranks blocks (token.Number n) at h =

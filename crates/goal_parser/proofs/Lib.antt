@@ -1,6 +1,5 @@
 pub mod SlotLaws
 pub mod NameLaws
-pub mod BlockLaws
 pub mod ParserLaws
 pub mod KindLaws
 pub mod ReaderLaws

@@ -98,7 +98,7 @@ kept_notes state.Note3 (token.Number n) = 1
 kept_notes _ _ = 0
 
 -- the state after the token
-abbrev state_after : State → TokenKind → State
+abbrev pub state_after : State → TokenKind → State
 state_after s k = unwrap_or (entry s k) s
 
 -- each operation, dependency or note had begun before it is kept

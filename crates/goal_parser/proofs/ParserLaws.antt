@@ -36,7 +36,7 @@ pub no_fault_if_false : (b : Bool) (f : TextFault) → fault_if b f ≡ None →
 no_fault_if_false true f h = cc
 no_fault_if_false false f h = refl
 
-no_fault_unless_true : (b : Bool) (f : TextFault) → fault_if (not b) f ≡ None → b ≡ true
+pub no_fault_unless_true : (b : Bool) (f : TextFault) → fault_if (not b) f ≡ None → b ≡ true
 no_fault_unless_true true f h = refl
 no_fault_unless_true false f h = cc
 

@@ -1,6 +1,5 @@
 -- What is true of a text that a reader has read: its tokens pass except for a run that is open at its end.
-use Rattle.std.proofs.Common.{◌≡◌, ℕ, inl, inr, ◌⊎◌, ⊎_elim, List, [], ◌∷◌, ◌++◌, reverse, Option, Some, None, Bool, true, false, bytes_eq, refl, sym, ap, subst, ◌∙◌, arith}
-use Rattle.std.specs.Option.{option_or}
+use Rattle.std.proofs.Common.{◌≡◌, ℕ, inl, inr, ◌⊎◌, ⊎_elim, List, [], ◌∷◌, ◌++◌, reverse, Option, None, Bool, true, false, bytes_eq, sym, ap, subst, ◌∙◌, arith}
 use Rattle.std.proofs.lemmas.List.{append-nil}
 use Rattle.goal_lexer.specs.declared.tokens.Token.{Token}
 use Rattle.goal_lexer.specs.declared.tokens.TokenKind.{TokenKind}
@@ -15,13 +14,13 @@ use Rattle.goal_lexer.specs.Scan.{closing}
 use Rattle.goal_lexer.specs.State.{LexState}
 use Rattle.goal_lexer.specs.Stands.{Stands, handed}
 use Rattle.goal_lexer.proofs.ForCallers.{lexed_at_end, fault_at_end_is_cut_off}
-use Rattle.goal_parser.specs.declared.faults.TextFault.{TextFault}
 use Rattle.goal_parser.specs.declared.pieces.TextReader.{TextReader}
 use Rattle.goal_parser.specs.Faults.{token_fault}
 use Rattle.goal_parser.specs.Reads.{first_fault}
 use Rattle.goal_parser.specs.TextRead.{HasRead}
 use Rattle.goal_parser.specs.Laws.{IsSign, PassesSoFar}
 use Rattle.goal_parser.proofs.ReaderLaws.{first_fault-append}
+use Rattle.goal_parser.proofs.ParserLaws.{first_is_none, second_is_none}
 
 -- the token is among these
 abbrev IsTokenAmong : List Token → Token → Type 0
@@ -38,14 +37,6 @@ token_in_first_or_second_list (b ∷ bs) later (h ∷ hs) cs t e =
     let same : b ≡ h = cc in
     let rest : bs ++ t ∷ later ≡ hs ++ cs = cc in
     ⊎_elim (λ found. inl (found.0, ap (λ (x : Token). x ∷ hs) (sym same) ∙ ap (λ (l : List Token). b ∷ l) found.1)) (λ stood. inr stood) (token_in_first_or_second_list bs later hs cs t rest)
-
-first_is_none : (a b : Option TextFault) → option_or a b ≡ None → a ≡ None
-first_is_none None b e = refl
-first_is_none (Some f) b e = e
-
-second_is_none : (a b : Option TextFault) → option_or a b ≡ None → b ≡ None
-second_is_none None b e = e
-second_is_none (Some f) b e = cc
 
 -- a token among tokens that pass
 passes : (before more : List Token) (t : Token) → first_fault [] (before ++ t ∷ more) ≡ None → token_fault (reverse before) t ≡ None

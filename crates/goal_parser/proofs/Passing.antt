@@ -1,5 +1,5 @@
 -- Sentences that obey the rules and the limits fail no test, at whatever places their tokens are.
-use Rattle.std.proofs.Common.{◌≡◌, ℕ, ◌+◌, ◌^◌, ◌<◌, ◌≤◌, arith, Bool, true, false, cond, ◌||◌, eq-eqb, List, [], ◌∷◌, ◌++◌, length, map, reverse, Option, Some, None, nat_le, nat_eq, bytes_eq, is_some, unwrap_or, refl, sym, ap, subst, ◌∙◌, append_assoc, length-append}
+use Rattle.std.proofs.Common.{◌≡◌, ℕ, ◌+◌, ◌^◌, ◌<◌, ◌≤◌, arith, Bool, true, false, cond, ◌||◌, eq-eqb, List, [], ◌∷◌, ◌++◌, length, reverse, Option, Some, None, nat_le, nat_eq, bytes_eq, is_some, unwrap_or, refl, sym, ap, subst, ◌∙◌, append_assoc, length-append}
 use Rattle.std.specs.Prelude.{⊤, if◌then◌else◌, ◌==◌}
 use Rattle.std.specs.Option.{option_or, option_map}
 use Rattle.std.specs.List.{AllByRecursion, All, flat_map, list_any, count_by}
@@ -32,6 +32,7 @@ use Rattle.goal_parser.specs.Items.{Definition, when_of, is_defined, defined_as,
 use Rattle.goal_parser.specs.Faults.{token_fault}
 use Rattle.goal_parser.specs.Reads.{first_fault}
 use Rattle.goal_parser.specs.Grammar.{plan_said, ops_in, deps_in, notes_in, Amount, plain, marked, Setting, tag, cpu, nic, Item, calc, send, recv, requires, irequires, moves, adds, Block, Written, number_or_any, amount_token, setting_tokens, label_tokens, cpu_tokens, item_tokens, block_tokens, text_tokens, amount, op_said, defined_before, defined_by, definitions, dep_said, note_said, used_by, is_tag, is_cpu, is_nic, AreGivenOnce, HasOptionsOnce, KeepsRules, AreRight, IsSettingWithin, IsOfSend, IsItemWithin, AreWithin}
+use Rattle.goal_parser.proofs.GrammarLaws.{labels_in}
 use Rattle.goal_parser.proofs.Seen.{Seen, seen_of, ops_now, step, fault_in, kinds_of, passes_if_false, passes_rank, limit_not_reached, passes_number, passes_upto, passes_u32, BeginsItem, at_word, at_close}
 
 -- Tokens of these kinds fail no test, at whatever places, and the text may end after them.
@@ -143,21 +144,21 @@ Fresh tags cpus nics (tag n ∷ settings) = (tags ≡ false) × Fresh true cpus 
 Fresh tags cpus nics (cpu n ∷ settings) = (cpus ≡ false) × Fresh tags true nics settings
 Fresh tags cpus nics (nic n ∷ settings) = (nics ≡ false) × Fresh tags cpus true settings
 
-counted : (p : Setting → Bool) (x : Setting) (xs : List Setting) → count_by p (x ∷ xs) ≡ cond (p x) 1 0 + count_by p xs
-counted p x xs = sum_by-cons (λ y. cond (p y) 1 0) x xs
+count-cons : {X : Type 0} (p : X → Bool) (x : X) (xs : List X) → count_by p (x ∷ xs) ≡ cond (p x) 1 0 + count_by p xs
+count-cons p x xs = sum_by-cons (λ y. cond (p y) 1 0) x xs
 
 fresh : (settings : List Setting) (tags cpus nics : Bool) → cond tags 1 0 + count_by is_tag settings ≤ 1 → cond cpus 1 0 + count_by is_cpu settings ≤ 1
     → cond nics 1 0 + count_by is_nic settings ≤ 1 → Fresh tags cpus nics settings
 fresh [] tags cpus nics a b c = tt
-fresh (tag n ∷ settings) true cpus nics a b c = absurd (omega (arith, counted is_tag (tag n) settings))
+fresh (tag n ∷ settings) true cpus nics a b c = absurd (omega (arith, count-cons is_tag (tag n) settings))
 fresh (tag n ∷ settings) false cpus nics a b c =
-    (refl, fresh settings true cpus nics (omega (arith, counted is_tag (tag n) settings)) (omega (arith, counted is_cpu (tag n) settings)) (omega (arith, counted is_nic (tag n) settings)))
-fresh (cpu n ∷ settings) tags true nics a b c = absurd (omega (arith, counted is_cpu (cpu n) settings))
+    (refl, fresh settings true cpus nics (omega (arith, count-cons is_tag (tag n) settings)) (omega (arith, count-cons is_cpu (tag n) settings)) (omega (arith, count-cons is_nic (tag n) settings)))
+fresh (cpu n ∷ settings) tags true nics a b c = absurd (omega (arith, count-cons is_cpu (cpu n) settings))
 fresh (cpu n ∷ settings) tags false nics a b c =
-    (refl, fresh settings tags true nics (omega (arith, counted is_tag (cpu n) settings)) (omega (arith, counted is_cpu (cpu n) settings)) (omega (arith, counted is_nic (cpu n) settings)))
-fresh (nic n ∷ settings) tags cpus true a b c = absurd (omega (arith, counted is_nic (nic n) settings))
+    (refl, fresh settings tags true nics (omega (arith, count-cons is_tag (cpu n) settings)) (omega (arith, count-cons is_cpu (cpu n) settings)) (omega (arith, count-cons is_nic (cpu n) settings)))
+fresh (nic n ∷ settings) tags cpus true a b c = absurd (omega (arith, count-cons is_nic (nic n) settings))
 fresh (nic n ∷ settings) tags cpus false a b c =
-    (refl, fresh settings tags cpus true (omega (arith, counted is_tag (nic n) settings)) (omega (arith, counted is_cpu (nic n) settings)) (omega (arith, counted is_nic (nic n) settings)))
+    (refl, fresh settings tags cpus true (omega (arith, count-cons is_tag (nic n) settings)) (omega (arith, count-cons is_cpu (nic n) settings)) (omega (arith, count-cons is_nic (nic n) settings)))
 
 once_fresh : (settings : List Setting) → AreGivenOnce settings → Fresh false false false settings
 once_fresh settings once =
@@ -210,9 +211,6 @@ recv_settings (nic n ∷ settings) s kinds within new good =
     next (λ a b. passes_if_false s.draft.has_nic (fault.Repeat a) new.0) (λ a b.
     next (λ c d. passes_upto n 255 (fault.Number c) within.0) (λ c d.
     recv_settings settings (record s { draft = record s.draft { has_nic = true; option = option.Nic; nic = n } }) kinds within.1 new.1 good))
-
-abbrev labels_in : List Mention → List (List ℕ)
-labels_in us = map (λ (u : Mention). u.label) us
 
 -- what is given after an item
 record IsAfterItem (s t : Seen) (item : Item) : Type 0 where
@@ -466,9 +464,6 @@ item_passes (moves label first last) s kinds fits within once good =
 item_passes (adds label from to) s kinds fits within once good =
     adds_passes label from to s kinds fits.begins (less_if_successor_fits s.counts.notes MAX_NOTES fits.notes) within.0 within.1 (λ at.
     good (after_note s label at verb.Adds from to) (after_note_is_after_item s label at verb.Adds from to (adds label from to) refl (λ n. refl) refl refl refl))
-
-count-cons : {X : Type 0} (p : X → Bool) (x : X) (xs : List X) → count_by p (x ∷ xs) ≡ cond (p x) 1 0 + count_by p xs
-count-cons p x xs = sum_by-cons (λ y. cond (p y) 1 0) x xs
 
 count-append : {X : Type 0} (p : X → Bool) (xs ys : List X) → count_by p (xs ++ ys) ≡ count_by p xs + count_by p ys
 count-append p xs ys = sum_by-append (λ y. cond (p y) 1 0) xs ys

@@ -20,14 +20,11 @@ use Rattle.goal_parser.specs.Faults.{token_fault}
 use Rattle.goal_parser.specs.Plans.{plans_of}
 use Rattle.goal_parser.specs.Reads.{first_fault, end_fault, last_fault, text_fault, text_plans, Reading, reading, reads, plans, faulty, IsFaultOf}
 use Rattle.goal_parser.specs.FaultInText.{fault_of_plans}
+use Rattle.goal_parser.proofs.SlotLaws.{option_or-none}
 
 or_assoc : {A : Type 0} (a b c : Option A) → option_or a (option_or b c) ≡ option_or (option_or a b) c
 or_assoc None b c = refl
 or_assoc (Some x) b c = refl
-
-or_none : {A : Type 0} (a : Option A) → option_or a None ≡ a
-or_none None = refl
-or_none (Some x) = refl
 
 -- the faults of tokens and of more tokens
 pub first_fault-append : (before xs ys : List Token) → first_fault before (xs ++ ys) ≡ option_or (first_fault before xs) (first_fault (reverse xs ++ before) ys)
@@ -45,7 +42,7 @@ unfolding first_fault
 first_fault-more hs t passed =
     first_fault-append [] hs (t ∷ [])
     ∙ ap (λ o. option_or o (first_fault (reverse hs ++ []) (t ∷ []))) passed
-    ∙ or_none (token_fault (reverse hs ++ []) t)
+    ∙ option_or-none (token_fault (reverse hs ++ []) t)
     ∙ ap (λ l. token_fault l t) (append-nil (reverse hs))
 
 pub reverse-more : (hs : List Token) (t : Token) → t ∷ reverse hs ≡ reverse (hs ++ t ∷ [])

@@ -208,11 +208,8 @@ stays_defined ds d q h = ap is_some (defined_as-append ds d q) ∙ by (defined_a
     by None b h = cc
     by (Some n) b h = refl
 
-bytes_eq_itself : (x : List ℕ) → bytes_eq x x ≡ true
-bytes_eq_itself x = nat_list_eq_equiv.refl x
-
 defined_with_newest : (ds : List Definition) (x : List ℕ) (op : ℕ) → is_defined (ds ++ record { label = x; op = op } ∷ []) x ≡ true
-defined_with_newest ds x op = ap is_some (defined_as-append ds (record { label = x; op = op }) x) ∙ ap (λ b. is_some (option_or (defined_as ds x) (if b then Some op else None))) (bytes_eq_itself x) ∙ by (defined_as ds x)
+defined_with_newest ds x op = ap is_some (defined_as-append ds (record { label = x; op = op }) x) ∙ ap (λ b. is_some (option_or (defined_as ds x) (if b then Some op else None))) (nat_list_eq_equiv.refl x) ∙ by (defined_as ds x)
   where
     by : (a : Option ℕ) → is_some (option_or a (Some op)) ≡ true
     by None = refl

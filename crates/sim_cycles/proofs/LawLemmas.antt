@@ -1,13 +1,14 @@
 -- The laws of knots.
-use Rattle.std.proofs.Common.{ℕ, zero, suc, ◌<◌, ◌≤◌, ◌≡◌, ◌⊎◌, inl, inr, ⊎_elim, Bool, true, false, ◌&&◌, List, [], ◌∷◌, ◌++◌, length, map, filter, take, drop, get_or, count_by, sum_by, Contains, Option, Some, None, is_none, unwrap_or, refl, sym, ap, ap₂, ◌∙◌, subst, arith}
+use Rattle.std.proofs.Common.{ℕ, zero, suc, ◌<◌, ◌≤◌, ◌≡◌, ◌⊎◌, inl, inr, ⊎_elim, Bool, true, false, ◌&&◌, List, [], ◌∷◌, ◌++◌, length, map, filter, take, drop, get_or, count_by, sum_by, Contains, Option, Some, None, is_none, unwrap_or, refl, sym, ap, ◌∙◌, subst, arith}
 use Rattle.std.specs.List.{before_first, list_any, position_or_len}
 use Rattle.std.proofs.lemmas.Bool.{cases_Bool, cases_lt, both_ways, cond-true, cond-false, or_cases, and_from, and_parts}
+use Rattle.std.proofs.lemmas.Option.{slice_get_within, get_or_from_slice_get}
 use Rattle.std.proofs.lemmas.List.{get_or-take, get_or_default, length-take}
 use Rattle.std.proofs.lemmas.List.Elements.{Contains-append_cases}
 use Rattle.goal_graph.specs.declared.action.OpId.{OpId}
 use Rattle.goal_graph.specs.declared.action.Stuck.{Stuck}
 use Rattle.goal_graph.specs.Action.{same_op}
-use Rattle.goal_graph.proofs.ForCallers.{same_op_true, same_op_from, contains_first, contains_more}
+use Rattle.goal_graph.proofs.ForCallers.{same_op_true, same_op_from, contains_first, contains_more, contains_source, contains_mapped, same_tables}
 use Rattle.sim_cycles.specs.declared.knot.Knot.{Knot}
 use Rattle.sim_cycles.specs.Knots.{named, stuck_ops, next, step, way, comes_to, is_head, members, behind, knot_at, knots}
 use Rattle.sim_cycles.specs.Laws.{IsInOrder, NamesListed, follow, LeadsInto, HasKnot, OneKnotEach, BehindAddUp, RingsAreClosed, LoneAreAlone, NoneLeftOut}
@@ -19,17 +20,6 @@ use Rattle.sim_cycles.proofs.Counting.{sum_map, count_both_ways, count_filter, c
 use Rattle.sim_cycles.proofs.KnotLemmas.{before_first-stop, before_first-go}
 
 -- members of lists
-contains_map : {X Y : Type 0} (f : X → Y) (xs : List X) (y : Y) → Contains (map f xs) y → (x : X) × Contains xs x × (f x ≡ y)
-contains_map f [] y (k, inside, e) = absurd (omega (arith, inside))
-contains_map f (x ∷ xs) y (zero, inside, e) = (x, contains_first x xs x refl, e)
-contains_map f (x ∷ xs) y (suc k, inside, e) =
-    let r = contains_map f xs y (k, omega (arith, inside), e) in (r.0, contains_more x xs r.0 r.1, r.2)
-
-map_contains : {X Y : Type 0} (f : X → Y) (xs : List X) (x : X) → Contains xs x → Contains (map f xs) (f x)
-map_contains f [] x (k, inside, e) = absurd (omega (arith, inside))
-map_contains f (z ∷ xs) x (zero, inside, e) = contains_first (f z) (map f xs) (f x) (ap f e)
-map_contains f (z ∷ xs) x (suc k, inside, e) = contains_more (f z) (map f xs) (f x) (map_contains f xs x (k, omega (arith, inside), e))
-
 contains_filter : {X : Type 0} (p : X → Bool) (xs : List X) (x : X) → Contains (filter p xs) x → Contains xs x × (p x ≡ true)
 contains_filter p [] x (k, inside, e) = absurd (omega (arith, inside))
 contains_filter {X} p (z ∷ xs) x c = go (cases_Bool (p z)) (contains_filter p xs x)
@@ -145,7 +135,7 @@ module _ (list : List Stuck) where
   unfolding members
   member_next x y head c =
       let ys = before_first (λ (z : OpId). same_op z x) (way list (length list) (step list x)) in
-      let m : Contains (ys ++ x ∷ []) (step list y) = let P : List OpId → Type 0 = λ zs. Contains zs (step list y) in subst P (ring_steps x head) (map_contains (step list) (members list x) y c) in
+      let m : Contains (ys ++ x ∷ []) (step list y) = let P : List OpId → Type 0 = λ zs. Contains zs (step list y) in subst P (ring_steps x head) (contains_mapped (step list) (members list x) y c) in
       ⊎_elim (λ later. contains_more x ys (step list y) later) (λ (k, inside, e). contains_first x ys (step list y) (only k inside e)) (Contains-append_cases ys (x ∷ []) (step list y) m)
     where
       only : (k : ℕ) → k < 1 → get_or (x ∷ []) k (step list y) ≡ step list y → x ≡ step list y
@@ -162,13 +152,13 @@ module _ (list : List Stuck) where
   pub knot_head : (k : Knot) → Contains (knots list) k → (x : OpId) × Contains (stuck_ops list) x × (is_head list x ≡ true) × (knot_at list x ≡ k)
   unfolding knots
   knot_head k c =
-      let r = contains_map (knot_at list) (filter (is_head list) (stuck_ops list)) k c in
+      let r = contains_source (knot_at list) (filter (is_head list) (stuck_ops list)) k c in
       let f = contains_filter (is_head list) (stuck_ops list) r.0 r.1 in
       (r.0, f.0, f.1, r.2)
 
   pub head_listed : (x : OpId) → Contains (stuck_ops list) x → is_head list x ≡ true → Contains (knots list) (knot_at list x)
   unfolding knots
-  head_listed x c head = map_contains (knot_at list) (filter (is_head list) (stuck_ops list)) x (filter_contains (is_head list) (stuck_ops list) x c head)
+  head_listed x c head = contains_mapped (knot_at list) (filter (is_head list) (stuck_ops list)) x (filter_contains (is_head list) (stuck_ops list) x c head)
 
 pub one_knot_each : OneKnotEach
 one_knot_each list x order listed c = go (targets_exist list order listed) (place_of list x c)
@@ -230,11 +220,6 @@ unfolding follow
 follow_stays_at_fixed_point list y e zero = refl
 follow_stays_at_fixed_point list y e (suc m) = ap (follow list m) e ∙ follow_stays_at_fixed_point list y e m
 
-map_alike : {X Y : Type 0} (f g : X → Y) (xs : List X) → ((x : X) → Contains xs x → f x ≡ g x) → map f xs ≡ map g xs
-map_alike f g [] same = refl
-map_alike {X} {Y} f g (x ∷ xs) same =
-    ap₂ (λ (y : Y) (ys : List Y). y ∷ ys) (same x (contains_first x xs x refl)) (map_alike f g xs (λ z c. same z (contains_more x xs z c)))
-
 map_twice : {X Y Z : Type 0} (f : Y → Z) (g : X → Y) (xs : List X) → map f (map g xs) ≡ map (λ (x : X). f (g x)) xs
 map_twice f g [] = refl
 map_twice {X} {Y} {Z} f g (x ∷ xs) = ap (λ (zs : List Z). f (g x) ∷ zs) (map_twice f g xs)
@@ -268,7 +253,7 @@ rings_are_closed list k order listed c ring = go (knot_head list k c)
     go (x, cx, head, is) =
         let P : Knot → Type 0 = λ j. map (next list) j.members ≡ map Some (drop 1 j.members ++ take 1 j.members) in
         let m = members list x in
-        subst P is (map_alike (next list) (λ (y : OpId). Some (step list y)) m (λ y cy. ring_member_names_its_step list x y order listed cx head (ap (λ (j : Knot). j.lone) is ∙ ring) cy) ∙ sym (map_twice Some (step list) m) ∙ ap (map Some) (ring_steps list x head))
+        subst P is (same_tables (next list) (λ (y : OpId). Some (step list y)) m (λ i y e. ring_member_names_its_step list x y order listed cx head (ap (λ (j : Knot). j.lone) is ∙ ring) (i, slice_get_within m i y e, get_or_from_slice_get m i y y e)) ∙ sym (map_twice Some (step list) m) ∙ ap (map Some) (ring_steps list x head))
 
 pub none_left_out : NoneLeftOut
 none_left_out list x n order listed c back = go (targets_exist list order listed) (place_of list x c)

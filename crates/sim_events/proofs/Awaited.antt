@@ -20,20 +20,7 @@ use Rattle.goal_graph.specs.Interleaving.{IsInterleaving}
 use Rattle.goal_graph.proofs.ForCallers.{contains_first, contains_more, act_of, not_happened_before_newest, happened_cases, is_act_class, is_act_op, is_some_from, partner_stays, allowed_fresh, allowed_from, allowed_may, IsListed, listed_partners, new_pair_is_of_action, newly_paired, partners_mutual, ready_need, unready_need, unread_after_next, nothing_after_end}
 use Rattle.sim_events.specs.Queue.{IsAwaiting, Awaits}
 use Rattle.sim_state.specs.Awaited.{gives}
-
--- the last action of an operation gives its end, the first its start
-gives_end : (eager : Bool) (k : Option Kind) → gives (last_class eager k) AfterEnd ≡ true
-gives_end eager None = refl
-gives_end eager (Some (Calc nanos)) = refl
-gives_end true (Some (Send bytes to tag)) = refl
-gives_end false (Some (Send bytes to tag)) = refl
-gives_end eager (Some (Recv room from tag)) = refl
-
-gives_start : (k : Option Kind) → gives (first_class k) AfterStart ≡ true
-gives_start None = refl
-gives_start (Some (Calc nanos)) = refl
-gives_start (Some (Send bytes to tag)) = refl
-gives_start (Some (Recv room from tag)) = refl
+use Rattle.sim_state.proofs.ForCallers.{first_gives, last_gives}
 
 abbrev is_later : ℕ → Dep → Bool
 is_later op p = p.later == op
@@ -79,10 +66,10 @@ module _ (plans : List Plan) (eager : OpId → Bool) (a : Act) (h : List Act) (n
   newly_met : (w : When) (y : OpId) → is_met plans eager h w y ≡ false → is_met plans eager (a ∷ h) w y ≡ true → (gives a.class w ≡ true) × (a.op ≡ y)
   newly_met AfterEnd y e f =
       let new = newly_happened (last_class (eager y) (kind_at plans y)) y e f in
-      (ap (λ (c : Class). gives c AfterEnd) new.0 ∙ gives_end (eager y) (kind_at plans y), new.1)
+      (ap (λ (c : Class). gives c AfterEnd) new.0 ∙ last_gives (eager y) (kind_at plans y), new.1)
   newly_met AfterStart y e f =
       let new = newly_happened (first_class (kind_at plans y)) y e f in
-      (ap (λ (c : Class). gives c AfterStart) new.0 ∙ gives_start (kind_at plans y), new.1)
+      (ap (λ (c : Class). gives c AfterStart) new.0 ∙ first_gives (kind_at plans y), new.1)
 
   newly_ready : (x : OpId) → is_ready plans eager (a ∷ h) x ≡ true → (is_ready plans eager h x ≡ true) ⊎ MayConcern x
   newly_ready x e = go (cases_Bool (is_ready plans eager h x))

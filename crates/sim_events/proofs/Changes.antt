@@ -246,7 +246,7 @@ module _ (plans : List Plan) where
     pub at : slice_get ops slot ≡ Some op
     pub is : t ≡ station_as op (op_at plans op)
 
-  abbrev more : List Station → OpId → List Station
+  abbrev pub more : List Station → OpId → List Station
   more stations x = with_station stations (station_as x (op_at plans x))
 
   folded_station_is_of_op : (ops : List OpId) (stations : List Station) (t : Station) (n : ℕ) → slice_get (fold more stations ops) n ≡ Some t → ((m : ℕ) × (slice_get stations m ≡ Some t)) ⊎ IsOfOne ops t

@@ -17,6 +17,7 @@ use Rattle.sim_params.specs.Costs.{CostModel, is_eager}
 use Rattle.sim_params.specs.Times.{same_place, holds_tx, holds_rx, cpu_hold, tx_hold, rx_hold, cpu, tx, rx, Possible}
 use Rattle.goal_graph.specs.Allowed.{allowed}
 use Rattle.sim_state.specs.Free.{free, free_of, side, side_of}
+use Rattle.sim_state.proofs.ForCallers.{cpu_kept_if_not_held}
 use Rattle.sim_resources.specs.declared.station.Station.{Station}
 use Rattle.sim_events.specs.Cost.{station_by, station_of, cpu_alone, side_alone}
 
@@ -198,15 +199,6 @@ module _ (plans : List Plan) (costs : CostModel) (a : Timed) (h : List Timed) wh
         go true (Recv n t u) nc ns = rx_stays ns
 
   -- what waits for nothing holds nothing
-  pub cpu_kept_by_action_without_cpu : (x : OpId) → holds_cpu a.class ≡ false → cpu plans costs (a ∷ h) x ≡ cpu plans costs h x
-  unfolding cpu
-  cpu_kept_by_action_without_cpu x w = go a.class w
-    where
-      go : (c : Class) → holds_cpu c ≡ false → max (cpu plans costs h x) (if holds_cpu c && same_place (λ (p : Op). p.cpu) x (op_at plans x) a.op (op_at plans a.op) then a.time + cpu_hold plans costs h c a.op (kind_at plans a.op) else 0) ≡ cpu plans costs h x
-      go Arrive v = omega arith
-      go Post v = omega arith
-      go _ v = absurd (both_ways true v refl)
-
   tx_kept_by_action_without_cpu : (x : OpId) → holds_cpu a.class ≡ false → tx plans costs (a ∷ h) x ≡ tx plans costs h x
   unfolding tx
   tx_kept_by_action_without_cpu x w = go a.class w
@@ -230,7 +222,7 @@ module _ (plans : List Plan) (costs : CostModel) (a : Timed) (h : List Timed) wh
     where
       go : (k : Option Kind) → side_of plans costs (a ∷ h) x k ≡ side_of plans costs h x k
       go None = refl
-      go (Some (Calc n)) = cpu_kept_by_action_without_cpu x w
+      go (Some (Calc n)) = sym (cpu_kept_if_not_held plans costs h a w x)
       go (Some (Send n t u)) = tx_kept_by_action_without_cpu x w
       go (Some (Recv n t u)) = rx_kept_by_action_without_cpu x w
 

@@ -14,10 +14,11 @@ use Rattle.sim_resources.specs.declared.pair.Pair.{Pair}
 use Rattle.sim_resources.specs.ByNumber.{HasTimes}
 use Rattle.sim_stations.specs.Stations.{Stationed, holds_cpu, pair_at, pair_of, held, held_by, IsLater, IsLaterBy, AreKnown, AreTimesOf}
 use Rattle.sim_state.specs.Free.{side, AreFreeByNumber}
+use Rattle.sim_state.proofs.ForCallers.{cpu_kept_if_not_held}
 use Rattle.sim_resources.specs.Numbering.{AreStationed}
 use Rattle.sim_events.specs.Cost.{station_of, cpu_alone, side_alone}
 use Rattle.sim_events.specs.Queue.{AreFree, IsOfSchedule}
-use Rattle.sim_events.proofs.FreeAfter.{needs, free_at, same_need_free_alike, side_by_kind, cpu_grows, side_grows, free_stays, cpu_kept_by_action_without_cpu, side_kept_by_action_without_cpu}
+use Rattle.sim_events.proofs.FreeAfter.{needs, free_at, same_need_free_alike, side_by_kind, cpu_grows, side_grows, free_stays, side_kept_by_action_without_cpu}
 
 -- the number of one of the two resources of a pair
 abbrev pub number : Bool → Pair → ℕ
@@ -118,7 +119,7 @@ module _ (plans : List Plan) (costs : CostModel) where
   -- the queue keeps its free times after an action that holds no cpu
   pub free_kept_by_action_without_cpu : (h : List Timed) (a : Timed) (queue new : Stationed) → holds_cpu a.class ≡ false → AreFree plans costs h queue → new.stations ≡ queue.stations → new.pairs ≡ queue.pairs → new.free ≡ queue.free → AreFree plans costs (a ∷ h) new
   free_kept_by_action_without_cpu h a queue new w free stations pairs same = record {
-    cpus = λ i x at. (λ j. slice_index (same j) (pair_at (pairs j) (slice_index (stations j) i)).cpu) ∙ free.cpus i x at ∙ sym (cpu_kept_by_action_without_cpu plans costs a h x w);
+    cpus = λ i x at. (λ j. slice_index (same j) (pair_at (pairs j) (slice_index (stations j) i)).cpu) ∙ free.cpus i x at ∙ cpu_kept_if_not_held plans costs h a w x;
     sides = λ i x at. (λ j. slice_index (same j) (pair_at (pairs j) (slice_index (stations j) i)).side) ∙ free.sides i x at ∙ sym (side_kept_by_action_without_cpu plans costs a h x w);
   }
 

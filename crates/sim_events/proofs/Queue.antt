@@ -29,7 +29,7 @@ use Rattle.sim_resources.specs.declared.pair.Pair.{Pair}
 use Rattle.sim_stations.specs.declared.key_place.KeyPlace.TheVariants.{Nowhere}
 use Rattle.sim_state.specs.Enabled.{IsIdle, IsEnabledActionOf}
 use Rattle.sim_state.specs.Free.{free, side, side_of}
-use Rattle.sim_state.proofs.ForCallers.{newest_is_not_act_of_other_op, newest_action_has_happened, listed_exists}
+use Rattle.sim_state.proofs.ForCallers.{newest_is_not_act_of_other_op, newest_action_has_happened, listed_exists, is_some_false_means_none}
 use Rattle.sim_resources.specs.Numbering.{AreStationed}
 use Rattle.sim_events.specs.Queue.{AreFree, IsOfSchedule, IsQueueBut, IsQueue, HasPossibleKeys, IsRefreshed, IsDueAfter}
 use Rattle.sim_events.proofs.Awaited.{IsConcerned, newly_allowed}
@@ -39,11 +39,6 @@ use Rattle.sim_events.proofs.Keys.{less_is_event_before}
 use Rattle.sim_events.proofs.Stays.{time_after, free_before_possible}
 use Rattle.sim_events.proofs.FreeAfter.{free_is_later_of_both}
 use Rattle.sim_events.proofs.Held.{free_times_after_hold, free_kept_by_action_without_cpu}
-
--- a slot that has no key
-pub not_some_is_none : (k : Option Timed) → is_some k ≡ false → k ≡ None
-not_some_is_none None e = refl
-not_some_is_none (Some k) e = absurd (both_ways true e refl)
 
 -- the time of a key once room is free at f
 abbrev pub time_then : ℕ → Timed → ℕ
@@ -428,7 +423,7 @@ module _ (plans : List Plan) (costs : CostModel) where
     -- what is idle has none
     pub idle_kept : (x : OpId) (known : List Plan) (slot : ℕ) (enabled : Option Timed) (queue : Stationed) → known ≡ plans → slice_get (operations known) slot ≡ Some x → IsEnabledActionOf plans costs h x enabled → enabled ≡ None → is_some (key_at queue.keys slot) ≡ false → IsRefreshed plans costs h x queue queue
     idle_kept x known slot enabled queue same at is e none =
-        same_key x known slot queue same at (subst (IsEnabledActionOf plans costs h x) (e ∙ sym (not_some_is_none (key_at queue.keys slot) none)) is)
+        same_key x known slot queue same at (subst (IsEnabledActionOf plans costs h x) (e ∙ sym (is_some_false_means_none (key_at queue.keys slot) none)) is)
 
   cpu_free_at_start : (x : OpId) → 0 ≡ cpu plans costs [] x
   unfolding cpu

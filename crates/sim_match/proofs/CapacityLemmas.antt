@@ -1,6 +1,7 @@
 -- The capacity of each list, after one more operation, and after one more list of a send.
 use Rattle.std.proofs.Common.{ℕ, zero, suc, ◌+◌, ◌<◌, ◌^◌, ◌≡◌, ◌||◌, Bool, true, false, cond, if◌then◌else◌, inl, inr, List, [], ◌∷◌, length, Option, Some, None, take, get_or, slice_get, slice_set, count_by, refl, arith, sym, ap, ◌∙◌, subst, eq-eqb}
 use Rattle.std.specs.List.{list_any}
+use Rattle.std.proofs.Math.Bool.{or-false}
 use Rattle.std.proofs.lemmas.Bool.{cases_eq, ne_eqb}
 use Rattle.std.proofs.lemmas.Option.{slice_get_read}
 use Rattle.std.proofs.lemmas.List.{length-set, length-take}
@@ -35,16 +36,12 @@ module _ (numbers : List (Option ℕ)) (old now : List Capacity) (k : ℕ) (d : 
   list_any_next_number : (test : Option ℕ → Bool) → list_any test (take (k + 1) numbers) ≡ (list_any test (take k numbers) || test (get_or numbers k d))
   list_any_next_number test = list_any_more test numbers k d inside
 
-  or_false : (s : Bool) → (s || false) ≡ s
-  or_false true = refl
-  or_false false = refl
-
   unlisted_stays_counted : (l : ℕ) (capacity : Capacity) → same_number (Some l) (get_or numbers k d) ≡ false → IsCounted (take k numbers) old l capacity → IsCounted (take (k + 1) numbers) old l capacity
   unlisted_stays_counted l capacity other is = record {
     before = is.before;
     was = is.was;
     receives = is.receives;
-    sends = is.sends ∙ ap (λ (b : Bool). is.before.sends + (if b then 1 else 0)) (sym (list_any_next_number (same_number (Some l)) ∙ ap (λ (b : Bool). list_any (same_number (Some l)) (take k numbers) || b) other ∙ or_false (list_any (same_number (Some l)) (take k numbers))));
+    sends = is.sends ∙ ap (λ (b : Bool). is.before.sends + (if b then 1 else 0)) (sym (list_any_next_number (same_number (Some l)) ∙ ap (λ (b : Bool). list_any (same_number (Some l)) (take k numbers) || b) other ∙ or-false (list_any (same_number (Some l)) (take k numbers))));
   }
 
   -- number k is `None`: it counts the send in no list

@@ -2,6 +2,7 @@
 use Rattle.std.proofs.Common.{ℕ, zero, suc, ◌+◌, ◌<◌, ◌≡◌, ◌&&◌, ◌||◌, Bool, true, false, not, if◌then◌else◌, inl, inr, List, [], ◌∷◌, ◌++◌, length, Option, Some, None, is_none, All, filter, find, map, reverse, take, get_or, slice_get, slice_set, count_by, refl, arith, sym, ap, ◌∙◌, subst, eq-eqb, append-nil}
 use Rattle.std.specs.Option.{IfSome, option_map}
 use Rattle.std.specs.List.{list_any}
+use Rattle.std.proofs.Math.Bool.{and-false, and-or_distrib_left, or-false, or_assoc, or_comm}
 use Rattle.std.proofs.lemmas.Bool.{cases_eq, ne_eqb}
 use Rattle.std.proofs.lemmas.Option.{slice_get_read, same_Some}
 use Rattle.std.proofs.lemmas.List.{length-append, length-set, length-map, length-reverse, map_push, reverse-append}
@@ -52,29 +53,7 @@ module _ (plans : List Plan) (events : List OpId) where
     pub actions_of-arrival : IsSend plans x → actions_of plans (events ++ x ∷ []) ≡ record { class = Arrive; op = x } ∷ actions_of plans events
     actions_of-arrival s = actions_of-class _ s.kind
 
-or_assoc : (s t u : Bool) → ((s || t) || u) ≡ (s || (t || u))
-or_assoc true t u = refl
-or_assoc false t u = refl
-
-or_comm : (s t : Bool) → (s || t) ≡ (t || s)
-or_comm true true = refl
-or_comm true false = refl
-or_comm false true = refl
-or_comm false false = refl
-
-or_none : (s : Bool) → (s || false) ≡ s
-or_none true = refl
-or_none false = refl
-
-and_none : (s : Bool) → (s && false) ≡ false
-and_none true = refl
-and_none false = refl
-
-and_or : (s t u : Bool) → (s && (t || u)) ≡ ((s && t) || (s && u))
-and_or true t u = refl
-and_or false t u = refl
-
-no_number : (o : Option ℕ) → same_number o None ≡ false
+pub no_number : (o : Option ℕ) → same_number o None ≡ false
 no_number None = refl
 no_number (Some i) = refl
 
@@ -278,7 +257,7 @@ module _ (plans : List Plan) (keys : List Pattern) (lists : List PatternLists) (
     joined_none = record {
       one_each = m.one_each;
       each = λ l w e. let before = m.each l w e in record { receives = before.receives; sends = subst (λ (es : List MatchEntry). IsMatchList es paired (count_by (for_list plans keys l) (operations plans)) w.sends) (sym (append-nil (sends_of plans keys h l))) before.sends };
-      found = sym (find_none (meets []) (entries_of Post h) (λ k d b. and_none (not (paired (get_or (entries_of Post h) k d).op))));
+      found = sym (find_none (meets []) (entries_of Post h) (λ k d b. and-false (not (paired (get_or (entries_of Post h) k d).op))));
     }
 
     -- at one of them
@@ -293,7 +272,7 @@ module _ (plans : List Plan) (keys : List Pattern) (lists : List PatternLists) (
       module _ (absent : get_or (lists_for plans keys y) k d ≡ None) where
         absent_number_changes_no_list : (o : Option ℕ) → list_any (same_number o) (take (k + 1) numbers) ≡ list_any (same_number o) (take k numbers)
         absent_number_changes_no_list o =
-            list_any_next_pattern (same_number o) ∙ ap (λ (b : Bool). list_any (same_number o) (take k numbers) || b) (ap (same_number o) absent ∙ no_number o) ∙ or_none (list_any (same_number o) (take k numbers))
+            list_any_next_pattern (same_number o) ∙ ap (λ (b : Bool). list_any (same_number o) (take k numbers) || b) (ap (same_number o) absent ∙ no_number o) ∙ or-false (list_any (same_number o) (take k numbers))
 
         pub sought_absent_pattern : (stood : List (Option ℕ)) (now : List PatternLists) (met : Option MatchEntry) → IsJoined plans keys h y stood (take k (lists_for plans keys y)) now met → IsJoined plans keys h y stood (take (k + 1) (lists_for plans keys y)) now met
         sought_absent_pattern stood now met j = record {
@@ -348,7 +327,7 @@ module _ (plans : List Plan) (keys : List Pattern) (lists : List PatternLists) (
 
           meets_next_list : (e : MatchEntry) → meets (take (k + 1) (lists_for plans keys y)) e ≡ (meets (take k (lists_for plans keys y)) e || (not (paired e.op) && same_number (list_of plans keys e.op) (Some i)))
           meets_next_list e =
-              ap (λ (b : Bool). not (paired e.op) && b) (list_any_next_pattern (same_number (list_of plans keys e.op)) ∙ ap (λ (o : Option ℕ). list_any (same_number (list_of plans keys e.op)) (take k numbers) || same_number (list_of plans keys e.op) o) is) ∙ and_or (not (paired e.op)) (list_any (same_number (list_of plans keys e.op)) (take k numbers)) (same_number (list_of plans keys e.op) (Some i))
+              ap (λ (b : Bool). not (paired e.op) && b) (list_any_next_pattern (same_number (list_of plans keys e.op)) ∙ ap (λ (o : Option ℕ). list_any (same_number (list_of plans keys e.op)) (take k numbers) || same_number (list_of plans keys e.op) o) is) ∙ and-or_distrib_left (not (paired e.op)) (list_any (same_number (list_of plans keys e.op)) (take k numbers)) (same_number (list_of plans keys e.op) (Some i))
 
           pub sought_next_list : IsJoined plans keys h y stood (take (k + 1) (lists_for plans keys y)) (slice_set now i v) (earlier met first)
           sought_next_list = record {
@@ -401,7 +380,7 @@ module _ (plans : List Plan) (keys : List Pattern) (lists : List PatternLists) (
             }
               where
                 as_was : list_any (same_number (Some l)) (take (k + 1) numbers) ≡ list_any (same_number (Some l)) (take k numbers)
-                as_was = list_any_next_pattern (same_number (Some l)) ∙ ap (λ (b : Bool). list_any (same_number (Some l)) (take k numbers) || b) (ap (same_number (Some l)) is ∙ ne_eqb l i n) ∙ or_none (list_any (same_number (Some l)) (take k numbers))
+                as_was = list_any_next_pattern (same_number (Some l)) ∙ ap (λ (b : Bool). list_any (same_number (Some l)) (take k numbers) || b) (ap (same_number (Some l)) is ∙ ne_eqb l i n) ∙ or-false (list_any (same_number (Some l)) (take k numbers))
 
             pub joined_next_list : IsJoined plans keys h y (take (k + 1) (lists_for plans keys y)) looked (slice_set now i v) met
             joined_next_list = record {

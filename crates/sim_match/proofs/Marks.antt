@@ -1,5 +1,6 @@
 -- Marks of operations.
 use Rattle.std.proofs.Common.{ℕ, zero, suc, ◌≤◌, ◌≡◌, ◌≢◌, ◌||◌, Bool, true, false, if◌then◌else◌, List, [], ◌∷◌, length, get_or, replicate, Some, AllPairs, slice_get, slice_set, refl, arith, sym, ap, ◌∙◌}
+use Rattle.std.proofs.Math.Bool.{or-false, or-true}
 use Rattle.std.proofs.lemmas.Bool.{false_from_ne_true, cond-true, cond-false}
 use Rattle.std.proofs.lemmas.Option.{none-some, same_Some, slice_get_within, get_or_from_slice_get}
 use Rattle.goal_graph.specs.declared.action.OpId.{OpId}
@@ -19,14 +20,6 @@ tail_pairwise_different y ys apart i j d l b = apart (suc i) (suc j) d (omega ar
 different_not_same_op : (y z : OpId) → y ≢ z → same_op y z ≡ false
 different_not_same_op y z n = false_from_ne_true (same_op y z) (λ t. n (same_op_true y z t))
 
-or_true : (b : Bool) → (b || true) ≡ true
-or_true true = refl
-or_true false = refl
-
-or_false : (b : Bool) → (b || false) ≡ b
-or_false true = refl
-or_false false = refl
-
 -- the mark that is read
 mark_is_entry_at_place : (ops : List OpId) (marks : List Bool) (i : ℕ) (x : OpId) (d : Bool) → AllPairs (λ (y z : OpId). y ≢ z) ops → slice_get ops i ≡ Some x → length ops ≤ length marks → is_marked ops marks x ≡ get_or marks i d
 mark_is_entry_at_place [] marks i x d apart e long = absurd (none-some x e)
@@ -44,15 +37,15 @@ marked_after_entry_set (y ∷ ys) (b ∷ bs) zero x apart e long z =
     go (same_op y z) ∙ ap (λ (w : OpId). (if same_op y z then b else is_marked ys bs z) || same_op w z) (same_Some y x e)
   where
     go : (s : Bool) → (if s then true else is_marked ys bs z) ≡ ((if s then b else is_marked ys bs z) || s)
-    go true = sym (or_true b)
-    go false = sym (or_false (is_marked ys bs z))
+    go true = sym (or-true b)
+    go false = sym (or-false (is_marked ys bs z))
 marked_after_entry_set (y ∷ ys) (b ∷ bs) (suc i) x apart e long z =
     go (same_op y z) refl (marked_after_entry_set ys bs i x (tail_pairwise_different y ys apart) e (omega arith) z)
   where
     go : (s : Bool) → same_op y z ≡ s → is_marked ys (slice_set bs i true) z ≡ (is_marked ys bs z || same_op x z) → (if s then b else is_marked ys (slice_set bs i true) z) ≡ ((if s then b else is_marked ys bs z) || same_op x z)
     go true f rest =
         let other : same_op x z ≡ false = different_not_same_op x z (λ same. head_not_in_tail y ys apart i x e (same_op_true y z f ∙ sym same)) in
-        sym (ap (λ (t : Bool). b || t) other ∙ or_false b)
+        sym (ap (λ (t : Bool). b || t) other ∙ or-false b)
     go false f rest = rest
 
 pub no_marks : (ops : List OpId) (n : ℕ) (x : OpId) → is_marked ops (replicate n false) x ≡ false

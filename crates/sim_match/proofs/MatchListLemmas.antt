@@ -1,6 +1,6 @@
 -- Match lists: what one keeps when its first entry is looked for, when an entry is added, and when more is paired.
 use Rattle.std.proofs.Common.{ℕ, ◌≤◌, ◌≡◌, Bool, true, false, not, List, [], ◌∷◌, ◌++◌, length, take, find, get_or, Option, Some, None, ◌<◌, All, refl, arith, sym, ap, ◌∙◌, subst}
-use Rattle.std.proofs.lemmas.Option.{slice_get_read, slice_get_past, slice_get-get_or, get_or_from_slice_get}
+use Rattle.std.proofs.lemmas.Option.{slice_get_read, slice_get_past}
 use Rattle.std.proofs.lemmas.List.{take-append-le, length-append, length-take, get_or-take, take_all}
 use Rattle.std.proofs.lemmas.List.Elements.{All-weaker}
 use Rattle.goal_graph.specs.declared.action.OpId.{OpId}
@@ -83,8 +83,3 @@ module _ (marked : OpId → Bool) (es : List MatchEntry) (i head room : ℕ) (sk
     at_head = slice_get_past es i (omega (arith, at_end));
     skipped = skipped;
   }
-
--- reading an existing entry does not depend on the default
-pub get_or_default_irrelevant : (es : List MatchEntry) (i : ℕ) (d : MatchEntry) → i < length es → get_or es i d ≡ get_or es i (get_or es i d)
-get_or_default_irrelevant es i d inside =
-    sym (get_or_from_slice_get es i (get_or es i d) (get_or es i d) (slice_get-get_or es i d inside))

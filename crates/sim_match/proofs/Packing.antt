@@ -4,6 +4,7 @@ use Rattle.std.specs.Option.{option_map}
 use Rattle.std.proofs.lemmas.Bool.{cases_eq, cases_lt}
 use Rattle.std.proofs.lemmas.Option.{none-some, same_Some, slice_get-map, slice_get_read, slice_get_within}
 use Rattle.std.proofs.lemmas.List.{drop-set-lt, drop-set-add, take-set-le, length-append, length-drop, length-map, length-take, map-append}
+use Rattle.goal_graph.proofs.ForCallers.{same_tables}
 use Rattle.sim_match.specs.declared.capacities.Capacity.{Capacity}
 use Rattle.sim_match.specs.declared.capacities.Side.{Side}
 use Rattle.sim_match.specs.Capacities.{room_of, empty_list}
@@ -32,15 +33,10 @@ part_with_written_next {X} xs a n k y place b =
     ap (λ (j : ℕ). take (n + 1) (drop a (slice_set xs j y))) place ∙ ap (take (n + 1)) (drop-set-add a xs n y) ∙ ap (λ (m : ℕ). take m (slice_set (drop a xs) n y)) more ∙ take_through_written (drop a xs) n y (omega (arith, place, b, rest))
 
 -- two functions that agree on all but what is written
-map_agree : {X Y : Type 0} (f g : X → Y) (xs : List X) → ((k : ℕ) (t : X) → slice_get xs k ≡ Some t → g t ≡ f t) → map g xs ≡ map f xs
-map_agree f g [] agree = refl
-map_agree {X} {Y} f g (x ∷ xs) agree =
-    ap₂ (λ (y : Y) (ys : List Y). y ∷ ys) (agree 0 x refl) (map_agree f g xs (λ k t e. agree (suc k) t e))
-
 map_written : {X Y : Type 0} (f g : X → Y) (xs : List X) (l : ℕ) (z : X) → ((k : ℕ) (t : X) → slice_get xs k ≡ Some t → (k ≡ l → ⊥) → g t ≡ f t) → map g (slice_set xs l z) ≡ slice_set (map f xs) l (g z)
 map_written f g [] l z agree = refl
 map_written {X} {Y} f g (x ∷ xs) zero z agree =
-    ap (λ (ys : List Y). g z ∷ ys) (map_agree f g xs (λ k t e. agree (suc k) t e (λ n. omega (arith, n))))
+    ap (λ (ys : List Y). g z ∷ ys) (same_tables g f xs (λ k t e. agree (suc k) t e (λ n. omega (arith, n))))
 map_written {X} {Y} f g (x ∷ xs) (suc l) z agree =
     ap₂ (λ (y : Y) (ys : List Y). y ∷ ys) (agree 0 x refl (λ n. omega (arith, n))) (map_written f g xs l z (λ k t e n. agree (suc k) t e (λ same. n (omega (arith, same)))))
 

@@ -2,6 +2,7 @@
 use Rattle.std.proofs.Common.{ℕ, zero, suc, ◌<◌, ◌≤◌, ◌≡◌, ◌≢◌, ◌==◌, ◌&&◌, ◌||◌, Bool, true, false, not, cond, ◌⊎◌, inl, inr, List, [], ◌∷◌, ◌++◌, length, get_or, map, Option, Some, None, is_some, All, AllPairs, Contains, filter, find, replicate, slice_get, slice_set, refl, arith, sym, ap, ap₂, ◌∙◌, subst, eq-eqb}
 use Rattle.std.specs.Option.{option_map}
 use Rattle.std.specs.List.{list_any}
+use Rattle.std.proofs.Math.Bool.{and-false, or-false, or-true, or_comm}
 use Rattle.std.proofs.lemmas.Bool.{eqb-true, cases_Bool, cases_eq, cond-false, both_ways, and_parts, false_from_ne_true, ne_eqb}
 use Rattle.std.proofs.lemmas.Option.{none-some, same_Some, slice_get-map, slice_get_within}
 use Rattle.std.proofs.lemmas.List.{length-set, length-replicate}
@@ -28,7 +29,7 @@ use Rattle.sim_match.specs.declared.queues.Queue.{Queue}
 use Rattle.sim_match.specs.Queues.{class_of_side, come, taken_by, waits_as, AreInLine, AreQueued, AreLeft, AreQueues, AreToCome, is_waiting, waiting}
 use Rattle.sim_match.proofs.Ops.{ops_after_its_class, ops_after_other_class, ops_happened, oldest_found, action_suits, suited_receive, suited_send}
 use Rattle.sim_match.proofs.Pairs.{in_pair, paired_with_new_pair, pairs_with_new_pair}
-use Rattle.sim_match.proofs.Kept.{actions_of-post, actions_of-arrival}
+use Rattle.sim_match.proofs.Kept.{actions_of-post, actions_of-arrival, no_number}
 use Rattle.sim_match.proofs.Written.{slice_get_written, slice_get_elsewhere}
 use Rattle.sim_match.proofs.Lines.{last_of_line, line_of_one, line_with_new_last, line_after_outside_write}
 use Rattle.sim_match.proofs.Finding.{find_by_equal_tests, find_none, filter_last_fails, filter_last_passes}
@@ -96,22 +97,6 @@ same_number_swapped (Some m) (Some n) = go (cases_eq m n)
     go (inl same) = ap₂ (λ (i j : ℕ). i == j) same (sym same)
     go (inr n) = ne_eqb _ _ n ∙ sym (ne_eqb _ _ (λ e. n (sym e)))
 
-and_none : (s : Bool) → (s && false) ≡ false
-and_none true = refl
-and_none false = refl
-
-or_none : (s : Bool) → (s || false) ≡ s
-or_none true = refl
-or_none false = refl
-
-no_number : (o : Option ℕ) → same_number o None ≡ false
-no_number None = refl
-no_number (Some i) = refl
-
-or_true : (s : Bool) → (s || true) ≡ true
-or_true true = refl
-or_true false = refl
-
 module _ (plans : List Plan) (h : List Act) (are : ArePostsAndArrivals plans h) where
   -- what has happened suits its class
   pub ops_suit : (c : Class) → All (λ (z : OpId). has_class (kind_at plans z) c ≡ true) (ops_of c h)
@@ -152,7 +137,7 @@ module _ (plans : List Plan) (keys : List Pattern) (h : List Act) where
 
     pub side_waits_unchanged_in_other_list : (l : ℕ) → same_number (own_list plans keys x) (Some l) ≡ false → waiting plans keys (act c x ∷ h) c l ≡ waiting plans keys h c l
     side_waits_unchanged_in_other_list l n =
-        side_waits_with_new l ∙ filter_last_fails (is_waiting plans keys h l) (ops_of c h) x (ap (λ (b : Bool). not (is_paired (pairs plans h) x) && b) n ∙ and_none (not (is_paired (pairs plans h) x)))
+        side_waits_with_new l ∙ filter_last_fails (is_waiting plans keys h l) (ops_of c h) x (ap (λ (b : Bool). not (is_paired (pairs plans h) x) && b) n ∙ and-false (not (is_paired (pairs plans h) x)))
 
     pub side_waits_with_new_last : (l : ℕ) → is_paired (pairs plans h) x ≡ false → same_number (own_list plans keys x) (Some l) ≡ true → waiting plans keys (act c x ∷ h) c l ≡ waiting plans keys h c l ++ x ∷ []
     side_waits_with_new_last l free own =
@@ -166,11 +151,11 @@ module _ (plans : List Plan) (keys : List Pattern) (h : List Act) where
 
     waits_outside_pair : (l : ℕ) (z : OpId) → same_op x z ≡ false → same_op y z ≡ false → is_waiting plans keys (act c x ∷ h) l z ≡ is_waiting plans keys h l z
     waits_outside_pair l z m n =
-        waits_without_pair l z ∙ ap₂ (λ (s t : Bool). not (is_paired (pairs plans h) z || (s || t)) && same_number (own_list plans keys z) (Some l)) m n ∙ ap (λ (b : Bool). not b && same_number (own_list plans keys z) (Some l)) (or_none (is_paired (pairs plans h) z))
+        waits_without_pair l z ∙ ap₂ (λ (s t : Bool). not (is_paired (pairs plans h) z || (s || t)) && same_number (own_list plans keys z) (Some l)) m n ∙ ap (λ (b : Bool). not b && same_number (own_list plans keys z) (Some l)) (or-false (is_paired (pairs plans h) z))
 
     pair_no_longer_waits : (l : ℕ) (z : OpId) → (same_op x z || same_op y z) ≡ true → is_waiting plans keys (act c x ∷ h) l z ≡ false
     pair_no_longer_waits l z t =
-        waits_without_pair l z ∙ ap (λ (b : Bool). not (is_paired (pairs plans h) z || b) && same_number (own_list plans keys z) (Some l)) t ∙ ap (λ (b : Bool). not b && same_number (own_list plans keys z) (Some l)) (or_true (is_paired (pairs plans h) z))
+        waits_without_pair l z ∙ ap (λ (b : Bool). not (is_paired (pairs plans h) z || b) && same_number (own_list plans keys z) (Some l)) t ∙ ap (λ (b : Bool). not b && same_number (own_list plans keys z) (Some l)) (or-true (is_paired (pairs plans h) z))
 
     pub side_waits_unchanged_by_pair : (l : ℕ) → All (λ (z : OpId). same_op x z ≡ false) (ops_of c h) → All (λ (z : OpId). same_op y z ≡ false) (ops_of c h) → waiting plans keys (act c x ∷ h) c l ≡ waiting plans keys h c l
     side_waits_unchanged_by_pair l fresh differ =
@@ -189,11 +174,11 @@ module _ (plans : List Plan) (keys : List Pattern) (h : List Act) where
         ]
           where
             fails : (s t : Bool) → t ≡ false → (not s && t) ≡ false
-            fails s t e = ap (λ (b : Bool). not s && b) e ∙ and_none (not s)
+            fails s t e = ap (λ (b : Bool). not s && b) e ∙ and-false (not s)
 
     pub other_side_without_first : (l : ℕ) (rest : List OpId) → ArePostsAndArrivals plans h → All (λ (z : OpId). same_op x z ≡ false) (ops_of d h) → waiting plans keys h d l ≡ y ∷ rest → waiting plans keys (act c x ∷ h) d l ≡ rest
     other_side_without_first l rest are fresh is =
-        ap (filter (is_waiting plans keys (act c x ∷ h) l)) (ops_after_other_class d (act c x) h other) ∙ filter_without_first (is_waiting plans keys h l) (is_waiting plans keys (act c x ∷ h) l) y (pair_no_longer_waits l y (ap (λ (b : Bool). same_op x y || b) (same_op_itself y) ∙ or_true (same_op x y))) (ops_of d h) rest (λ k e b n. waits_outside_pair l _ (fresh k e b) n) (ops_differ plans h d are) is
+        ap (filter (is_waiting plans keys (act c x ∷ h) l)) (ops_after_other_class d (act c x) h other) ∙ filter_without_first (is_waiting plans keys h l) (is_waiting plans keys (act c x ∷ h) l) y (pair_no_longer_waits l y (ap (λ (b : Bool). same_op x y || b) (same_op_itself y) ∙ or-true (same_op x y))) (ops_of d h) rest (λ k e b n. waits_outside_pair l _ (fresh k e b) n) (ops_differ plans h d are) is
 
 abbrev pub other_side : Side → Side
 other_side Receives = Sends
@@ -246,19 +231,13 @@ abbrev pair_with : Side → OpId → OpId → Pair
 pair_with Receives x y = pair_of y x
 pair_with Sends x y = pair_of x y
 
-or_swapped : (s t : Bool) → (s || t) ≡ (t || s)
-or_swapped true true = refl
-or_swapped true false = refl
-or_swapped false true = refl
-or_swapped false false = refl
-
 in_pair_with : (s : Side) (x y z : OpId) → in_pair (pair_with s x y) z ≡ (same_op x z || same_op y z)
-in_pair_with Receives x y z = or_swapped (same_op y z) (same_op x z)
+in_pair_with Receives x y z = or_comm (same_op y z) (same_op x z)
 in_pair_with Sends x y z = refl
 
 only_first_number_matters : (o p : Option ℕ) → (same_number o p || (same_number o None || (same_number o None || (same_number o None || false)))) ≡ same_number o p
 only_first_number_matters None p = refl
-only_first_number_matters (Some i) p = or_none (same_number (Some i) p)
+only_first_number_matters (Some i) p = or-false (same_number (Some i) p)
 
 same_number_unique : (o : Option ℕ) (k l : ℕ) → same_number o (Some k) ≡ true → same_number o (Some l) ≡ true → k ≡ l
 same_number_unique None k l e f = absurd (both_ways false refl e)
@@ -306,7 +285,7 @@ module _ (plans : List Plan) (keys : List Pattern) (named : AreNamed keys) (list
     -- a send whose pattern the schedule doesn't have meets none
     pub meets_none : (m : OpId) → IsSend plans m → own_list plans keys m ≡ None → new_pair plans (pairs plans h) h Arrive m ≡ None
     meets_none m s none =
-        ap (option_map (λ (z : OpId). pair_of m z)) (oldest_found Post (λ (z : OpId). not (is_paired (pairs plans h) z)) (λ (z : OpId). fits plans z m) h ∙ find_none (λ (z : OpId). not (is_paired (pairs plans h) z) && fits plans z m) (ops_of Post h) (λ k d b. ap (λ (t : Bool). not (is_paired (pairs plans h) (get_or (ops_of Post h) k d)) && t) (fits_by_own_list (get_or (ops_of Post h) k d) m (suited_receive plans _ (ops_suit plans h are Post k d b)) s ∙ ap (same_number (own_list plans keys (get_or (ops_of Post h) k d))) none ∙ no_number _) ∙ and_none (not (is_paired (pairs plans h) (get_or (ops_of Post h) k d)))))
+        ap (option_map (λ (z : OpId). pair_of m z)) (oldest_found Post (λ (z : OpId). not (is_paired (pairs plans h) z)) (λ (z : OpId). fits plans z m) h ∙ find_none (λ (z : OpId). not (is_paired (pairs plans h) z) && fits plans z m) (ops_of Post h) (λ k d b. ap (λ (t : Bool). not (is_paired (pairs plans h) (get_or (ops_of Post h) k d)) && t) (fits_by_own_list (get_or (ops_of Post h) k d) m (suited_receive plans _ (ops_suit plans h are Post k d b)) s ∙ ap (same_number (own_list plans keys (get_or (ops_of Post h) k d))) none ∙ no_number _) ∙ and-false (not (is_paired (pairs plans h) (get_or (ops_of Post h) k d)))))
 
     -- what waits of a list is of it
     waiting_own_list : (c : Class) (l : ℕ) → All (λ (z : OpId). same_number (own_list plans keys z) (Some l) ≡ true) (waiting plans keys h c l)

@@ -1,6 +1,7 @@
 -- The arrivals that paired their send with no receive.
 use Rattle.std.proofs.Common.{◌≤◌, ◌≡◌, ◌==◌, ◌&&◌, ◌||◌, not, Bool, true, false, if◌then◌else◌, cond, List, [], ◌∷◌, ◌++◌, length, All, filter, find, Option, Some, None, is_none, refl, arith, sym, ap, ◌∙◌, subst, append-nil}
 use Rattle.std.specs.Option.{option_map}
+use Rattle.std.proofs.Math.Bool.{and_comm, or-true}
 use Rattle.std.proofs.lemmas.Bool.{both_ways}
 use Rattle.std.proofs.lemmas.Option.{none-some, same_Some}
 use Rattle.std.proofs.lemmas.List.{length-append, get_or_append_left, get_or_at}
@@ -36,16 +37,6 @@ all_left P xs ys all k d below =
 all_last : {X : Type 0} (P : X → Type 0) (xs : List X) (y : X) → All P (xs ++ y ∷ []) → P y
 all_last P xs y all =
     subst P (get_or_at xs y [] y (length xs) refl) (all (length xs) y (omega (arith, length-append xs (y ∷ []))))
-
-and_comm : (s t : Bool) → (s && t) ≡ (t && s)
-and_comm true true = refl
-and_comm true false = refl
-and_comm false true = refl
-and_comm false false = refl
-
-or_true : (b : Bool) → (b || true) ≡ true
-or_true true = refl
-or_true false = refl
 
 -- an arrival pairs its own send
 arrival_pairs_its_send : (plans : List Plan) (ps : List Pair) (h : List Act) (class : Class) (m : OpId) → (place class == place Arrive) ≡ true → (p : Pair) → new_pair plans ps h class m ≡ Some p → same_op p.send m ≡ true
@@ -89,7 +80,7 @@ module _ (plans : List Plan) where
         go : (o : Option Pair) → makes ≡ o → is_none o ≡ false → is_paired (pairs plans (a ∷ h)) a.op ≡ true
         go None e f = absurd (both_ways true f refl)
         go (Some p) e f =
-            ap (λ (ps : List Pair). is_paired ps a.op) (pairs_with_new_pair plans a h p e) ∙ paired_with_new_pair p (pairs plans h) a.op ∙ ap (λ (b : Bool). is_paired (pairs plans h) a.op || (b || same_op p.recv a.op)) (arrival_pairs_its_send plans (pairs plans h) h a.class a.op arrives p e) ∙ or_true (is_paired (pairs plans h) a.op)
+            ap (λ (ps : List Pair). is_paired ps a.op) (pairs_with_new_pair plans a h p e) ∙ paired_with_new_pair p (pairs plans h) a.op ∙ ap (λ (b : Bool). is_paired (pairs plans h) a.op || (b || same_op p.recv a.op)) (arrival_pairs_its_send plans (pairs plans h) h a.class a.op arrives p e) ∙ or-true (is_paired (pairs plans h) a.op)
 
   -- what is true of each arrival is true of each of these
   pub unmet_satisfy_what_arrivals_do : (P : MatchEntry → Type 0) (h : List Act) → All P (entries_of Arrive h) → All P (unmet_of plans h)

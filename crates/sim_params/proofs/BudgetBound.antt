@@ -12,11 +12,12 @@ use Rattle.goal_graph.specs.Schedule.{Plan, kind_at, operations, IsSend, IsRecei
 use Rattle.goal_graph.specs.Action.{happened, plain, plain_act}
 use Rattle.goal_graph.specs.Matching.{pairs, is_paired}
 use Rattle.goal_graph.specs.Allowed.{is_served, may, allowed}
-use Rattle.goal_graph.proofs.ForCallers.{happened_stays, happened_newest, allowed_may, allowed_fresh, allowed_serve, fits_send, partner_of_receive, partners_mutual, kind_listed, allowed_listed, sum_falls}
+use Rattle.goal_graph.proofs.ForCallers.{happened_stays, allowed_may, allowed_fresh, allowed_serve, fits_send, partner_of_receive, partners_mutual, kind_listed, allowed_listed, sum_falls}
 use Rattle.sim_params.specs.Costs.{CostModel, over, over_one, gap, gap_one, flight, latency, is_eager}
 use Rattle.sim_params.specs.Times.{at_partner, mate, cpu_hold, tx_hold, rx_hold, Possible}
 use Rattle.sim_params.specs.Budget.{message_share, request_share, share_of, share, budget}
 use Rattle.sim_params.specs.Laws.{hold, reach, part_of, part, payer, IsWithin}
+use Rattle.sim_params.proofs.Fixed.{newest_happened}
 use Rattle.sim_params.proofs.Grow.{mate_stays}
 use Rattle.sim_params.proofs.Interleavings.{EachPossible, each_possible_is_interleaving}
 use Rattle.sim_params.proofs.Reach.{lag, newest_within_reach, time_reach, within_reach, within_later}
@@ -67,10 +68,6 @@ module _ (plans : List Plan) (costs : CostModel) where
   happened_kept : (a : Timed) (h : List Timed) (c : Class) (x : OpId) → happened c x (plain h) ≡ true → happened c x (plain (a ∷ h)) ≡ true
   unfolding plain
   happened_kept a h c x e = happened_stays c x (plain_act a) (plain h) e
-
-  newest_has_happened : (a : Timed) (h : List Timed) → happened a.class a.op (plain (a ∷ h)) ≡ true
-  unfolding plain
-  newest_has_happened a h = happened_newest (plain_act a) (plain h)
 
   partner_stays_served : (a : Timed) (h : List Timed) (x : OpId) → partner_is_served h (mate plans costs h x) ≡ true → partner_is_served (a ∷ h) (mate plans costs (a ∷ h) x) ≡ true
   partner_stays_served a h x e = go (mate plans costs h x) refl e
@@ -152,7 +149,7 @@ module _ (plans : List Plan) (costs : CostModel) where
         record {
           payer = e;
           listed = allowed_listed plans (is_eager plans costs) (plain h) a.class a.op p.allowed;
-          pays = action_adds_own_part a h a.class a.op other fresh (newest_has_happened a h);
+          pays = action_adds_own_part a h a.class a.op other fresh (newest_happened plans costs a h a.class a.op refl refl);
         },
       )
 
@@ -166,7 +163,7 @@ module _ (plans : List Plan) (costs : CostModel) where
             record {
               payer = at Serve e ∙ s.1.sender;
               listed = kind_listed plans s.0 (Send s.1.send.bytes s.1.send.to s.1.send.tag) s.1.send.kind;
-              pays = subst (λ (c : Class). spent h s.0 + part plans costs c s.0 ≤ spent (a ∷ h) s.0) (sym e) (serve_adds_senders_part a h a.op s.0 s.1.back (subst (λ (c : Class). happened c a.op (plain h) ≡ false) e fresh) (subst (λ (c : Class). happened c a.op (plain (a ∷ h)) ≡ true) e (newest_has_happened a h)));
+              pays = subst (λ (c : Class). spent h s.0 + part plans costs c s.0 ≤ spent (a ∷ h) s.0) (sym e) (serve_adds_senders_part a h a.op s.0 s.1.back (subst (λ (c : Class). happened c a.op (plain h) ≡ false) e fresh) (subst (λ (c : Class). happened c a.op (plain (a ∷ h)) ≡ true) e (newest_happened plans costs a h a.class a.op refl refl)));
             },
           )
 

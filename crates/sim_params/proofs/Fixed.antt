@@ -28,7 +28,7 @@ module _ (plans : List Plan) (costs : CostModel) where
   pub paired_at_newest : (a : Timed) (h : List Timed) (x : OpId) → is_paired (pairs plans (plain h)) x ≡ false → is_paired (pairs plans (plain (a ∷ h))) x ≡ true → paired_at plans costs (a ∷ h) x ≡ a.time
   paired_at_newest a h x unpaired e = since_new (λ l. is_paired (pairs plans l) x) a h unpaired e
 
-  newest_happened : (a : Timed) (h : List Timed) (c : Class) (x : OpId) → a.class ≡ c → a.op ≡ x → happened c x (plain (a ∷ h)) ≡ true
+  pub newest_happened : (a : Timed) (h : List Timed) (c : Class) (x : OpId) → a.class ≡ c → a.op ≡ x → happened c x (plain (a ∷ h)) ≡ true
   unfolding plain
   newest_happened a h c x p q = happened_new c x (plain_act a) (plain h) (is_act_from c x (plain_act a) p q)
 

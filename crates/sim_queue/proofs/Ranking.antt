@@ -5,7 +5,7 @@ use Rattle.std.proofs.lemmas.List.{get_or-set_same, get_or-set_other, length-set
 use Rattle.std.proofs.lemmas.List.Elements.{All-get_or, All-from_get_or}
 use Rattle.std.proofs.lemmas.List.Sums.{sum_by-cons, sum-map, get_or-le-sum_by}
 use Rattle.std.specs.Option.{option_map}
-use Rattle.std.proofs.lemmas.Option.{slice_get-get_or, slice_get_within, get_or_from_slice_get, slice_get-map, same_Some}
+use Rattle.std.proofs.lemmas.Option.{slice_get-get_or, slice_get_within, get_or_from_slice_get, slice_get-map, same_Some, none-some}
 use Rattle.goal_graph.specs.declared.action.OpId.{OpId}
 use Rattle.goal_graph.specs.declared.plan.Op.{Op}
 use Rattle.goal_graph.specs.Schedule.{Plan, ops_at, places_of_rank, places_from, operations}
@@ -225,9 +225,6 @@ module _ {K : Type 0} where
       let at = get_or-map (λ (h : List (Option K)). length h) heaps rank [] 0 l in
       omega (arith, at, All-get_or (λ size. size ≤ most) (map (λ (h : List (Option K)). length h) heaps) rank 0 (rw (length-map heaps (λ (h : List (Option K)). length h)) l) all)
 
-  none_is_not_some_key : (k : K) → None ≡ Some k → ⊥
-  none_is_not_some_key k e = absurd (cc)
-
   module _ (before : K → K → Bool) (homes : List PlaceInGroup) (starts : List ℕ) (heaps : List (List (Option K))) (heads : List (Option K)) (is : IsRanked before homes starts heaps heads) where
     -- the key of one slot is changed, and the head of its rank updated
     module _ (slot : ℕ) (home : PlaceInGroup) (at : slice_get homes slot ≡ Some home) (value : Option K) (heap new : List (Option K)) (is_heap : heap ≡ heap_at heaps home.group) (is_new : new ≡ set heap home.place value) where
@@ -283,7 +280,7 @@ module _ {K : Type 0} where
       where
         told : (home : PlaceInGroup) → slice_get homes slot ≡ Some home → (head : Option K) → key_at heads home.group ≡ head → IsHeadOf before (heap_at heaps home.group) head → HasHead k
         told home at None f empty =
-            absurd (none_is_not_some_key k (sym (empty home.place) ∙ sym (key_at_home homes heaps is.housed slot home at) ∙ e))
+            absurd (none-some k (sym (empty home.place) ∙ sym (key_at_home homes heaps is.housed slot home at) ∙ e))
         told home at (Some head) f least =
             let there = sym (key_at_home homes heaps is.housed slot home at) ∙ e in
             record { rank = home.group; place = home.place; head = head; at = there; head_is = f; least = least.1.least home.place k there }
@@ -295,14 +292,14 @@ module _ {K : Type 0} where
             told home at (key_at heads home.group) refl (is.headed home.group (is.housed.group_in slot home at))
         go (inr l) =
             let past : key_at (ranked homes heaps).keys slot ≡ None = get_or_past (ranked homes heaps).keys slot None (omega (arith, l, length-map homes (key_of_home heaps))) in
-            absurd (none_is_not_some_key k (sym past ∙ e))
+            absurd (none-some k (sym past ∙ e))
 
     pub empty_ranked : IsEmptyMap heads → IsEmptyMap (ranked homes heaps).keys
     empty_ranked none slot = go (key_at (ranked homes heaps).keys slot) refl
       where
         go : (o : Option K) → key_at (ranked homes heaps).keys slot ≡ o → o ≡ None
         go None e = refl
-        go (Some k) e = let h = has_head slot k e in absurd (none_is_not_some_key h.head (sym (none h.rank) ∙ h.head_is))
+        go (Some k) e = let h = has_head slot k e in absurd (none-some h.head (sym (none h.rank) ∙ h.head_is))
 
     module _ (laws : IsOrder before) (rank : ℕ) (head : K) (least : IsLeast before heads rank head) where
       pub top_rank_within : rank < length heaps
@@ -310,7 +307,7 @@ module _ {K : Type 0} where
         where
           go : (rank < length heads) ⊎ (length heads ≤ rank) → rank < length heaps
           go (inl l) = omega (arith, l, is.each)
-          go (inr l) = absurd (none_is_not_some_key head (sym (get_or_past heads rank None l) ∙ least.has))
+          go (inr l) = absurd (none-some head (sym (get_or_past heads rank None l) ∙ least.has))
 
       heap_top_of_rank : (place : ℕ) × IsLeast before (heap_at heaps rank) place head
       heap_top_of_rank = subst (IsHeadOf before (heap_at heaps rank)) least.has (is.headed rank top_rank_within)
@@ -334,4 +331,4 @@ module _ {K : Type 0} where
             })
 
         pub not_empty_ranked : IsEmptyMap (ranked homes heaps).keys → ⊥
-        not_empty_ranked empty = none_is_not_some_key key (sym (empty (slice_index starts rank + place)) ∙ least_of_all.has)
+        not_empty_ranked empty = none-some key (sym (empty (slice_index starts rank + place)) ∙ least_of_all.has)

@@ -2,11 +2,11 @@
 use Rattle.std.proofs.Common.{ℕ, zero, suc, ◌<◌, ◌≤◌, ◌≡◌, ◌≢◌, inl, inr, max, true, false, List, [], ◌∷◌, Contains, length, replicate, map, Some, slice_get, slice_set, get_or, refl, ap, sym, ◌∙◌, arith, if◌then◌else◌}
 use Rattle.std.proofs.lemmas.Bool.{both_ways, cases_Bool}
 use Rattle.std.proofs.lemmas.List.{get_or-set_same, get_or-set_other, get_or-replicate}
-use Rattle.std.proofs.lemmas.Option.{slice_get-get_or}
+use Rattle.std.proofs.lemmas.Option.{slice_get-get_or, slice_get_within, get_or_from_slice_get}
 use Rattle.goal_graph.specs.declared.action.OpId.{OpId}
 use Rattle.goal_graph.specs.declared.plan.Op.{Op}
 use Rattle.goal_graph.specs.Schedule.{Plan}
-use Rattle.goal_graph.proofs.ForCallers.{contains_first, contains_more}
+use Rattle.goal_graph.proofs.ForCallers.{contains_first, contains_more, same_tables}
 use Rattle.sim_resources.specs.FreeTimes.{Hold, shares, free_at, hold}
 use Rattle.sim_resources.specs.Held.{IsPlaced, held}
 use Rattle.sim_resources.proofs.Shares.{shares_symmetric, shares_transitive}
@@ -14,16 +14,11 @@ use Rattle.sim_resources.proofs.Shares.{shares_symmetric, shares_transitive}
 abbrev pub raised : List ℕ → ℕ → ℕ → ℕ → List ℕ
 raised times s t until = slice_set times s (max t until)
 
--- two functions that agree on the elements of a list map it to the same list
-maps_agree_on_elements : {X Y : Type 0} (f g : X → Y) (xs : List X) → ((x : X) → Contains xs x → f x ≡ g x) → map f xs ≡ map g xs
-maps_agree_on_elements f g [] same = refl
-maps_agree_on_elements f g (x ∷ xs) same = λ i. same x (contains_first x xs x refl) i ∷ maps_agree_on_elements f g xs (λ y c. same y (contains_more x xs y c)) i
-
 -- a later time of another number changes no time
 pub other_number_keeps_held : (users : List OpId) (number : OpId → ℕ) (times : List ℕ) (n t : ℕ) → ((x : OpId) → Contains users x → number x ≢ n) → held users number (slice_set times n t) ≡ held users number times
 other_number_keeps_held users number times n t other =
-    maps_agree_on_elements (λ (x : OpId). hold x (get_or (slice_set times n t) (number x) 0)) (λ (x : OpId). hold x (get_or times (number x) 0)) users
-    (λ x c. ap (hold x) (get_or-set_other times n (number x) t 0 (other x c)))
+    same_tables (λ (x : OpId). hold x (get_or (slice_set times n t) (number x) 0)) (λ (x : OpId). hold x (get_or times (number x) 0)) users
+    (λ i x e. ap (hold x) (get_or-set_other times n (number x) t 0 (other x (i, slice_get_within users i x e, get_or_from_slice_get users i x x e))))
 
 module _ (place : Op → ℕ) (plans : List Plan) where
   pub free_at-empty : (x : OpId) → free_at place plans [] x ≡ 0

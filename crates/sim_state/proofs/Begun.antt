@@ -1,10 +1,10 @@
 -- The begin of a calc or a send: that its times fit, what it makes known, and when what it uses is free then.
-use Rattle.std.proofs.Common.{◌≡◌, ℕ, ◌+◌, ◌<◌, ◌^◌, true, false, List, ◌∷◌, map, Some, None, inl, inr, refl, sym, ap, ◌∙◌, subst, arith}
+use Rattle.std.proofs.Common.{◌≡◌, ℕ, ◌+◌, ◌<◌, ◌^◌, true, false, List, ◌∷◌, Some, None, inl, inr, refl, sym, ap, ◌∙◌, subst, arith}
 use Rattle.goal_graph.specs.declared.action.Timed.{Timed}
 use Rattle.goal_graph.specs.declared.action.Class.{Class}
 use Rattle.goal_graph.specs.declared.action.Class.TheVariants.{Begin}
 use Rattle.goal_graph.specs.declared.plan.Kind.TheVariants.{Calc}
-use Rattle.goal_graph.specs.Schedule.{Plan, kind_at, operations, IsSend}
+use Rattle.goal_graph.specs.Schedule.{Plan, kind_at, IsSend}
 use Rattle.goal_graph.specs.Action.{plain, holds_cpu}
 use Rattle.goal_graph.specs.Allowed.{allowed}
 use Rattle.goal_graph.specs.Laws.{IsCalc}
@@ -19,8 +19,8 @@ use Rattle.sim_state.specs.declared.entry.Times.{Times}
 use Rattle.sim_state.specs.declared.task.Task.TheVariants as task
 use Rattle.sim_state.specs.declared.work.Work.{Work}
 use Rattle.sim_state.specs.Tasks.{work_of, task_of}
-use Rattle.sim_state.specs.Tables.{with_times}
-use Rattle.sim_state.specs.Represents.{AreFreeTimes, entry_known, entry_then, times_known}
+use Rattle.sim_state.specs.Represents.{AreFreeTimes, entry_known}
+use Rattle.sim_state.proofs.Changed.{before, Known}
 use Rattle.sim_state.proofs.Entries.{calc_begun, eager_begun, request_begun}
 use Rattle.sim_state.proofs.Fits.{cpu_fits, tx_fits, flight_of_eager, flight_of_request}
 use Rattle.sim_state.proofs.FreeTimes.{free_calc, free_send}
@@ -29,14 +29,6 @@ use Rattle.sim_state.proofs.Places.{possible_exists}
 use Rattle.sim_state.proofs.Tasks.{calc_of, send_of, receive_of, eager_of, rendezvous_of, calc_takes, is_message}
 
 module _ (plans : List Plan) (costs : CostModel) (h : List Timed) (a : Timed) (run : IsRun plans costs h) (within : budget plans costs < 2 ^ 63) (p : Possible plans costs h a) (begins : a.class ≡ Begin) (w : Work) (does : w ≡ work_of plans costs a.op) where
-  -- written, these times make known what is known after the action
-  abbrev Known : Times → Type 0
-  Known t =
-      map (with_times a.op t (entry_known plans costs h)) (operations plans) ≡ map (entry_then plans costs h a) (operations plans)
-
-  abbrev before : Times
-  before = times_known plans costs h a.op
-
   task_is : w.task ≡ task_of plans costs a.op
   task_is = ap (λ (w : Work). w.task) does
 
@@ -54,9 +46,9 @@ module _ (plans : List Plan) (costs : CostModel) (h : List Timed) (a : Timed) (r
     pub calc_fits : a.time + w.amount < 2 ^ 63
     calc_fits = omega (arith, cpu_fits plans costs h a run p, until, within)
 
-    pub calc_known : (t : Times) → t ≡ record before { start = Some a.time; end = Some (a.time + w.amount); awaited = None } → Known t
+    pub calc_known : (t : Times) → t ≡ record (before plans costs h a) { start = Some a.time; end = Some (a.time + w.amount); awaited = None } → Known plans costs h a t
     calc_known t e =
-        subst Known (sym e) (calc_begun plans costs h a run p (entry_known plans costs h a.op) refl (a.time + w.amount) until begins calc)
+        subst (Known plans costs h a) (sym e) (calc_begun plans costs h a run p (entry_known plans costs h a.op) refl (a.time + w.amount) until begins calc)
 
     pub calc_free : (r s : Holds) → AreFreeTimes plans costs h r → SameFreeTimes s (hold_cpu r a.op (a.time + w.amount)) → AreFreeTimes plans costs (a ∷ h) s
     calc_free r s free after =
@@ -87,9 +79,9 @@ module _ (plans : List Plan) (costs : CostModel) (h : List Timed) (a : Timed) (r
     pub eager_flight : a.time + flight plans costs a.op < 2 ^ 63
     eager_flight = omega (arith, flight_of_eager plans costs h a run p begins eager_send eager, within)
 
-    pub eager_known : (until arrive : ℕ) → until ≡ a.time + over plans costs a.op → arrive ≡ a.time + flight plans costs a.op → (t : Times) → t ≡ record before { start = Some a.time; end = Some until; awaited = Some arrive } → Known t
+    pub eager_known : (until arrive : ℕ) → until ≡ a.time + over plans costs a.op → arrive ≡ a.time + flight plans costs a.op → (t : Times) → t ≡ record (before plans costs h a) { start = Some a.time; end = Some until; awaited = Some arrive } → Known plans costs h a t
     eager_known until arrive ends arrives t e =
-        subst Known (sym e) (eager_begun plans costs h a run p (entry_known plans costs h a.op) refl until (until_of until ends) arrive begins eager_send eager arrives)
+        subst (Known plans costs h a) (sym e) (eager_begun plans costs h a run p (entry_known plans costs h a.op) refl until (until_of until ends) arrive begins eager_send eager arrives)
 
     pub eager_free : (r s : Holds) (until : ℕ) → until ≡ a.time + over plans costs a.op → AreFreeTimes plans costs h r → SameFreeTimes s (hold_tx (hold_cpu r a.op until) a.op (a.time + gap plans costs a.op)) → AreFreeTimes plans costs (a ∷ h) s
     eager_free r s until ends free after =
@@ -120,9 +112,9 @@ module _ (plans : List Plan) (costs : CostModel) (h : List Timed) (a : Timed) (r
     pub request_flight : a.time + flight_one plans costs a.op < 2 ^ 63
     request_flight = omega (arith, flight_of_request plans costs h a run p begins large_send large, within)
 
-    pub request_known : (arrive : ℕ) → arrive ≡ a.time + flight_one plans costs a.op → (t : Times) → t ≡ record before { start = Some a.time; awaited = Some arrive } → Known t
+    pub request_known : (arrive : ℕ) → arrive ≡ a.time + flight_one plans costs a.op → (t : Times) → t ≡ record (before plans costs h a) { start = Some a.time; awaited = Some arrive } → Known plans costs h a t
     request_known arrive arrives t e =
-        subst Known (sym e) (request_begun plans costs h a run p (entry_known plans costs h a.op) refl arrive begins large_send large arrives)
+        subst (Known plans costs h a) (sym e) (request_begun plans costs h a run p (entry_known plans costs h a.op) refl arrive begins large_send large arrives)
 
     pub request_free : (r s : Holds) → AreFreeTimes plans costs h r → SameFreeTimes s (hold_tx (hold_cpu r a.op (a.time + over_one plans costs a.op)) a.op (a.time + gap_one plans costs a.op)) → AreFreeTimes plans costs (a ∷ h) s
     request_free r s free after =

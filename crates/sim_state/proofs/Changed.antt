@@ -30,19 +30,22 @@ use Rattle.sim_state.proofs.Pairings.{served_mate}
 use Rattle.sim_state.proofs.PostsAndArrivals.{post_known, arrival_known, possible_not_happened_in_matcher}
 use Rattle.sim_state.proofs.Tasks.{is_message}
 
-module _ (plans : List Plan) (costs : CostModel) (h : List Timed) (a : Timed) (run : IsRun plans costs h) (within : budget plans costs < 2 ^ 63) (p : Possible plans costs h a) where
-  abbrev before : Times
+module _ (plans : List Plan) (costs : CostModel) (h : List Timed) (a : Timed) where
+  -- the times of the action's operation before it
+  abbrev pub before : Times
   before = times_known plans costs h a.op
 
+  -- written, these times make known what is known after the action
+  abbrev pub Known : Times → Type 0
+  Known t =
+      map (with_times a.op t (entry_known plans costs h)) (operations plans) ≡ map (entry_then plans costs h a) (operations plans)
+
+module _ (plans : List Plan) (costs : CostModel) (h : List Timed) (a : Timed) (run : IsRun plans costs h) (within : budget plans costs < 2 ^ 63) (p : Possible plans costs h a) where
   pub at_fits : a.time < 2 ^ 63
   at_fits = omega (arith, cpu_fits plans costs h a run p, within)
 
   -- a change of times
-  abbrev Known : Times → Type 0
-  Known t =
-      map (with_times a.op t (entry_known plans costs h)) (operations plans) ≡ map (entry_then plans costs h a) (operations plans)
-
-  pub times_changed : (c : Change) (t : Times) → c ≡ record { times = t; partner = None } → Known t → IsChange plans costs h a c
+  pub times_changed : (c : Change) (t : Times) → c ≡ record { times = t; partner = None } → Known plans costs h a t → IsChange plans costs h a c
   times_changed c t e known =
       subst (IsChange plans costs h a) (sym e) (record { exists = tt; known = known })
 
@@ -55,7 +58,7 @@ module _ (plans : List Plan) (costs : CostModel) (h : List Timed) (a : Timed) (r
     pub post_fresh : happened Post a.op m.actions ≡ false
     post_fresh = possible_not_happened_in_matcher plans costs h a m knows Post p is refl
 
-    pub post_changes : (t : Times) (partner : Option OpId) → t ≡ record before { start = Some a.time; awaited = None } → partner ≡ send_for m.plans m.actions a.op → IsChange plans costs h a (record { times = t; partner = partner })
+    pub post_changes : (t : Times) (partner : Option OpId) → t ≡ record (before plans costs h a) { start = Some a.time; awaited = None } → partner ≡ send_for m.plans m.actions a.op → IsChange plans costs h a (record { times = t; partner = partner })
     post_changes t partner e told =
         let taken : partner ≡ send_for plans (filter is_post_or_arrival (plain h)) a.op = told ∙ (λ i. send_for (knows.same_plans i) (knows.events i) a.op) in
         subst (λ (t : Times). IsChange plans costs h a (record { times = t; partner = partner })) (sym e) (record {
@@ -79,7 +82,7 @@ module _ (plans : List Plan) (costs : CostModel) (h : List Timed) (a : Timed) (r
     pub arrival_fresh : happened Arrive a.op m.actions ≡ false
     arrival_fresh = possible_not_happened_in_matcher plans costs h a m knows Arrive p is refl
 
-    pub arrival_changes : (t : Times) (partner : Option OpId) → t ≡ record before { awaited = None } → partner ≡ receive_for m.plans m.actions a.op → IsChange plans costs h a (record { times = t; partner = partner })
+    pub arrival_changes : (t : Times) (partner : Option OpId) → t ≡ record (before plans costs h a) { awaited = None } → partner ≡ receive_for m.plans m.actions a.op → IsChange plans costs h a (record { times = t; partner = partner })
     arrival_changes t partner e told =
         let taken : partner ≡ receive_for plans (filter is_post_or_arrival (plain h)) a.op = told ∙ (λ i. receive_for (knows.same_plans i) (knows.events i) a.op) in
         subst (λ (t : Times). IsChange plans costs h a (record { times = t; partner = partner })) (sym e) (record {
@@ -115,9 +118,9 @@ module _ (plans : List Plan) (costs : CostModel) (h : List Timed) (a : Timed) (r
     pub data_flight : a.time + flight plans costs a.op < 2 ^ 63
     data_flight = omega (arith, bytes_fit plans costs h a run p is, within)
 
-    pub data_known : (until there : ℕ) → until ≡ a.time + over plans costs a.op → there ≡ a.time + flight plans costs a.op → (t : Times) → t ≡ record before { end = Some until; awaited = Some there } → Known t
+    pub data_known : (until there : ℕ) → until ≡ a.time + over plans costs a.op → there ≡ a.time + flight plans costs a.op → (t : Times) → t ≡ record (before plans costs h a) { end = Some until; awaited = Some there } → Known plans costs h a t
     data_known until there ends arrives t e =
-        subst Known (sym e) (data_sent plans costs h a run p (entry_known plans costs h a.op) refl until (data_until until ends) there is send (sends plans costs h a run p is).1 arrives)
+        subst (Known plans costs h a) (sym e) (data_sent plans costs h a run p (entry_known plans costs h a.op) refl until (data_until until ends) there is send (sends plans costs h a run p is).1 arrives)
 
     pub data_free : (r s : Holds) (until : ℕ) → until ≡ a.time + over plans costs a.op → AreFreeTimes plans costs h r → SameFreeTimes s (hold_tx (hold_cpu r a.op until) a.op (a.time + gap plans costs a.op)) → AreFreeTimes plans costs (a ∷ h) s
     data_free r s until ends free after =
@@ -160,9 +163,9 @@ module _ (plans : List Plan) (costs : CostModel) (h : List Timed) (a : Timed) (r
       serve_gap =
           omega (arith, rx_fits plans costs h a run p, rx_of_serve plans costs h a.class a.op receive m partner is, within)
 
-      pub serve_known : (until : ℕ) → until ≡ a.time + over plans costs m → (t : Times) → t ≡ record before { end = Some until } → Known t
+      pub serve_known : (until : ℕ) → until ≡ a.time + over plans costs m → (t : Times) → t ≡ record (before plans costs h a) { end = Some until } → Known plans costs h a t
       serve_known until ends t e =
-          subst Known (sym e) (message_taken plans costs h a run p (entry_known plans costs h a.op) refl until (serve_until until ends) is receive)
+          subst (Known plans costs h a) (sym e) (message_taken plans costs h a run p (entry_known plans costs h a.op) refl until (serve_until until ends) is receive)
 
       pub serve_free : (q s : Holds) (until : ℕ) → until ≡ a.time + over plans costs m → AreFreeTimes plans costs h q → SameFreeTimes s (hold_rx (hold_cpu q a.op until) a.op (a.time + gap plans costs m)) → AreFreeTimes plans costs (a ∷ h) s
       serve_free q s until ends free after =

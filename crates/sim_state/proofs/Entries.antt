@@ -26,6 +26,7 @@ use Rattle.sim_state.specs.Tables.{with_entry, with_pairing, with_partner}
 use Rattle.sim_state.specs.Represents.{times_known, link_known, entry_known, entry_then}
 use Rattle.sim_state.specs.Awaited.{unmet, awaited_known, delivered_known, paired_since}
 use Rattle.sim_state.proofs.After.{not_happened_yet, newest_is_not_act_of_other_op, newest_is_not_act_of_other_class, happened_kept_by_other_action, start_kept_by_other_action, start_known_after_first_action, end_kept_by_other_action, end_known_after_last_action, arrival_kept_by_other_action, arriving_calc, arriving_receive, arriving_begun, arrived_has_no_arrive_time, awaited_paired, awaited_kept_by_other_action, awaited_started, none_unmet, unpaired_has_no_pairing_time, started_then, first_action_starts_op, started_stays_started, delivered_kept_by_other_action, delivered_known_after_data, unstarted_unpaired}
+use Rattle.sim_state.proofs.GivenEntries.{awaited_then}
 use Rattle.sim_state.proofs.GivenMoments.{started_was_ready}
 use Rattle.sim_state.proofs.Handed.{arriving_none, or_none, paired_arrived, unarrived_unhanded, undelivered, unstarted_unhanded}
 use Rattle.sim_state.proofs.Started.{arrive_started, data_started, serve_started}
@@ -71,14 +72,9 @@ module _ (plans : List Plan) (costs : CostModel) (h : List Timed) (a : Timed) (r
   abbrev pub next : OpId → OpState
   next = entry_then plans costs h a
 
-  -- what is awaited by one that another action was of
-  abbrev awaited_then : OpId → Option ℕ
-  awaited_then x =
-      if has_started plans x (plain h) then awaited_known plans costs (a ∷ h) x else awaited_known plans costs h x
-
   abbrev waiting : OpId → OpState
   waiting x =
-      record (after x) { times = record (times_known plans costs (a ∷ h) x) { awaited = awaited_then x } }
+      record (after x) { times = record (times_known plans costs (a ∷ h) x) { awaited = awaited_then plans costs h a x } }
 
   pub own_entry_after_action : next a.op ≡ after a.op
   own_entry_after_action = with_entry_same a.op (after a.op) waiting a.op refl
@@ -87,7 +83,7 @@ module _ (plans : List Plan) (costs : CostModel) (h : List Timed) (a : Timed) (r
   other_entry_after_action x d = with_entry_other a.op (after a.op) waiting x (same_op_swapped a.op x d)
 
   -- what one awaits that has the partner that it had, and that another action was of
-  other_awaited : (x : OpId) → mate plans costs (a ∷ h) x ≡ mate plans costs h x → same_op a.op x ≡ false → awaited_then x ≡ awaited_known plans costs h x
+  other_awaited : (x : OpId) → mate plans costs (a ∷ h) x ≡ mate plans costs h x → same_op a.op x ≡ false → awaited_then plans costs h a x ≡ awaited_known plans costs h x
   other_awaited x m d =
       elim (cases_Bool (has_started plans x (plain h))) [ inl t ↦ cond-true _ _ _ t ∙ awaited_kept_by_other_action plans costs h a x m (newest_is_not_act_of_other_op plans costs h a Arrive x d) (newest_is_not_act_of_other_op plans costs h a Begin x d) (newest_is_not_act_of_other_op plans costs h a Data x d) t | inr f ↦ cond-false _ _ _ f ]
 
@@ -252,7 +248,7 @@ module _ (plans : List Plan) (costs : CostModel) (h : List Timed) (a : Timed) (r
     BecomePaired m n = map (with_pairing m a.op a.time (with_pairing a.op m a.time (with_entry a.op n before))) (operations plans) ≡ map next (operations plans)
 
     -- it had started before, and is paired since the action
-    partner_awaited : (m : OpId) → (place a.class == 2) ≡ false → same_op a.op m ≡ false → mate plans costs h m ≡ None → mate plans costs (a ∷ h) m ≡ Some a.op → awaited_then m ≡ Some a.time
+    partner_awaited : (m : OpId) → (place a.class == 2) ≡ false → same_op a.op m ≡ false → mate plans costs h m ≡ None → mate plans costs (a ∷ h) m ≡ Some a.op → awaited_then plans costs h a m ≡ Some a.time
     partner_awaited m f d free taken =
         let before = sym (happened_kept_by_other_action plans costs h a (first_class (kind_at plans m)) m (newest_is_not_act_of_other_op plans costs h a (first_class (kind_at plans m)) m d)) ∙ started_then plans costs h a run possible m a.op taken in
         cond-true _ _ _ before ∙ awaited_paired plans costs h a run possible m a.op taken f free

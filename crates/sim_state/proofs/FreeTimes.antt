@@ -36,7 +36,7 @@ max_without_held_time false c m n e = omega arith
 
 module _ (plans : List Plan) (costs : CostModel) (h : List Timed) (a : Timed) where
   -- an action that holds nothing of a kind leaves it free when it was
-  cpu_kept_if_not_held : holds_cpu a.class ≡ false → (x : OpId) → cpu plans costs h x ≡ cpu plans costs (a ∷ h) x
+  pub cpu_kept_if_not_held : holds_cpu a.class ≡ false → (x : OpId) → cpu plans costs h x ≡ cpu plans costs (a ∷ h) x
   unfolding cpu
   cpu_kept_if_not_held e x = max_without_held_time (holds_cpu a.class) _ _ _ e
 

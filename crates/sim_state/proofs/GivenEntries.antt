@@ -64,7 +64,7 @@ module _ (plans : List Plan) (costs : CostModel) (h : List Timed) (a : Timed) wh
       given_entry (given_last done y) (unmet_left rest y) (entry_then plans costs h a y)
 
   -- what another operation awaits, before it is given its moments: what is known since, where it had started, and else what it did
-  abbrev awaited_then : OpId → Option ℕ
+  abbrev pub awaited_then : OpId → Option ℕ
   awaited_then x = if has_started plans x (plain h) then awaited_known plans costs (a ∷ h) x else awaited_known plans costs h x
 
   -- what is known of x since, except for what it awaits and how many moments it waits for

@@ -25,6 +25,20 @@ use Rattle.sim_state.proofs.After.{newest_is_not_act_of_other_op, happened_kept_
 pub gives_none : (c : Class) (w : When) → c ≡ Arrive → gives c w ≡ false
 gives_none c w e = ap (λ (d : Class). gives d w) e
 
+-- the first action of an operation gives its start, the last its end
+pub first_gives : (k : Option Kind) → gives (first_class k) AfterStart ≡ true
+first_gives None = refl
+first_gives (Some (Calc nanos)) = refl
+first_gives (Some (Send bytes to tag)) = refl
+first_gives (Some (Recv room from tag)) = refl
+
+pub last_gives : (eager : Bool) (k : Option Kind) → gives (last_class eager k) AfterEnd ≡ true
+last_gives eager None = refl
+last_gives eager (Some (Calc nanos)) = refl
+last_gives true (Some (Send bytes to tag)) = refl
+last_gives false (Some (Send bytes to tag)) = refl
+last_gives eager (Some (Recv room from tag)) = refl
+
 module _ (plans : List Plan) (costs : CostModel) (h : List Timed) (a : Timed) where
   -- whether the moment of x is there before the action, and after it
   abbrev pub was_there : When → OpId → Bool
@@ -54,26 +68,6 @@ module _ (plans : List Plan) (costs : CostModel) (h : List Timed) (a : Timed) wh
   same_moment run AfterEnd x e = end_kept plans costs a h x (run_is_each_possible plans costs h run) e
   same_moment run AfterStart x e = start_kept plans costs a h x e
 
-  -- the first action of an operation gives its start, the last its end
-  first_gives : (x : OpId) → gives (first_class (kind_at plans x)) AfterStart ≡ true
-  first_gives x = go (kind_at plans x)
-    where
-      go : (k : Option Kind) → gives (first_class k) AfterStart ≡ true
-      go None = refl
-      go (Some (Calc nanos)) = refl
-      go (Some (Send bytes to tag)) = refl
-      go (Some (Recv room from tag)) = refl
-
-  last_gives : (x : OpId) → gives (last_class (is_eager plans costs x) (kind_at plans x)) AfterEnd ≡ true
-  last_gives x = go (is_eager plans costs x) (kind_at plans x)
-    where
-      go : (b : Bool) (k : Option Kind) → gives (last_class b k) AfterEnd ≡ true
-      go b None = refl
-      go b (Some (Calc nanos)) = refl
-      go true (Some (Send bytes to tag)) = refl
-      go false (Some (Send bytes to tag)) = refl
-      go b (Some (Recv room from tag)) = refl
-
   happened_before_or_by_newest : (c : Class) (x : OpId) → happened c x (plain (a ∷ h)) ≡ true → (happened c x (plain h) ≡ true) ⊎ (is_act c x (plain_act a) ≡ true)
   unfolding plain
   happened_before_or_by_newest c x e = happened_cases c x (plain_act a) (plain h) e
@@ -81,9 +75,9 @@ module _ (plans : List Plan) (costs : CostModel) (h : List Timed) (a : Timed) wh
   -- a moment of its own that is new is given
   new_is_given : (w : When) → there_now w a.op ≡ true → was_there w a.op ≡ false → gives a.class w ≡ true
   new_is_given AfterEnd t f =
-      elim (happened_before_or_by_newest (class_of AfterEnd a.op) a.op t) [ inl before ↦ absurd (both_ways _ f before) | inr act ↦ ap (λ (c : Class). gives c AfterEnd) (is_act_class (class_of AfterEnd a.op) a.op (plain_act a) act) ∙ last_gives a.op ]
+      elim (happened_before_or_by_newest (class_of AfterEnd a.op) a.op t) [ inl before ↦ absurd (both_ways _ f before) | inr act ↦ ap (λ (c : Class). gives c AfterEnd) (is_act_class (class_of AfterEnd a.op) a.op (plain_act a) act) ∙ last_gives (is_eager plans costs a.op) (kind_at plans a.op) ]
   new_is_given AfterStart t f =
-      elim (happened_before_or_by_newest (class_of AfterStart a.op) a.op t) [ inl before ↦ absurd (both_ways _ f before) | inr act ↦ ap (λ (c : Class). gives c AfterStart) (is_act_class (class_of AfterStart a.op) a.op (plain_act a) act) ∙ first_gives a.op ]
+      elim (happened_before_or_by_newest (class_of AfterStart a.op) a.op t) [ inl before ↦ absurd (both_ways _ f before) | inr act ↦ ap (λ (c : Class). gives c AfterStart) (is_act_class (class_of AfterStart a.op) a.op (plain_act a) act) ∙ first_gives (kind_at plans a.op) ]
 
   unmet_now_was_unmet_before : (w : When) (x : OpId) → there_now w x ≡ false → was_there w x ≡ false
   unfolding plain

@@ -4,7 +4,7 @@ use Rattle.std.specs.Option.{option_map}
 use Rattle.std.proofs.Math.Nat.{mul-le-mul_right}
 use Rattle.std.proofs.lemmas.Bool.{cases_eq, cases_lt}
 use Rattle.std.proofs.lemmas.List.{get_or_past, get_or-set_same, get_or-set_other, length-set}
-use Rattle.std.proofs.lemmas.Option.{same_Some}
+use Rattle.std.proofs.lemmas.Option.{same_Some, none-some}
 use Rattle.goal_graph.specs.declared.action.Timed.{Timed}
 use Rattle.sim_order.specs.Events.{event_before}
 use Rattle.sim_queue.specs.Map.{key_at, IsSoleLeast}
@@ -16,7 +16,7 @@ use Rattle.sim_stations.specs.declared.key_place.KeyPlace.TheVariants.{Nowhere, 
 use Rattle.sim_stations.specs.Stations.{Stationed, holds_cpu, at_time, both_free, when_free, pair_at, held, IsLater, count_ahead, cost_of_waiting}
 use Rattle.sim_stations.specs.Rows.{Rowed, IsHead}
 use Rattle.sim_stations.specs.Kept.{seen_keys, seen_of, stand_of, has_key, is_waiting, AreShown, IsKept, IsFound, IsDeparted}
-use Rattle.sim_stations.proofs.Heads.{none_is_not_some_event, at_own_time_is_itself}
+use Rattle.sim_stations.proofs.Heads.{at_own_time_is_itself}
 use Rattle.sim_stations.proofs.Times.{own_time_forgotten_if_free_later, when_free_absorbs_earlier_when_free}
 use Rattle.sim_stations.proofs.Moves.{hold_effect_on_resource}
 use Rattle.sim_stations.proofs.Slots.{IsStep, merged, merged_ahead, merged_waiting, pair_here, seen_key_of_mapped_slot, seen_keys_length_of_mapped, station_of, not_ahead, still_mapped, seen_there, seen_slot, seen_changed, long_now, stood_now, step_ahead, ahead_key_after_set, step_waiting, waiting_key_after_set}
@@ -57,7 +57,7 @@ module _ (ahead : List (Option Timed)) (waiting : Grouped Timed) (rows : Rowed) 
       go : (o : Option Timed) → key_at ahead slot ≡ o → o ≡ None
       go None f = refl
       go (Some k) f =
-          absurd (none_is_not_some_event (when_free rows.free (pair_here rows.pairs waiting slot) k) (sym e ∙ seen_key_of_mapped_slot ahead waiting rows.pairs kept.mapped rows.free slot ∙ ap (option_map (when_free rows.free (pair_here rows.pairs waiting slot))) (merged_ahead ahead waiting slot k f)))
+          absurd (none-some (when_free rows.free (pair_here rows.pairs waiting slot) k) (sym e ∙ seen_key_of_mapped_slot ahead waiting rows.pairs kept.mapped rows.free slot ∙ ap (option_map (when_free rows.free (pair_here rows.pairs waiting slot))) (merged_ahead ahead waiting slot k f)))
 
   pub not_waiting_if_no_seen_key : (slot : ℕ) → key_at seen slot ≡ None → key_at waiting.keys slot ≡ None
   not_waiting_if_no_seen_key slot e = go (key_at waiting.keys slot) refl
@@ -65,7 +65,7 @@ module _ (ahead : List (Option Timed)) (waiting : Grouped Timed) (rows : Rowed) 
       go : (o : Option Timed) → key_at waiting.keys slot ≡ o → o ≡ None
       go None f = refl
       go (Some k) f =
-          absurd (none_is_not_some_event (when_free rows.free (pair_here rows.pairs waiting slot) k) (sym e ∙ seen_key_of_mapped_slot ahead waiting rows.pairs kept.mapped rows.free slot ∙ ap (option_map (when_free rows.free (pair_here rows.pairs waiting slot))) (merged_waiting ahead waiting slot (not_ahead ahead waiting rows.pairs kept.mapped slot k f) ∙ f)))
+          absurd (none-some (when_free rows.free (pair_here rows.pairs waiting slot) k) (sym e ∙ seen_key_of_mapped_slot ahead waiting rows.pairs kept.mapped rows.free slot ∙ ap (option_map (when_free rows.free (pair_here rows.pairs waiting slot))) (merged_waiting ahead waiting slot (not_ahead ahead waiting rows.pairs kept.mapped slot k f) ∙ f)))
 
   pub stands_nowhere_if_no_seen_key : (slot : ℕ) → key_at seen slot ≡ None → slice_index_or stands slot Nowhere ≡ Nowhere
   stands_nowhere_if_no_seen_key slot e =
@@ -194,7 +194,7 @@ module _ (ahead : List (Option Timed)) (waiting : Grouped Timed) (rows : Rowed) 
       where
         go : (one ≡ slot) ⊎ (one ≢ slot) → k.time ≡ 0
         go (inl s) =
-            absurd (none_is_not_some_event k (sym (ap (λ (g : Grouped Timed). key_at g.keys slot) taken ∙ get_or-set_same waiting.keys slot None None within) ∙ ap (key_at new_waiting.keys) (sym s) ∙ e))
+            absurd (none-some k (sym (ap (λ (g : Grouped Timed). key_at g.keys slot) taken ∙ get_or-set_same waiting.keys slot None None within) ∙ ap (key_at new_waiting.keys) (sym s) ∙ e))
         go (inr n) =
             (kept.mapped.waits one k (sym (ap (λ (g : Grouped Timed). key_at g.keys one) taken ∙ get_or-set_other waiting.keys slot one None None n) ∙ e)).0
 
@@ -226,7 +226,7 @@ module _ (ahead : List (Option Timed)) (waiting : Grouped Timed) (rows : Rowed) 
       left_departed idle is_new = departed slot within ahead new_waiting step new_rows shown_now keyed_now (ap (λ (r : Rowed). r.pairs) is_new) (ap (λ (r : Rowed). r.turned) is_new) cpu side later (ap (λ (r : Rowed). r.free) is_new ∙ ap (λ p. held rows.free p cpu side) pair_is) idle gone_now
         where
           step : IsStep slot ahead ahead waiting new_waiting
-          step = step_waiting ahead waiting rows.pairs kept.mapped slot ahead None new_waiting within refl (λ one n. refl) idle (λ k e. absurd (none_is_not_some_event k e)) taken
+          step = step_waiting ahead waiting rows.pairs kept.mapped slot ahead None new_waiting within refl (λ one n. refl) idle (λ k e. absurd (none-some k e)) taken
 
           gone_now : key_at new_waiting.keys slot ≡ None
           gone_now = waiting_key_after_set ahead waiting rows.pairs kept.mapped slot None new_waiting within taken

@@ -1,14 +1,12 @@
 -- The least of a group, after slots of other groups were changed.
 use Rattle.std.proofs.Common.{◌≡◌, ℕ, false, Option, Some, None, slice_get, nat_lt, refl, sym, ap, ◌∙◌, arith, le-ltb}
+use Rattle.std.proofs.lemmas.Option.{none-some}
 use Rattle.goal_graph.specs.declared.action.Timed.{Timed}
 use Rattle.sim_order.specs.Events.{event_before}
 use Rattle.sim_queue.specs.Map.{key_at}
 use Rattle.sim_queue.specs.Groups.{Grouped, IsEmptyGroup, IsLeastOf}
 use Rattle.sim_stations.specs.Stations.{at_time}
 use Rattle.sim_stations.specs.Rows.{IsHead}
-
-pub none_is_not_some_event : (k : Timed) → None ≡ Some k → ⊥
-none_is_not_some_event k e = absurd (cc)
 
 -- events of one time compare as at any other time
 pub same_time_orders_alike : (time : ℕ) (x y : Timed) → event_before (at_time time x) (at_time time y) ≡ event_before (at_time 0 x) (at_time 0 y)
@@ -36,4 +34,4 @@ module _ (waiting new : Grouped Timed) (groups : new.groups ≡ waiting.groups) 
 -- an empty group has no head
 pub empty_group_has_no_head : (rows : Grouped Timed) (group time : ℕ) (head : Option Timed) → IsHead rows group time head → IsEmptyGroup rows group → head ≡ None
 empty_group_has_no_head rows group time None h empty = refl
-empty_group_has_no_head rows group time (Some k) h empty = absurd (none_is_not_some_event (at_time 0 k) (sym (empty h.0.slot h.0.member) ∙ h.0.has))
+empty_group_has_no_head rows group time (Some k) h empty = absurd (none-some (at_time 0 k) (sym (empty h.0.slot h.0.member) ∙ h.0.has))

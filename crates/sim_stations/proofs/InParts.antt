@@ -6,6 +6,7 @@ use Rattle.std.proofs.lemmas.List.{length-drop, length-take-le, length-append, t
 use Rattle.std.proofs.lemmas.Option.{same_Some, slice_get-get_or, slice_get_within, get_or_from_slice_get}
 use Rattle.std.proofs.lemmas.Slice.{between_is, take-put_mid_below, drop-put_mid}
 pub use borrow.Rule.Slice.PartMut.{put_mid, post_of}
+use Rattle.goal_graph.proofs.ForCallers.{same_tables}
 use Rattle.sim_queue.proofs.ForCallers.{get_appended, get_before_appended, get_set_same, get_set_other}
 use Rattle.sim_stations.specs.declared.parts.Part.{Part}
 use Rattle.sim_stations.specs.Parts.{places_of, keyed_of, ArePacked, AreWithoutKeys}
@@ -50,15 +51,10 @@ module _ {X : Type 0} (table : List X) (part : Part) where
       ∙ ap Some (get_or-take (part.start + part.count - part.start) (drop part.start table) 0 x (omega (arith, many, some)) ∙ get_or-drop part.start table 0 x ∙ ap (λ n. get_or table n x) first ∙ get_or_from_slice_get table part.start x x e)
 
 -- two functions that agree except on what is written
-map_by_equal_functions : {X Y : Type 0} (f g : X → Y) (xs : List X) → ((k : ℕ) (t : X) → slice_get xs k ≡ Some t → g t ≡ f t) → map g xs ≡ map f xs
-map_by_equal_functions f g [] agree = refl
-map_by_equal_functions {X} {Y} f g (x ∷ xs) agree =
-    ap₂ (λ (y : Y) (ys : List Y). y ∷ ys) (agree 0 x refl) (map_by_equal_functions f g xs (λ k t e. agree (suc k) t e))
-
 pub map_written : {X Y : Type 0} (f g : X → Y) (xs : List X) (l : ℕ) (z : X) → ((k : ℕ) (t : X) → slice_get xs k ≡ Some t → k ≢ l → g t ≡ f t) → map g (set xs l z) ≡ set (map f xs) l (g z)
 map_written f g [] l z agree = refl
 map_written {X} {Y} f g (x ∷ xs) zero z agree =
-    ap (λ (ys : List Y). g z ∷ ys) (map_by_equal_functions f g xs (λ k t e. agree (suc k) t e (λ n. omega (arith, n))))
+    ap (λ (ys : List Y). g z ∷ ys) (same_tables g f xs (λ k t e. agree (suc k) t e (λ n. omega (arith, n))))
 map_written {X} {Y} f g (x ∷ xs) (suc l) z agree =
     ap₂ (λ (y : Y) (ys : List Y). y ∷ ys) (agree 0 x refl (λ n. omega (arith, n))) (map_written f g xs l z (λ k t e n. agree (suc k) t e (λ same. n (omega (arith, same)))))
 

@@ -2,7 +2,7 @@
 use Rattle.std.proofs.Common.{◌≡◌, ◌≢◌, ◌⊎◌, ◌*◌, ◌^◌, ◌<◌, ℕ, Bool, true, false, not, List, Option, Some, None, length, set, slice_get, slice_index, slice_index_or, IfSome, sym, ap, ◌∙◌, subst, arith, inl, inr}
 use Rattle.std.proofs.lemmas.Bool.{cases_eq}
 use Rattle.std.proofs.lemmas.List.{get_or-set_same, get_or-set_other, get_or_read, length-set}
-use Rattle.std.proofs.lemmas.Option.{same_Some, slice_get-get_or, slice_get_within, get_or_from_slice_get}
+use Rattle.std.proofs.lemmas.Option.{same_Some, slice_get-get_or, slice_get_within, get_or_from_slice_get, none-some}
 use Rattle.goal_graph.specs.declared.action.Timed.{Timed}
 use Rattle.sim_queue.specs.Map.{key_at}
 use Rattle.sim_queue.specs.Groups.{Grouped}
@@ -11,7 +11,7 @@ use Rattle.sim_stations.specs.Stations.{pair_at, held, held_by, AreKnown, AreTim
 use Rattle.sim_stations.specs.Rows.{place_in, side_of, seen, turned_at, IsHead, IsTold, AreBothTold, IsInRows, AreHeads}
 use Rattle.sim_stations.proofs.Sides.{side_at_station_place, equal_places_same_station, equal_places_same_side, place_within, not_same, not_not}
 use Rattle.sim_stations.proofs.Seen.{station_key_at_turned_place, seen_written, seen_turned}
-use Rattle.sim_stations.proofs.Heads.{none_is_not_some_event, head_stays}
+use Rattle.sim_stations.proofs.Heads.{head_stays}
 
 -- the pair of a station, as the code reads it
 pub pair_at_station : (pairs : List Pair) (s : ℕ) (p : Pair) → slice_get pairs s ≡ Some p → pair_at pairs s ≡ p
@@ -270,7 +270,7 @@ module _ (rows : Grouped Timed) (heads : List (Option Timed)) (pairs : List Pair
           go (inl same) b = no_time (sym key_from ∙ ap (key_at new.keys) (sym same) ∙ e)
             where
               no_time : None ≡ Some k → k.time ≡ 0
-              no_time f = absurd (none_is_not_some_event k f)
+              no_time f = absurd (none-some k f)
           go (inr n) (inl same) = ap (λ (x : Timed). x.time) (same_Some k key (sym e ∙ ap (key_at new.keys) same ∙ key_to)) ∙ key_zero key has
           go (inr n) (inr m) = inside.at_zero slot k (sym (stays_over slot n m) ∙ e)
 

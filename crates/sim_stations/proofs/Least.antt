@@ -2,7 +2,7 @@
 use Rattle.std.proofs.Common.{◌≡◌, ◌≢◌, ◌⊎◌, ◌<◌, ◌≤◌, ℕ, max, Bool, true, false, not, List, length, slice_get, slice_index, Option, Some, None, refl, sym, ap, ◌∙◌, subst, arith, inl, inr}
 use Rattle.std.specs.Option.{option_map}
 use Rattle.std.proofs.lemmas.Bool.{cases_eq}
-use Rattle.std.proofs.lemmas.Option.{same_Some, slice_get_within}
+use Rattle.std.proofs.lemmas.Option.{same_Some, slice_get_within, none-some}
 use Rattle.goal_graph.specs.declared.action.OpId.{OpId}
 use Rattle.goal_graph.specs.declared.action.Timed.{Timed}
 use Rattle.goal_graph.specs.Schedule.{Plan, operations}
@@ -17,7 +17,7 @@ use Rattle.sim_stations.specs.declared.key_place.KeyPlace.{KeyPlace}
 use Rattle.sim_stations.specs.Stations.{holds_cpu, at_time, both_free, earliest, when_free, pair_at, AreOfSlots}
 use Rattle.sim_stations.specs.Rows.{Rowed, side_of, turned_at, shown, IsHead}
 use Rattle.sim_stations.specs.Kept.{IsKept, seen_of, IsFound, IsSeenFirst, IsFirstOfAll}
-use Rattle.sim_stations.proofs.Heads.{none_is_not_some_event, same_time_orders_alike, at_own_time_is_itself}
+use Rattle.sim_stations.proofs.Heads.{same_time_orders_alike, at_own_time_is_itself}
 use Rattle.sim_stations.proofs.Times.{not_before_at_later_time, not_earlier, when_free_from_time_zero, earliest_waits}
 use Rattle.sim_stations.proofs.Slots.{merged, merged_ahead, merged_waiting, pair_here, seen_key_of_mapped_slot, not_ahead, station_of}
 
@@ -76,7 +76,7 @@ module _ (ahead : List (Option Timed)) (waiting : Grouped Timed) (rows : Rowed) 
       time = slice_index rows.free (side_of (pair_at rows.pairs station) (turned_at rows.turned station))
 
       go : (o : Option Timed) → key_at rows.keys station ≡ o → IsHead waiting station 0 o → IsAfterShown slot k
-      go None f empty = absurd (none_is_not_some_event k (sym (empty slot member) ∙ e))
+      go None f empty = absurd (none-some k (sym (empty slot member) ∙ e))
       go (Some w) f is =
           let zero : at_time 0 k ≡ k = at_own_time_is_itself k 0 own.0 in
           let below : event_before (at_time time k) (at_time time w) ≡ false = same_time_orders_alike time k w ∙ ap (λ x. event_before x (at_time 0 w)) zero ∙ is.0.least slot k member e in
@@ -102,7 +102,7 @@ module _ (ahead : List (Option Timed)) (waiting : Grouped Timed) (rows : Rowed) 
             let after = after_shown slot m g in
             ap (λ x. event_before x key) same ∙ through event_before event_laws (when_free rows.free (pair_for slot) m) after.head key after.not_before (first.least_shown after.station after.head after.shows)
         go None None f g =
-            absurd (none_is_not_some_event k (sym (here slot ∙ ap (option_map (when_free rows.free (pair_for slot))) (merged_waiting ahead waiting slot f ∙ g)) ∙ e))
+            absurd (none-some k (sym (here slot ∙ ap (option_map (when_free rows.free (pair_for slot))) (merged_waiting ahead waiting slot f ∙ g)) ∙ e))
 
     pub in_ahead : is_ahead ≡ true → (slot : ℕ) × (key_at ahead slot ≡ Some key)
     in_ahead e = subst (IsSeenFirst ahead rows key) e first.seen
@@ -148,7 +148,7 @@ module _ (ahead : List (Option Timed)) (waiting : Grouped Timed) (rows : Rowed) 
 
             go : (o : Option Timed) → key_at rows.keys is.0 ≡ o → IsShownOf
             go None f =
-                absurd (none_is_not_some_event key (sym (ap (option_map (at_time time)) f) ∙ is.1))
+                absurd (none-some key (sym (ap (option_map (at_time time)) f) ∙ is.1))
             go (Some w) f =
                 found w f (subst (IsHead waiting is.0 0) f (kept.shown is.0 (omega (arith, key_within rows.keys is.0 w f, kept.keyed))))
 
@@ -277,10 +277,10 @@ module _ (ahead : List (Option Timed)) (waiting : Grouped Timed) (rows : Rowed) 
       where
         go : (b : Bool) → is_ahead ≡ b → ⊥
         go true e =
-            let was = in_ahead e in none_is_not_some_event (when_free rows.free (pair_for was.0) key) (sym (empty was.0) ∙ seen_ahead was.0 key was.1)
+            let was = in_ahead e in none-some (when_free rows.free (pair_for was.0) key) (sym (empty was.0) ∙ seen_ahead was.0 key was.1)
         go false e =
             let was = shown_of e in
-            none_is_not_some_event (when_free rows.free (pair_for was.slot) was.own) (sym (empty was.slot) ∙ seen_waiting was.slot was.own was.has)
+            none-some (when_free rows.free (pair_for was.slot) was.own) (sym (empty was.slot) ∙ seen_waiting was.slot was.own was.has)
 
     -- the operation of the key belongs to some slot
     pub listed : (ops : List OpId) → AreOfSlots ops seen → (slot : ℕ) × (slice_get ops slot ≡ Some key.op)
@@ -301,4 +301,4 @@ module _ (ahead : List (Option Timed)) (waiting : Grouped Timed) (rows : Rowed) 
           here slot ∙ ap (option_map (when_free rows.free (pair_for slot))) (merged_waiting ahead waiting slot (none slot) ∙ e)
       go (Some k) e =
           let after = after_shown slot k e in
-          absurd (none_is_not_some_event after.head (sym (ap (option_map (at_time (slice_index rows.free (side_of (pair_at rows.pairs after.station) (turned_at rows.turned after.station))))) (no_row after.station)) ∙ after.shows))
+          absurd (none-some after.head (sym (ap (option_map (at_time (slice_index rows.free (side_of (pair_at rows.pairs after.station) (turned_at rows.turned after.station))))) (no_row after.station)) ∙ after.shows))

@@ -4,7 +4,7 @@ use Rattle.std.specs.Option.{option_map}
 use Rattle.std.proofs.lemmas.Bool.{cases_lt}
 use Rattle.std.proofs.lemmas.List.{length-replicate, get_or-replicate, get_or_past}
 use Rattle.std.proofs.lemmas.List.Elements.{All-get_or}
-use Rattle.std.proofs.lemmas.Option.{slice_get_within, get_or_from_slice_get}
+use Rattle.std.proofs.lemmas.Option.{slice_get_within, get_or_from_slice_get, none-some}
 use Rattle.goal_graph.specs.declared.action.Timed.{Timed}
 use Rattle.sim_queue.specs.Map.{either, key_at, no_keys}
 use Rattle.sim_queue.proofs.ForCallers.{key_at_no_keys, same_maps}
@@ -16,7 +16,6 @@ use Rattle.sim_stations.specs.Stations.{DoExist, when_free, pair_at}
 use Rattle.sim_stations.specs.Moves.{one_if, HaveReturned, HasReturned}
 use Rattle.sim_stations.specs.Rows.{Rowed, IsHead}
 use Rattle.sim_stations.specs.Kept.{seen_of, stand_of, IsKept}
-use Rattle.sim_stations.proofs.Heads.{none_is_not_some_event}
 use Rattle.sim_stations.proofs.Slots.{seen_key_at_slot, seen_keys_length}
 use Rattle.sim_stations.proofs.Changed.{view}
 
@@ -54,7 +53,7 @@ module _ (numbers : List ℕ) (pairs : List Pair) (resources : ℕ) (few_station
           let l : slot < n = slice_get_within numbers slot s e in
           omega (arith, All-get_or (λ x. x < length pairs) numbers slot 0 l within, get_or_from_slice_get numbers slot s 0 e);
       apart = λ slot k e. key_at_no_keys n slot;
-      waits = λ slot k e. absurd (none_is_not_some_event k (sym (key_at_no_keys n slot) ∙ e));
+      waits = λ slot k e. absurd (none-some k (sym (key_at_no_keys n slot) ∙ e));
     };
     shown = λ s l. subst (IsHead idle s 0) (sym (key_at_no_keys (length pairs) s)) (λ slot e. key_at_no_keys n slot);
     stood = record {

@@ -1,7 +1,7 @@
 -- The least key that a station shows is the least of the heads.
 use Rattle.std.proofs.Common.{◌≡◌, ◌⊎◌, ◌<◌, ℕ, Bool, true, false, not, List, Option, Some, None, length, slice_get, slice_index, refl, sym, ap, ◌∙◌, subst, arith, inl, inr}
 use Rattle.std.specs.Option.{option_map}
-use Rattle.std.proofs.lemmas.Option.{same_Some, slice_get-get_or}
+use Rattle.std.proofs.lemmas.Option.{same_Some, slice_get-get_or, none-some}
 use Rattle.goal_graph.specs.declared.action.Timed.{Timed}
 use Rattle.sim_order.specs.Events.{event_before}
 use Rattle.sim_order.specs.EventLaws.{event_laws}
@@ -13,7 +13,7 @@ use Rattle.sim_stations.specs.Stations.{at_time, pair_at}
 use Rattle.sim_stations.specs.Rows.{Rowed, place_in, side_of, seen, turned_at, shown, IsFirst, IsHead, IsInRows, AreHeads}
 use Rattle.sim_stations.proofs.Sides.{IsPlace, place_of}
 use Rattle.sim_stations.proofs.Seen.{station_key_at_turned_place, station_keys_length}
-use Rattle.sim_stations.proofs.Heads.{none_is_not_some_event, same_time_orders_alike, at_own_time_is_itself}
+use Rattle.sim_stations.proofs.Heads.{same_time_orders_alike, at_own_time_is_itself}
 use Rattle.sim_stations.proofs.InRows.{pair_at_station, long, side_resource_exists, member}
 
 same_or_not : (b c : Bool) → (b ≡ c) ⊎ (b ≡ not c)
@@ -58,7 +58,7 @@ module _ (rows : Grouped Timed) (heads : List (Option Timed)) (pairs : List Pair
       go (Some k) e =
           let t = stands s k e in
           let empty = subst (IsHead rows (side_of t.pair (turned_at turned s)) (slice_index free (side_of t.pair (turned_at turned s)))) (none (side_of t.pair (turned_at turned s))) (are.headed (side_of t.pair (turned_at turned s)) t.exists) in
-          absurd (none_is_not_some_event k (sym (empty (place_in s (turned_at turned s)) t.there) ∙ t.has))
+          absurd (none-some k (sym (empty (place_in s (turned_at turned s)) t.there) ∙ t.has))
 
   -- the head of a resource is the key of a station in its row
   record IsOfHead (r : ℕ) (h : Timed) : Type 0 where
@@ -95,10 +95,10 @@ module _ (rows : Grouped Timed) (heads : List (Option Timed)) (pairs : List Pair
             time = is.1;
           }
           cases (inr differ) =
-              absurd (none_is_not_some_event (at_time 0 h) (sym (inside.elsewhere p.station) ∙ ap (λ b. key_at rows.keys (place_in p.station b)) (sym differ) ∙ ap (key_at rows.keys) (sym p.place) ∙ is.0.has))
+              absurd (none-some (at_time 0 h) (sym (inside.elsewhere p.station) ∙ ap (λ b. key_at rows.keys (place_in p.station b)) (sym differ) ∙ ap (key_at rows.keys) (sym p.place) ∙ is.0.has))
 
   pub seen_not_empty_if_head : (r : ℕ) (h : Timed) → key_at heads r ≡ Some h → IsEmptyMap keys → ⊥
-  seen_not_empty_if_head r h e empty = let o = head_is_key_of_station r h e in none_is_not_some_event (at_time 0 h) (sym (empty o.station) ∙ o.has)
+  seen_not_empty_if_head r h e empty = let o = head_is_key_of_station r h e in none-some (at_time 0 h) (sym (empty o.station) ∙ o.has)
 
   shows : (s : ℕ) (p : Pair) (k : Timed) → slice_get pairs s ≡ Some p → key_at keys s ≡ Some k → shown all s ≡ Some (at_time (slice_index free (side_of p (turned_at turned s))) k)
   shows s p k at has =
@@ -127,7 +127,7 @@ module _ (rows : Grouped Timed) (heads : List (Option Timed)) (pairs : List Pair
       w_zero = at_own_time_is_itself w 0 (inside.at_zero (place_in s (turned_at turned s)) w t.has)
 
       go : (o : Option Timed) → key_at heads r ≡ o → IsHead rows r (slice_index free r) o → IsNotBefore k
-      go None g empty = absurd (none_is_not_some_event w (sym (empty (place_in s (turned_at turned s)) t.there) ∙ t.has))
+      go None g empty = absurd (none-some w (sym (empty (place_in s (turned_at turned s)) t.there) ∙ t.has))
       go (Some h) g is = record {
         resource = r;
         head = h;
@@ -147,7 +147,7 @@ module _ (rows : Grouped Timed) (heads : List (Option Timed)) (pairs : List Pair
 
       others : (one : ℕ) (k : Timed) → shown all one ≡ Some k → (w : Option Timed) → key_at keys one ≡ w → event_before k h ≡ false
       others one k e None f =
-          absurd (none_is_not_some_event k (sym (ap (option_map (at_time (slice_index free (side_of (pair_at pairs one) (turned_at turned one))))) f) ∙ e))
+          absurd (none-some k (sym (ap (option_map (at_time (slice_index free (side_of (pair_at pairs one) (turned_at turned one))))) f) ∙ e))
       others one k e (Some w) f =
           let c = compared one w f k e in
           through event_before event_laws k c.head h c.not_before (least.least c.resource c.head c.is_head)

@@ -1,7 +1,7 @@
 -- Rows in which no station has a key.
 use Rattle.std.proofs.Common.{◌≡◌, ◌*◌, ◌<◌, ◌^◌, ℕ, Bool, true, false, not, List, Option, None, length, replicate, get_or, slice_index, refl, sym, ap, ◌∙◌, subst, arith}
 use Rattle.std.proofs.lemmas.List.{length-replicate}
-use Rattle.std.proofs.lemmas.Option.{slice_get-get_or}
+use Rattle.std.proofs.lemmas.Option.{slice_get-get_or, none-some}
 use Rattle.goal_graph.specs.declared.action.Timed.{Timed}
 use Rattle.sim_queue.specs.Map.{no_keys}
 use Rattle.sim_queue.proofs.ForCallers.{key_at_no_keys, same_maps}
@@ -11,7 +11,6 @@ use Rattle.sim_stations.specs.Stations.{DoExist}
 use Rattle.sim_stations.specs.Rows.{Rowed, sides, place_in, side_of, seen, turned_at, IsHead, IsInRows, AreHeads}
 use Rattle.sim_stations.proofs.Sides.{IsPlace, place_of, sides_length}
 use Rattle.sim_stations.proofs.Seen.{station_key_at_turned_place, station_keys_length}
-use Rattle.sim_stations.proofs.Heads.{none_is_not_some_event}
 
 pub sides_within : (pairs : List Pair) (resources : ℕ) → DoExist pairs resources → (k d : ℕ) → k < length (sides pairs) → get_or (sides pairs) k d < resources
 sides_within pairs resources exist k d l = go (place_of pairs k (get_or (sides pairs) k d) (slice_get-get_or (sides pairs) k d l))
@@ -50,7 +49,7 @@ module _ (pairs : List Pair) (resources : ℕ) (exist : DoExist pairs resources)
     few = few;
     exist = λ s p e. let was = exist s p e in (omega (arith, was.0, long_free), omega (arith, was.1, long_free));
     elsewhere = λ s. key_at_no_keys (length (sides pairs)) (place_in s (not (turned_at here s)));
-    at_zero = λ slot k e. absurd (none_is_not_some_event k (sym (key_at_no_keys (length (sides pairs)) slot) ∙ e));
+    at_zero = λ slot k e. absurd (none-some k (sym (key_at_no_keys (length (sides pairs)) slot) ∙ e));
   }
 
   heads_none : AreHeads idle (no_keys resources) at_zero

@@ -1,11 +1,12 @@
 -- Slots begin to wait and stations switch, until the least key is tried first.
 use Rattle.std.proofs.Common.{◌≡◌, ◌<◌, ◌≤◌, ◌+◌, ◌*◌, ◌^◌, ℕ, zero, suc, Bool, true, false, not, nat_lt, List, [], ◌∷◌, length, set, slice_get, slice_index, Option, Some, refl, sym, ap, ◌∙◌, subst, arith, add-one, le-ltb}
-use Rattle.std.proofs.Math.Nat.{suc-mul, pow-succ'}
+use Rattle.std.proofs.Math.Nat.{suc-mul}
 use Rattle.std.proofs.lemmas.Bool.{lt-ltb}
 use Rattle.std.proofs.lemmas.List.{length-set}
 use Rattle.std.proofs.lemmas.Option.{same_Some, slice_get_within, slice_get-get_or}
 use Rattle.goal_graph.specs.declared.action.Timed.{Timed}
 use Rattle.sim_queue.specs.Groups.{Grouped}
+use Rattle.sim_queue.proofs.ForCallers.{pow_next_is_double}
 use Rattle.sim_resources.specs.declared.pair.Pair.{Pair}
 use Rattle.sim_stations.specs.declared.key_place.KeyPlace.{KeyPlace}
 use Rattle.sim_stations.specs.Stations.{pair_at, AreTimesOf, count_ahead, cost_of_waiting, cost_of_moves}
@@ -17,9 +18,6 @@ use Rattle.sim_stations.proofs.Joined.{kept_with_new_slots_and_rows}
 
 pub successor_times : (n m : ℕ) → (n + 1) * m ≡ n * m + m
 successor_times n m = ap (λ x. x * m) (add-one n) ∙ suc-mul n m
-
-pub twice : (k : ℕ) → 2 ^ (k + 1) ≡ 2 * 2 ^ k
-twice k = ap (λ n. 2 ^ n) (add-one k) ∙ pow-succ' 2 k
 
 -- what has changed since the beginning
 pub record IsSettling (ahead : List (Option Timed)) (waiting : Grouped Timed) (rows : Rowed) (stands : List KeyPlace) (steps moves : ℕ) (new_ahead : List (Option Timed)) (new_waiting : Grouped Timed) (new_rows : Rowed) (new_stands : List KeyPlace) (now moves_now : ℕ) : Type 0 where
@@ -129,7 +127,7 @@ module _ (ahead : List (Option Timed)) (waiting : Grouped Timed) (rows : Rowed) 
         all : (k : ℕ) → length waiting.keys ≤ 2 ^ k → now + cost_of_waiting k mid_stands + cost_of_moves k moves ≤ steps + cost_of_waiting k stands + cost_of_moves k moves_now
         all k l =
             let was = so_far.counted k l in
-            let double : 2 ^ (k + 1) ≡ 2 * 2 ^ k = twice k in
+            let double : 2 ^ (k + 1) ≡ 2 * 2 ^ k = pow_next_is_double k in
             let step = counted (k + 1) (omega (arith, l, so_far.long, so_far.kept.few_stations, double)) (omega (arith, l, so_far.long, so_far.kept.few_resources, double)) in
             let one : cost_of_moves k moves_now ≡ cost_of_moves k moves_then + (8 * k + 15) = ap (λ n. n * (8 * k + 15)) ticked ∙ successor_times moves_then (8 * k + 15) in
             omega (arith, was, step, one, look)

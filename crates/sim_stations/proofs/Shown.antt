@@ -2,7 +2,7 @@
 use Rattle.std.proofs.Common.{◌≡◌, ◌≢◌, ◌⊎◌, ◌<◌, ℕ, false, List, length, set, slice_get, Option, Some, None, sym, ap, ◌∙◌, subst, inl, inr}
 use Rattle.std.proofs.lemmas.Bool.{cases_eq}
 use Rattle.std.proofs.lemmas.List.{get_or-set_same, get_or-set_other}
-use Rattle.std.proofs.lemmas.Option.{same_Some}
+use Rattle.std.proofs.lemmas.Option.{same_Some, none-some}
 use Rattle.goal_graph.specs.declared.action.Timed.{Timed}
 use Rattle.sim_order.specs.Events.{event_before}
 use Rattle.sim_order.specs.EventLaws.{event_laws}
@@ -12,7 +12,7 @@ use Rattle.sim_queue.specs.Groups.{Grouped}
 use Rattle.sim_stations.specs.Stations.{at_time}
 use Rattle.sim_stations.specs.Rows.{IsHead}
 use Rattle.sim_stations.specs.Kept.{AreShown, IsBeforeAll, HasOneBefore}
-use Rattle.sim_stations.proofs.Heads.{none_is_not_some_event, head_stays}
+use Rattle.sim_stations.proofs.Heads.{head_stays}
 use Rattle.sim_stations.proofs.InRows.{with_key}
 
 module _ (waiting : Grouped Timed) (slot station : ℕ) (member : slice_get waiting.groups slot ≡ Some station) (within : slot < length waiting.keys) (value : Option Timed) (new : Grouped Timed) (is_new : new ≡ with_key waiting slot value) where
@@ -77,12 +77,12 @@ module _ (waiting : Grouped Timed) (slot station : ℕ) (member : slice_get wait
     -- a key after another of the station is not the least
     pub later_keeps_least : HasOneBefore waiting station key → (head : Option Timed) → IsHead waiting station 0 head → IsHead new station 0 head
     later_keeps_least other None empty =
-        absurd (none_is_not_some_event other.first (sym (empty other.least.slot other.least.member) ∙ other.least.has))
+        absurd (none-some other.first (sym (empty other.least.slot other.least.member) ∙ other.least.has))
     later_keeps_least other (Some h) is = (
       record {
         slot = is.0.slot;
         member = ap (λ gs. slice_get gs is.0.slot) groups_unchanged_by_key ∙ is.0.member;
-        has = key_of_other_slot is.0.slot (λ e. none_is_not_some_event (at_time 0 h) (sym idle ∙ ap (key_at waiting.keys) (sym e) ∙ is.0.has)) ∙ is.0.has;
+        has = key_of_other_slot is.0.slot (λ e. none-some (at_time 0 h) (sym idle ∙ ap (key_at waiting.keys) (sym e) ∙ is.0.has)) ∙ is.0.has;
         least = λ one k e has. go one k e has (cases_eq one slot);
       },
       is.1,

@@ -3,7 +3,7 @@ use Rattle.std.proofs.Common.{◌≡◌, ◌≢◌, ◌⊎◌, ◌<◌, ℕ, zer
 use Rattle.std.specs.Option.{option_map}
 use Rattle.std.proofs.lemmas.Bool.{cases_eq}
 use Rattle.std.proofs.lemmas.List.{get_or-set_same, get_or-set_other, length-set}
-use Rattle.std.proofs.lemmas.Option.{slice_get-get_or}
+use Rattle.std.proofs.lemmas.Option.{slice_get-get_or, none-some}
 use Rattle.goal_graph.specs.declared.action.Timed.{Timed}
 use Rattle.sim_queue.specs.Map.{either, key_at}
 use Rattle.sim_queue.proofs.ForCallers.{same_maps}
@@ -13,7 +13,6 @@ use Rattle.sim_stations.specs.declared.key_place.KeyPlace.{KeyPlace}
 use Rattle.sim_stations.specs.declared.key_place.KeyPlace.TheVariants.{Nowhere}
 use Rattle.sim_stations.specs.Stations.{holds_cpu, when_free, pair_at}
 use Rattle.sim_stations.specs.Kept.{seen_keys, stand_of, AreMapped, AreStands}
-use Rattle.sim_stations.proofs.Heads.{none_is_not_some_event}
 
 -- what a slot has
 abbrev pub merged : List (Option Timed) → Grouped Timed → ℕ → Option Timed
@@ -71,7 +70,7 @@ module _ (ahead : List (Option Timed)) (waiting : Grouped Timed) (pairs : List P
     where
       go : (o : Option Timed) → key_at ahead slot ≡ o → o ≡ None
       go None f = refl
-      go (Some q) f = absurd (none_is_not_some_event k (sym (mapped.apart slot q f) ∙ e))
+      go (Some q) f = absurd (none-some k (sym (mapped.apart slot q f) ∙ e))
 
   pub station_of : (slot : ℕ) → slot < length waiting.keys → slice_get waiting.groups slot ≡ Some (slice_index waiting.groups slot)
   station_of slot l = slice_get-get_or waiting.groups slot 0 (omega (arith, l, mapped.grouped))
@@ -153,7 +152,7 @@ module _ (ahead : List (Option Timed)) (waiting : Grouped Timed) (pairs : List P
     ahead_stays = λ one n. get_or-set_other ahead slot one value None n;
     waiting_stays = λ one n. refl;
     apart = λ k e. idle;
-    waits = λ k e. absurd (none_is_not_some_event k (sym idle ∙ e));
+    waits = λ k e. absurd (none-some k (sym idle ∙ e));
   }
 
   pub ahead_key_after_set : (slot : ℕ) (value : Option Timed) → slot < length waiting.keys → key_at (set ahead slot value) slot ≡ value
@@ -167,7 +166,7 @@ module _ (ahead : List (Option Timed)) (waiting : Grouped Timed) (pairs : List P
     groups = ap (λ (q : Grouped Timed). q.groups) is;
     ahead_stays = stays;
     waiting_stays = λ one n. ap (λ (q : Grouped Timed). key_at q.keys one) is ∙ get_or-set_other waiting.keys slot one value None n;
-    apart = λ k e. absurd (none_is_not_some_event k (sym idle ∙ e));
+    apart = λ k e. absurd (none-some k (sym idle ∙ e));
     waits = λ k e. waits k (sym here ∙ e);
   }
     where

@@ -3,9 +3,9 @@ use Rattle.std.proofs.lemmas.List.{length-set}
 use Rattle.goal_graph.specs.Schedule.{Plan, operations}
 use Rattle.goal_graph.specs.Fault.{IsOp}
 use Rattle.sim_events.proofs.Held.{borrowed_times_are_known}
-use Rattle.sim_events.proofs.Queue.{not_some_is_none, key_kept, idle_kept, put_enabled}
+use Rattle.sim_events.proofs.Queue.{key_kept, idle_kept, put_enabled}
 use Rattle.sim_events.proofs.Costs.{spent_put}
-use Rattle.sim_state.proofs.ForCallers.{possible_exists}
+use Rattle.sim_state.proofs.ForCallers.{possible_exists, is_some_false_means_none}
 use Rattle.sim_state.specs.Enabled.{IsEnabledActionOf}
 use Rattle.sim_events.proofs.follow.refresh.Goals as goal
 
@@ -22,7 +22,7 @@ pub put-requires : goal.put-requires
 put-requires g c = record {
   times = borrowed_times_are_known _ _ _ c.args.queue.now c.requires.possible.of_it _ (c.free_times.ensures c.args.queue.now.stations c.args.queue.now.pairs c.requires.possible.of_it.stationed) c.index-slot.result (omega (arith, c.index-slot.ensures.below, c.requires.possible.of_it.each, ap (λ (ps : List Plan). length (operations ps)) c.sched.ensures));
   slot_in = omega (arith, c.index-slot.ensures.below, c.requires.possible.of_it.each, ap (λ (ps : List Plan). length (operations ps)) c.sched.ensures);
-  free = not_some_is_none _ (sym c.has.ensures ∙ c.if-has.false);
+  free = is_some_false_means_none _ (sym c.has.ensures ∙ c.if-has.false);
 }
 
 -- it has a key already
@@ -43,6 +43,6 @@ returns-in-Some-clause-counted g c =
     λ k few.
     let within : c.index-slot.result < length c.args.queue.now.keys = omega (arith, c.index-slot.ensures.below, c.requires.possible.of_it.each, ap (λ (ps : List Plan). length (operations ps)) c.sched.ensures) in
     let each = ap length c.put.ensures.put ∙ length-set c.args.queue.now.keys c.index-slot.result _ in
-    let free = not_some_is_none _ (sym c.has.ensures ∙ c.if-has.false) in
+    let free = is_some_false_means_none _ (sym c.has.ensures ∙ c.if-has.false) in
     let more = spent_put k c.args.queue.now c.put.new.self c.index-slot.result each within _ c.put.ensures.put free in
     omega (arith, c.put.ensures.counted k few, more)

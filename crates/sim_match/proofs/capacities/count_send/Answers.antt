@@ -1,7 +1,5 @@
-use Rattle.std.proofs.Common.{ℕ, ◌<◌, ◌≡◌, List, Option, length, get_or, arith, sym, subst}
-use Rattle.std.proofs.lemmas.Option.{slice_get-get_or, get_or_from_slice_get}
-use Rattle.std.proofs.lemmas.List.{take_all}
-use Rattle.sim_match.specs.declared.capacities.Capacity.{Capacity}
+use Rattle.std.proofs.Common.{ℕ, List, Option, arith, subst}
+use Rattle.std.proofs.lemmas.List.{take_all, get_or_default}
 use Rattle.sim_match.specs.Capacities.{AreCounted}
 use Rattle.sim_match.proofs.CapacityLemmas.{counted_for_no_numbers, counted_unchanged_by_no_number, count_within, count_fits, counted_with}
 use Rattle.sim_match.proofs.capacities.count_send.Goals as goal
@@ -10,11 +8,6 @@ use Rattle.sim_match.proofs.capacities.count_send.Goals.{in-Some, in-None}
 pub loop-number-init : goal.loop-number-init
 loop-number-init c = counted_for_no_numbers _
 
--- reading an existing capacity does not depend on the default
-capacity_read_ignores_default : (capacities : List Capacity) (i : ℕ) (d : Capacity) → i < length capacities → get_or capacities i d ≡ get_or capacities i (get_or capacities i d)
-capacity_read_ignores_default capacities i d within =
-    sym (get_or_from_slice_get capacities i (get_or capacities i d) (get_or capacities i d) (slice_get-get_or capacities i d within))
-
 pub bounds-capacities-list : goal.bounds-capacities-list
 bounds-capacities-list c =
     count_within _ _ _ c.loop-number.number-index _ (omega arith) c.loop-number.invariant c.in-Some.list c.in-Some.is c.requires.once c.requires.within
@@ -22,14 +15,14 @@ bounds-capacities-list c =
 pub overflow_add-capacity : goal.overflow_add-capacity
 overflow_add-capacity c =
     let within = count_within _ _ _ c.loop-number.number-index _ (omega arith) c.loop-number.invariant c.in-Some.list c.in-Some.is c.requires.once c.requires.within in
-    let fits = count_fits _ _ _ c.loop-number.number-index _ (omega arith) c.loop-number.invariant c.in-Some.list c.in-Some.is c.requires.once c.requires.within _ (capacity_read_ignores_default c.loop-number.capacities c.in-Some.list (record { receives = 0; sends = 0 }) within) c.requires.small in
+    let fits = count_fits _ _ _ c.loop-number.number-index _ (omega arith) c.loop-number.invariant c.in-Some.list c.in-Some.is c.requires.once c.requires.within _ (get_or_default c.loop-number.capacities c.in-Some.list (record { receives = 0; sends = 0 }) _ within) c.requires.small in
     omega (arith, fits)
 
 pub loop-number-preserved : goal.loop-number-preserved
 loop-number-preserved c = elim c.match-number.branch [
   | in-Some w ↦
       let within = count_within _ _ _ c.loop-number.number-index _ (omega arith) c.loop-number.invariant w.in-Some.list w.in-Some.is c.requires.once c.requires.within in
-      rw w.capacities-is (counted_with _ _ _ c.loop-number.number-index _ (omega arith) c.loop-number.invariant w.in-Some.list w.in-Some.is c.requires.once c.requires.within _ (capacity_read_ignores_default c.loop-number.capacities w.in-Some.list (record { receives = 0; sends = 0 }) within))
+      rw w.capacities-is (counted_with _ _ _ c.loop-number.number-index _ (omega arith) c.loop-number.invariant w.in-Some.list w.in-Some.is c.requires.once c.requires.within _ (get_or_default c.loop-number.capacities w.in-Some.list (record { receives = 0; sends = 0 }) _ within))
   | in-None w ↦ rw w.capacities-is (counted_unchanged_by_no_number _ _ _ c.loop-number.number-index _ (omega arith) c.loop-number.invariant w.in-None.is)
 ]
 

@@ -1,9 +1,10 @@
 use Rattle.std.proofs.Common.{ℕ, ◌<◌, ◌≡◌, true, None, length, arith, sym, ◌∙◌, subst}
+use Rattle.std.proofs.lemmas.List.{get_or_default}
 use Rattle.std.proofs.lemmas.List.Elements.{All-more}
 use Rattle.goal_graph.specs.Schedule.{operations}
 use Rattle.sim_match.specs.declared.match_list.MatchEntry.{MatchEntry}
 use Rattle.sim_match.specs.MatchLists.{is_marked, IsFirst}
-use Rattle.sim_match.proofs.MatchListLemmas.{first_unmarked_found, no_unmarked_left, get_or_default_irrelevant}
+use Rattle.sim_match.proofs.MatchListLemmas.{first_unmarked_found, no_unmarked_left}
 use Rattle.sim_match.proofs.match_list.first_that_waits.Goals as goal
 
 pub loop-at-init : goal.loop-at-init
@@ -34,7 +35,7 @@ returns-then-not-is_marked-clause-less c = omega (arith, c.is_marked.ensures.loo
 pub returns-then-not-is_marked-clause-first : goal.returns-then-not-is_marked-clause-first
 returns-then-not-is_marked-clause-first c = λ room.
     let inside : c.loop-at.at < length c.args.entries.now = omega arith in
-    first_unmarked_found (is_marked (operations c.args.sched.now) c.args.marks.now) c.args.entries.now c.loop-at.at c.args.head room c.loop-at.invariant.skipped _ inside (get_or_default_irrelevant c.args.entries.now c.loop-at.at _ inside) (sym c.is_marked.ensures.tells ∙ c.if-not-is_marked.true)
+    first_unmarked_found (is_marked (operations c.args.sched.now) c.args.marks.now) c.args.entries.now c.loop-at.at c.args.head room c.loop-at.invariant.skipped _ inside (get_or_default c.args.entries.now c.loop-at.at _ _ inside) (sym c.is_marked.ensures.tells ∙ c.if-not-is_marked.true)
 
 pub loop-at-preserved : goal.loop-at-preserved
 loop-at-preserved c =

@@ -1,9 +1,9 @@
 use Rattle.std.proofs.Common.{◌≡◌, ◌+◌, slice_index, set, sym, ◌∙◌, subst, arith}
+use Rattle.sim_queue.proofs.ForCallers.{pow_next_is_double}
 use Rattle.sim_resources.specs.declared.pair.Pair.{Pair}
 use Rattle.sim_stations.specs.Stations.{pair_at, held, AreKnown}
 use Rattle.sim_stations.proofs.Times.{pair_of_station}
 use Rattle.sim_stations.proofs.Slots.{not_ahead}
-use Rattle.sim_stations.proofs.Settling.{twice}
 use Rattle.sim_stations.proofs.Changed.{found_ahead, found_waiting, left_zero, left_departed, ahead_departed}
 use Rattle.sim_stations.proofs.station_queue.depart.Goals as goal
 
@@ -51,7 +51,7 @@ returns-else-is_waiting-clause-departed g c =
 pub returns-then-is_waiting-clause-counted : goal.returns-then-is_waiting-clause-counted
 returns-then-is_waiting-clause-counted g c =
     λ k l.
-    let double = twice k in
+    let double = pow_next_is_double k in
     let taken = c.take.ensures.counted k l in
     let left = c.leave.ensures.counted (k + 1) (omega (arith, l, c.requires.kept.few_stations, double)) (omega (arith, l, c.requires.kept.few_resources, double)) in
     omega (arith, taken, left)
@@ -59,7 +59,7 @@ returns-then-is_waiting-clause-counted g c =
 pub returns-else-is_waiting-clause-counted : goal.returns-else-is_waiting-clause-counted
 returns-else-is_waiting-clause-counted g c =
     λ k l.
-    let double = twice k in
+    let double = pow_next_is_double k in
     let taken = c.take-else-is_waiting.ensures.counted k (omega (arith, l, c.requires.kept.mapped.each)) in
     let left = c.hold.ensures.counted (k + 1) (omega (arith, l, c.requires.kept.few_resources, double)) in
     omega (arith, taken, left)

@@ -1,11 +1,11 @@
 use Rattle.std.proofs.Common.{◌+◌, Some, length, set, sym, ap, ◌∙◌, refl, subst, arith}
 use Rattle.goal_graph.specs.declared.action.Timed.{Timed}
+use Rattle.sim_queue.proofs.ForCallers.{pow_next_is_double}
 use Rattle.sim_stations.specs.Stations.{at_time, AreTimesOf}
 use Rattle.sim_stations.specs.Rows.{Rowed}
 use Rattle.sim_stations.specs.Kept.{AreShown, IsBeforeAll, HasOneBefore}
 use Rattle.sim_stations.proofs.Shown.{shown_after_new_head, shown_with_kept_least, first_is_new_least, later_keeps_least}
 use Rattle.sim_stations.proofs.Times.{pair_of_station}
-use Rattle.sim_stations.proofs.Settling.{twice}
 use Rattle.sim_stations.proofs.station_queue.join.Goals as goal
 
 pub tell-requires-clause-times : goal.tell-requires-clause-times
@@ -38,7 +38,7 @@ pub returns-then-is_first-clause-counted : goal.returns-then-is_first-clause-cou
 returns-then-is_first-clause-counted g c =
     λ k l m n.
     let put = c.put.ensures.counted k l in
-    let told = c.tell.ensures.counted (k + 1) (omega (arith, m, twice k)) n in
+    let told = c.tell.ensures.counted (k + 1) (omega (arith, m, pow_next_is_double k)) n in
     omega (arith, c.is_first.ensures.counted, put, told)
 
 pub returns-else-is_first-clause-counted : goal.returns-else-is_first-clause-counted

@@ -1,19 +1,16 @@
 use Rattle.std.proofs.Common.{◌≡◌, ◌<◌, ◌++◌, ℕ, List, Option, Some, None, length, take, drop, IfSome, IsNone, sym, ap, ◌∙◌, subst, arith}
 use Rattle.std.specs.Option.{option_map}
-use Rattle.std.proofs.lemmas.List.{take-append-le, take_all}
 use Rattle.goal_graph.specs.declared.action.Timed.{Timed}
 use Rattle.goal_graph.specs.Schedule.{operations}
 use Rattle.sim_order.specs.Events.{event_before}
 use Rattle.sim_queue.specs.Map.{IsEmptyMap, IsLeast}
 use Rattle.sim_queue.specs.Groups.{Grouped}
+use Rattle.sim_queue.proofs.ForCallers.{part_written_back}
 use Rattle.sim_stations.specs.Stations.{Stationed, pair_of, AreTimesOf, AreOfSlots, cost_of_waiting}
 use Rattle.sim_stations.specs.Moves.{HaveReturned, HaveMoved}
 use Rattle.sim_stations.specs.Kept.{IsKept, IsFound}
 use Rattle.sim_stations.proofs.Changed.{seen_length_is_slot_count}
 use Rattle.sim_stations.proofs.station_queue.StationQueue.least.Goals as goal
-
-whole : {X : Type 0} (n : ℕ) (xs ys : List X) → n ≡ length xs → take n (xs ++ ys) ≡ xs
-whole n xs ys e = take-append-le n xs ys (omega (arith, e)) ∙ take_all n xs (omega (arith, e))
 
 found_slot_of_least : (ahead : List (Option Timed)) (waiting : Grouped Timed) (r : Option (ℕ × Timed)) → IfSome r (λ x. IsFound ahead waiting (Some x.0)) → IsFound ahead waiting (option_map (λ (x : ℕ × Timed). x.0) r)
 found_slot_of_least ahead waiting None h = tt
@@ -42,7 +39,7 @@ settle-least-requires-clause-times g c = λ slot l.
 pub invariant_of-self : goal.invariant_of-self
 invariant_of-self g c =
     let q = c.self.inside in
-    let same : take q.stands.len (c.settle-least.new.stands ++ drop (length c.settle-least.new.stands) q.stands.items) ≡ c.settle-least.new.stands = whole q.stands.len c.settle-least.new.stands (drop (length c.settle-least.new.stands) q.stands.items) (omega (arith, c.settle-least.auto.stands, ap length c.deref_mut.ensures.value, q.stands.ok.0)) in
+    let same : take q.stands.len (c.settle-least.new.stands ++ drop (length c.settle-least.new.stands) q.stands.items) ≡ c.settle-least.new.stands = part_written_back q.stands.len c.settle-least.new.stands (drop (length c.settle-least.new.stands) q.stands.items) (omega (arith, c.settle-least.auto.stands, ap length c.deref_mut.ensures.value, q.stands.ok.0)) in
     let e = c.settle-least.ensures in
     (subst (IsKept c.settle-least.new.ahead c.settle-least.new.waiting c.settle-least.new.rows) (sym same) e.kept, subst (IsFound c.settle-least.new.ahead c.settle-least.new.waiting) (sym c.slot_of-self-inside.ensures) (found_slot_of_least c.settle-least.new.ahead c.settle-least.new.waiting c.settle-least.result e.found))
 
@@ -73,7 +70,7 @@ pub returns-clause-counted : goal.returns-clause-counted
 returns-clause-counted g c =
     λ k l.
     let q = c.self.inside in
-    let same : take q.stands.len (c.settle-least.new.stands ++ drop (length c.settle-least.new.stands) q.stands.items) ≡ c.settle-least.new.stands = whole q.stands.len c.settle-least.new.stands (drop (length c.settle-least.new.stands) q.stands.items) (omega (arith, c.settle-least.auto.stands, ap length c.deref_mut.ensures.value, q.stands.ok.0)) in
+    let same : take q.stands.len (c.settle-least.new.stands ++ drop (length c.settle-least.new.stands) q.stands.items) ≡ c.settle-least.new.stands = part_written_back q.stands.len c.settle-least.new.stands (drop (length c.settle-least.new.stands) q.stands.items) (omega (arith, c.settle-least.auto.stands, ap length c.deref_mut.ensures.value, q.stands.ok.0)) in
     let size = seen_length_is_slot_count q.ahead q.waiting q.rows q.stands.items c.self.invariant.0 in
     let spent = c.settle-least.ensures.counted k (omega (arith, l, size, ap (λ (s : Stationed). length s.keys) c.self.view_is)) in
     let now = ap (cost_of_waiting k) same in

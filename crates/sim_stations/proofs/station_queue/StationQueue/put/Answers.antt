@@ -1,10 +1,11 @@
 use Rattle.std.proofs.Common.{◌≡◌, ◌≤◌, ◌<◌, ◌+◌, ◌*◌, ◌^◌, Some, None, length, set, slice_index, sym, ap, ◌∙◌, subst, arith}
 use Rattle.sim_queue.specs.Map.{key_at}
+use Rattle.sim_queue.proofs.ForCallers.{pow_next_is_double}
 use Rattle.sim_stations.specs.declared.key_place.KeyPlace.TheVariants.{Ahead, Waiting}
 use Rattle.sim_stations.specs.Stations.{Stationed, when_free, pair_of, AreTimesOf, count_ahead, cost_of_waiting}
 use Rattle.sim_stations.specs.Kept.{seen_of}
 use Rattle.std.proofs.lemmas.Option.{slice_get-get_or}
-use Rattle.sim_stations.proofs.Settling.{successor_times, twice}
+use Rattle.sim_stations.proofs.Settling.{successor_times}
 use Rattle.sim_stations.proofs.Changed.{seen_length_is_slot_count, not_ahead_if_no_seen_key, not_waiting_if_no_seen_key, put_kept, put_seen, put_more, wait_same, wait_kept, wait_seen}
 use Rattle.sim_stations.proofs.station_queue.StationQueue.put.Goals as goal
 
@@ -113,7 +114,7 @@ returns-then-may_wait-clause-counted g c =
     let within : c.args.slot < length q.waiting.keys = omega (arith, c.requires.slot_in, ap (λ (s : Stationed). length s.keys) c.self.view_is, size) in
     let idle : key_at (seen_of q.ahead q.waiting q.rows) c.args.slot ≡ None = ap (λ (s : Stationed). key_at s.keys c.args.slot) c.self.view_is ∙ c.requires.free in
     let few : length q.waiting.keys ≤ 2 ^ k = omega (arith, l, size, ap (λ (s : Stationed). length s.keys) c.self.view_is) in
-    let double = twice k in
+    let double = pow_next_is_double k in
     let spent = c.join.ensures.counted k few (omega (arith, few, c.self.invariant.0.few_stations)) (omega (arith, few, c.self.invariant.0.few_resources, double)) in
     let same : cost_of_waiting k (set q.stands.items c.args.slot Waiting) ≡ cost_of_waiting k q.stands.items = ap (λ n. n * (8 * k + 12)) (wait_same q.ahead q.waiting q.rows q.stands.items c.self.invariant.0 c.args.slot within idle c.args.key) in
     let stands = ap (λ (s : Stationed). cost_of_waiting k s.stands) c.self.view_is in
