@@ -29,15 +29,15 @@ holds_joined_prefixes a b c name bytes left n k first output same is more = reco
 }
 
 -- where the file exists and the host did not fail, no count of reading rose
-pub no_fault : (old new : HostState) (name text : List ℕ) → old.tells ≡ true → file_of old name ≡ Some text
+pub no_read_fault_on_existing_file : (old new : HostState) (name text : List ℕ) → old.tells ≡ true → file_of old name ≡ Some text
     → Held old.stops old.read_count new.read_count → ReadFaulted old new name → ⊥
-no_fault old new name text told file held (inl rose) = omega arith
-no_fault old new name text told file held (inr absent) = let none = absent.1 told in cc
+no_read_fault_on_existing_file old new name text told file held (inl rose) = omega arith
+no_read_fault_on_existing_file old new name text told file held (inr absent) = let none = absent.1 told in cc
 
 -- a file that is too long has more bytes than an input may have
-pub no_short : (old : HostState) (name text : List ℕ) → old.tells ≡ true → file_of old name ≡ Some text
+pub too_long_file_exceeds_input_limit : (old : HostState) (name text : List ℕ) → old.tells ≡ true → file_of old name ≡ Some text
     → IsTooLong old name → MAX_INPUT < length text
-no_short old name text told file long =
+too_long_file_exceeds_input_limit old name text told file long =
     let l = long.told told in
     let same : l.0 ≡ text = cc (l.1, file) in
     rw same at l.2

@@ -28,15 +28,15 @@ bytes_of_cond : (b : Bool) (v : Vec ℕ Global) (o : Option (Vec ℕ Global)) �
 bytes_of_cond true v o = refl
 bytes_of_cond false v o = refl
 
-found : (q : List ℕ) (es : Entries) → find (slice_cmp nat_cmp) q (map (λ (e : String Global × Vec ℕ Global). (string_bytes e.0, e.1.items)) es)
+find_mapped_entries_is_lookup : (q : List ℕ) (es : Entries) → find (slice_cmp nat_cmp) q (map (λ (e : String Global × Vec ℕ Global). (string_bytes e.0, e.1.items)) es)
     ≡ option_map bytes_of (lookup (is_at (λ (k : String Global). slice_cmp nat_cmp q (string_bytes k))) es)
-found q [] = refl
-found q (e ∷ es) = ap (cond (eq_by_cmp (slice_cmp nat_cmp) q (string_bytes e.0)) (Some e.1.items)) (found q es) ∙ bytes_of_cond _ e.1 _
+find_mapped_entries_is_lookup q [] = refl
+find_mapped_entries_is_lookup q (e ∷ es) = ap (cond (eq_by_cmp (slice_cmp nat_cmp) q (string_bytes e.0)) (Some e.1.items)) (find_mapped_entries_is_lookup q es) ∙ bytes_of_cond _ e.1 _
 
 -- the file that a lookup by name finds
 pub get-files_of : (m : Map) (q : List ℕ) → get (files_of m.entries) q ≡ option_map bytes_of (get_by_text m q)
 unfolding files_of
-get-files_of m q = get-from_entries nat_list_cmp_total _ q ∙ found q m.entries
+get-files_of m q = get-from_entries nat_list_cmp_total _ q ∙ find_mapped_entries_is_lookup q m.entries
 
 -- two maps are equal if every lookup gives the same
 pub files_equal_by_lookups : (m n : Files) → ((q : List ℕ) → get m q ≡ get n q) → m ≡ n

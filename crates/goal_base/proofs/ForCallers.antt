@@ -23,8 +23,8 @@ takes_if_rest_unchanged a b c xs first same more = record {
 }
 
 -- where more was taken than an input may have, the rest was too long
-pub too_long : (a b : HostState) (xs : List ℕ) → Takes a b xs → MAX_INPUT < length xs → a.tells ≡ true → MAX_INPUT < length a.rest
-too_long a b xs takes long t = omega (arith, ap length (takes.told t), length-append xs b.rest)
+pub rest_too_long_if_taken_too_long : (a b : HostState) (xs : List ℕ) → Takes a b xs → MAX_INPUT < length xs → a.tells ≡ true → MAX_INPUT < length a.rest
+rest_too_long_if_taken_too_long a b xs takes long t = omega (arith, ap length (takes.told t), length-append xs b.rest)
 
 -- properties of two successive calls of a host
 module _ (a b c : HostState) (later : Later a b) where

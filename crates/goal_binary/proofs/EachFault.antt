@@ -14,9 +14,9 @@ one_fault (Ok plans) (fault.Plan f) (fault.Plan g) is other = ap fault.Plan (IsF
 one_fault (Ok plans) (fault.Plan f) _ is other = absurd other
 one_fault (Ok plans) _ g is other = absurd is
 
-no_fault : (plans : List Plan) (f : FileFault) → IsAccepted plans → IsFaultOf (Ok plans) f → ⊥
-no_fault plans (fault.Plan f) accepted is = IsAccepted-no_fault plans f accepted is
-no_fault plans _ accepted is = is
+accepted_plans_have_no_file_fault : (plans : List Plan) (f : FileFault) → IsAccepted plans → IsFaultOf (Ok plans) f → ⊥
+accepted_plans_have_no_file_fault plans (fault.Plan f) accepted is = IsAccepted-no_fault plans f accepted is
+accepted_plans_have_no_file_fault plans _ accepted is = is
 
 no_memory_or_other_fault : (f : FileFault) → (f ≡ fault.NoMemory) ⊎ (f ≢ fault.NoMemory)
 no_memory_or_other_fault fault.NoMemory = inl refl
@@ -29,7 +29,7 @@ no_memory_or_other_fault (fault.Plan rule) = inr (λ e. cc)
 
 pub each_file_fault_is_reported : (bytes : List ℕ) (r : Result (List Plan) FileFault) → IfOk r (λ plans. meaning bytes ≡ Ok plans) → IfOk r (λ plans. IsAccepted plans)
     → IfErr r (λ f. f ≢ fault.NoMemory → IsFileFault bytes f) → (f : FileFault) → IsFileFault bytes f → IsErrOf r f ⊎ IsErrOf r fault.NoMemory
-each_file_fault_is_reported bytes (Ok plans) means accepted told f is = absurd (no_fault plans f accepted (subst (λ (m : Result (List Plan) FileFault). IsFaultOf m f) means is))
+each_file_fault_is_reported bytes (Ok plans) means accepted told f is = absurd (accepted_plans_have_no_file_fault plans f accepted (subst (λ (m : Result (List Plan) FileFault). IsFaultOf m f) means is))
 each_file_fault_is_reported bytes (Err g) means accepted told f is = either (no_memory_or_other_fault g)
   where
     either : (g ≡ fault.NoMemory) ⊎ (g ≢ fault.NoMemory) → (IsErrOf {T = List Plan} (Err g) f) ⊎ (IsErrOf {T = List Plan} (Err g) fault.NoMemory)

@@ -22,15 +22,15 @@ pub record IsReadAs {A : Type 0} (bytes : List ℕ) (read : Read A) (x : A) (res
   pub is : read ≡ Ok (x, place)
   pub rest_is : drop place bytes ≡ rest
 
-record IsWide (w : Width) (limit : ℕ) : Type 0 where
+record RoundTripsNumbers (w : Width) (limit : ℕ) : Type 0 where
   len : (n : ℕ) → length (to_le_bytes w n) ≡ byte_len w
   again : (n : ℕ) → n < limit → from_le_bytes w (to_le_bytes w n) ≡ n
 
-wide32 : IsWide w32 (2 ^ 32)
-wide32 = record { len = λ n. refl; again = λ n lt. from_le_bytes-to_le_bytes_4 n lt }
+w32_round_trips_numbers : RoundTripsNumbers w32 (2 ^ 32)
+w32_round_trips_numbers = record { len = λ n. refl; again = λ n lt. from_le_bytes-to_le_bytes_4 n lt }
 
-wide64 : IsWide w64 (2 ^ 64)
-wide64 = record { len = λ n. refl; again = λ n lt. from_le_bytes-to_le_bytes_8 n lt }
+w64_round_trips_numbers : RoundTripsNumbers w64 (2 ^ 64)
+w64_round_trips_numbers = record { len = λ n. refl; again = λ n lt. from_le_bytes-to_le_bytes_8 n lt }
 
 module _ (bytes : List ℕ) where
   pub byte_again : (at b : ℕ) (rest : List ℕ) → drop at bytes ≡ b ∷ rest → IsReadAs bytes (byte_at bytes at) b rest
@@ -42,7 +42,7 @@ module _ (bytes : List ℕ) where
       let here : slice_get bytes at ≡ Some b = slice_get-get_or bytes at 0 inside ∙ ap (λ (xs : List ℕ). Some (get_or xs 0 0)) both in
       record { place = at + 1; is = ap (byte_or_short bytes at) here; rest_is = ap (drop 1) both }
 
-  word_again : (w : Width) (limit : ℕ) (wide : IsWide w limit) (at n : ℕ) (rest : List ℕ) → n < limit → drop at bytes ≡ to_le_bytes w n ++ rest → IsReadAs bytes (word_at bytes w at) n rest
+  word_again : (w : Width) (limit : ℕ) (wide : RoundTripsNumbers w limit) (at n : ℕ) (rest : List ℕ) → n < limit → drop at bytes ≡ to_le_bytes w n ++ rest → IsReadAs bytes (word_at bytes w at) n rest
   word_again w limit wide at n rest lt h =
       let len = wide.len n in
       let long : ltb (length bytes - at) (byte_len w) ≡ false = le-ltb _ _ (omega (arith, length-drop at bytes, ap length h, length-append (to_le_bytes w n) rest)) in
@@ -54,11 +54,11 @@ module _ (bytes : List ℕ) where
 
   pub u32_again : (at n : ℕ) (rest : List ℕ) → n < 2 ^ 32 → drop at bytes ≡ spelled_u32 n ++ rest → IsReadAs bytes (u32_at bytes at) n rest
   unfolding u32_at
-  u32_again at n rest lt h = word_again w32 (2 ^ 32) wide32 at n rest lt h
+  u32_again at n rest lt h = word_again w32 (2 ^ 32) w32_round_trips_numbers at n rest lt h
 
   pub u64_again : (at n : ℕ) (rest : List ℕ) → n < 2 ^ 64 → drop at bytes ≡ spelled_u64 n ++ rest → IsReadAs bytes (u64_at bytes at) n rest
   unfolding u64_at
-  u64_again at n rest lt h = word_again w64 (2 ^ 64) wide64 at n rest lt h
+  u64_again at n rest lt h = word_again w64 (2 ^ 64) w64_round_trips_numbers at n rest lt h
 
   pub byte_up_to_again : (most at n : ℕ) (rest : List ℕ) → n ≤ most → drop at bytes ≡ n ∷ rest → IsReadAs bytes (byte_up_to bytes most at) n rest
   unfolding byte_up_to

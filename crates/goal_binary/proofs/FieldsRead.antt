@@ -30,8 +30,8 @@ pair x a = (x, a)
 abbrev pub any_number : ℕ → Type 0
 any_number n = Unit {0}
 
-pub take_all : (n : ℕ) (xs : List ℕ) → length xs ≡ n → take n xs ≡ xs
-take_all n xs len = ap (take n) (sym (append-nil xs)) ∙ take_at xs [] n len
+pub take_of_length_is_list : (n : ℕ) (xs : List ℕ) → length xs ≡ n → take n xs ≡ xs
+take_of_length_is_list n xs len = ap (take n) (sym (append-nil xs)) ∙ take_at xs [] n len
 
 pairs_equal_from_parts : (x y a b : ℕ) → x ≡ y → a ≡ b → pair x a ≡ pair y b
 pairs_equal_from_parts x y a b e f = cc
@@ -83,7 +83,7 @@ module _ {V : ℕ → Type 0} (l : Layout) (width : ℕ) (value : List ℕ → �
   field_completed : (at : ℕ) (front : List ℕ) → length front ≡ at → Completed (field width value test) at front
   field_completed at front len =
       let behind : drop at (front ++ can.text) ≡ can.text = drop_at front can.text at len in
-      let taken : take width (drop at (front ++ can.text)) ≡ can.text = ap (take width) behind ∙ take_all width can.text can.len in
+      let taken : take width (drop at (front ++ can.text)) ≡ can.text = ap (take width) behind ∙ take_of_length_is_list width can.text can.len in
       let joined = length-append front can.text in
       let room : at + width ≤ length (front ++ can.text) = omega (arith, joined, len, can.len) in
       let place : at + width ≡ length (front ++ can.text) = omega (arith, joined, len, can.len) in

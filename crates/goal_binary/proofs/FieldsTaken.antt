@@ -30,14 +30,14 @@ IsBytes-take n bytes h i =
       | inr le ↦ rw (get_or_past (take n bytes) i 0 (omega (arith, length-take n bytes))) (omega arith)
     ]
 
-pub record IsWide (w : Width) : Type 0 where
+pub record RoundTripsBytes (w : Width) : Type 0 where
   pub back : (bytes : List ℕ) → length bytes ≡ byte_len w → IsBytes bytes → to_le_bytes w (from_le_bytes w bytes) ≡ bytes
 
-wide32 : IsWide w32
-wide32 = record { back = λ bytes len fits. le_bytes_4 bytes _ len fits refl }
+w32_round_trips_bytes : RoundTripsBytes w32
+w32_round_trips_bytes = record { back = λ bytes len fits. le_bytes_4 bytes _ len fits refl }
 
-wide64 : IsWide w64
-wide64 = record { back = λ bytes len fits. le_bytes_8 bytes _ len fits refl }
+w64_round_trips_bytes : RoundTripsBytes w64
+w64_round_trips_bytes = record { back = λ bytes len fits. le_bytes_8 bytes _ len fits refl }
 
 -- a test that passed
 pub guard_ok : {A : Type 0} (b : Bool) (d : FileFault) (x y : A) → cond b (Err d) (Ok x) ≡ Ok y → (b ≡ false) × (x ≡ y)
@@ -58,7 +58,7 @@ module _ (bytes : List ℕ) where
           subst (λ (y : ℕ × ℕ). Takes bytes at (y.0 ∷ []) y.1) (ok_injective (b, at + 1) x e) (record { parts = front })
 
   module _ (fits : IsBytes bytes) where
-    word_taken : (w : Width) (wide : IsWide w) (at : ℕ) (x : ℕ × ℕ) → word_at bytes w at ≡ Ok x → Takes bytes at (to_le_bytes w x.0) x.1
+    word_taken : (w : Width) (wide : RoundTripsBytes w) (at : ℕ) (x : ℕ × ℕ) → word_at bytes w at ≡ Ok x → Takes bytes at (to_le_bytes w x.0) x.1
     word_taken w wide at x e =
         let rest = drop at bytes in
         let len = byte_len w in
@@ -72,11 +72,11 @@ module _ (bytes : List ℕ) where
 
     pub u32_taken : (at : ℕ) (x : ℕ × ℕ) → u32_at bytes at ≡ Ok x → Takes bytes at (spelled_u32 x.0) x.1
     unfolding u32_at
-    u32_taken at x e = word_taken w32 wide32 at x e
+    u32_taken at x e = word_taken w32 w32_round_trips_bytes at x e
 
     pub u64_taken : (at : ℕ) (x : ℕ × ℕ) → u64_at bytes at ≡ Ok x → Takes bytes at (spelled_u64 x.0) x.1
     unfolding u64_at
-    u64_taken at x e = word_taken w64 wide64 at x e
+    u64_taken at x e = word_taken w64 w64_round_trips_bytes at x e
 
   -- a field below its limit is the field
   pub up_to_ok : (read : Read ℕ) (most at : ℕ) (x : ℕ × ℕ) → (read >>= λ n. allow (leb n.0 most) at n) ≡ Ok x → (read ≡ Ok x) × (x.0 ≤ most)

@@ -14,18 +14,18 @@ front_takes_next_item front x (Ok xs) = ap (λ ys. Ok (ys, xs.1)) (simp append_a
 front_takes_next_item front x (Err f) = refl
 
 module _ {A : Type 0} (item_at : ℕ → Read A) where
-  pub goes_on : (front : List A) (count i at : ℕ) (x : A) (after : ℕ) (total : Read (List A)) → i < count → item_at at ≡ Ok (x, after)
+  pub list_read_continues_after_item : (front : List A) (count i at : ℕ) (x : A) (after : ℕ) (total : Read (List A)) → i < count → item_at at ≡ Ok (x, after)
       → with_front front (list_at item_at (count - i) at) ≡ total → with_front (front ++ x ∷ []) (list_at item_at (count - (i + 1)) after) ≡ total
   unfolding list_at
-  goes_on front count i at x after total lt h so_far =
+  list_read_continues_after_item front count i at x after total lt h so_far =
       let k : count - i ≡ suc (count - (i + 1)) = omega arith in
       let one : with_front front (list_at item_at (count - i) at) ≡ with_front (front ++ x ∷ []) (list_at item_at (count - (i + 1)) after) = rw (k, h) (front_takes_next_item front x (list_at item_at (count - (i + 1)) after)) in
       sym one ∙ so_far
 
-  pub ends : (f : FileFault) (front : List A) (count i at : ℕ) (total : Read (List A)) → i < count → item_at at ≡ Err f
+  pub list_read_fails_with_item : (f : FileFault) (front : List A) (count i at : ℕ) (total : Read (List A)) → i < count → item_at at ≡ Err f
       → with_front front (list_at item_at (count - i) at) ≡ total → total ≡ Err f
   unfolding list_at
-  ends f front count i at total lt h so_far =
+  list_read_fails_with_item f front count i at total lt h so_far =
       let k : count - i ≡ suc (count - (i + 1)) = omega arith in
       let one : with_front front (list_at item_at (count - i) at) ≡ Err f = rw (k, h) refl in
       sym so_far ∙ one

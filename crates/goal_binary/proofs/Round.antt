@@ -15,12 +15,12 @@ use Rattle.goal_binary.proofs.Steps.{IsBytes, ok_injective}
 use Rattle.goal_binary.proofs.RanksTaken.{meaningful_bytes_are_written}
 use Rattle.goal_binary.proofs.RanksAgain.{meaning_of_written_schedule}
 
-two_files : (bytes : List ℕ) (plans : List Plan) (l : Layout) → bytes ≡ written l plans → (bytes ≡ file plans) ⊎ (bytes ≡ old plans)
-two_files bytes plans Packed is = inl is
-two_files bytes plans Fixed is = inr is
+written_is_new_or_old_file : (bytes : List ℕ) (plans : List Plan) (l : Layout) → bytes ≡ written l plans → (bytes ≡ file plans) ⊎ (bytes ≡ old plans)
+written_is_new_or_old_file bytes plans Packed is = inl is
+written_is_new_or_old_file bytes plans Fixed is = inr is
 
 pub meaningful_bytes_are_new_or_old : (bytes : List ℕ) → IsBytes bytes → (plans : List Plan) → meaning bytes ≡ Ok plans → (bytes ≡ file plans) ⊎ (bytes ≡ old plans)
-meaningful_bytes_are_new_or_old bytes fits plans said = let w = meaningful_bytes_are_written bytes fits plans said in two_files bytes plans w.layout w.is
+meaningful_bytes_are_new_or_old bytes fits plans said = let w = meaningful_bytes_are_written bytes fits plans said in written_is_new_or_old_file bytes plans w.layout w.is
 
 pub read_bytes_are_new_or_old : (bytes : List ℕ) (r : Result (List Plan) FileFault) → IsBytes bytes → IfOk r (λ plans. meaning bytes ≡ Ok plans) → IfOk r (λ plans. (bytes ≡ file plans) ⊎ (bytes ≡ old plans))
 read_bytes_are_new_or_old bytes (Ok plans) fits said = meaningful_bytes_are_new_or_old bytes fits plans said

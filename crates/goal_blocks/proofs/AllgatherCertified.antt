@@ -26,7 +26,7 @@ use Rattle.goal_blocks.proofs.MadeFits.{allgather_fits}
 use Rattle.goal_blocks.proofs.MadePaired.{RingHop, ring_send, ring_recv, ring_messages}
 use Rattle.goal_blocks.proofs.Sizes.{sum_below_few, sum_low_few, entries_small}
 use Rattle.goal_blocks.proofs.Totals.{entries_few}
-use Rattle.goal_blocks.proofs.Blueprint.{moved, touches, writes, Precedes, now, IsThere, Origin, Final, IsBlueprint, IsBounded, blueprint_certified}
+use Rattle.goal_blocks.proofs.Blueprint.{slots_moved_by, touches, writes, Precedes, now, IsThere, Origin, Final, IsBlueprint, IsBounded, blueprint_certified}
 
 -- the slots of one slot's span
 pub slots_of_single_slot : (k : ℕ) → flat_map slots_of_span (slot k) ≡ k ∷ []
@@ -96,19 +96,19 @@ module _ (ranks bytes : ℕ) (some : 0 < ranks) (few : ranks ≤ 512) where
   moved_slot : ℕ → ℕ → ℕ
   moved_slot r i = back ranks r ((i + 1) / 2)
 
-  moves_place : (r i : ℕ) → moved (entry r i) ≡ moved_slot r i ∷ []
+  moves_place : (r i : ℕ) → slots_moved_by (entry r i) ≡ moved_slot r i ∷ []
   unfolding moved_slot
-  moves_place r i = ⊎_elim (λ p. subst (λ (n : ℕ). moved (entry r n) ≡ back ranks r ((n + 1) / 2) ∷ []) (sym p.1) (even p.0)) (λ p. subst (λ (n : ℕ). moved (entry r n) ≡ back ranks r ((n + 1) / 2) ∷ []) (sym p.1) (odd p.0)) (cases_step i)
+  moves_place r i = ⊎_elim (λ p. subst (λ (n : ℕ). slots_moved_by (entry r n) ≡ back ranks r ((n + 1) / 2) ∷ []) (sym p.1) (even p.0)) (λ p. subst (λ (n : ℕ). slots_moved_by (entry r n) ≡ back ranks r ((n + 1) / 2) ∷ []) (sym p.1) (odd p.0)) (cases_step i)
     where
-      even : (s : ℕ) → moved (entry r (2 * s)) ≡ back ranks r ((2 * s + 1) / 2) ∷ []
+      even : (s : ℕ) → slots_moved_by (entry r (2 * s)) ≡ back ranks r ((2 * s + 1) / 2) ∷ []
       even s =
           let half : (2 * s + 1) / 2 ≡ s = omega arith in
-          rw half (ap moved (entry_sends r s) ∙ slots_of_single_slot (back ranks r s))
+          rw half (ap slots_moved_by (entry_sends r s) ∙ slots_of_single_slot (back ranks r s))
 
-      odd : (s : ℕ) → moved (entry r (2 * s + 1)) ≡ back ranks r ((2 * s + 1 + 1) / 2) ∷ []
+      odd : (s : ℕ) → slots_moved_by (entry r (2 * s + 1)) ≡ back ranks r ((2 * s + 1 + 1) / 2) ∷ []
       odd s =
           let half : (2 * s + 1 + 1) / 2 ≡ s + 1 = omega arith in
-          rw half (ap moved (entry_receives r s) ∙ slots_of_single_slot (back ranks r (s + 1)))
+          rw half (ap slots_moved_by (entry_receives r s) ∙ slots_of_single_slot (back ranks r (s + 1)))
 
   -- a receive writes its slot, and a send none
   writes_place : (r i k : ℕ) → Mem k (writes (entry r i)) → (s : ℕ) × (i ≡ 2 * s + 1) × (back ranks r (s + 1) ≡ k)
@@ -230,9 +230,9 @@ module _ (ranks bytes : ℕ) (some : 0 < ranks) (few : ranks ≤ 512) where
       go (inr (a, b)) (inr (c, d)) (inl (e, f)) = let i = h.inside in let s = h.few in omega (arith, a, b, c, d, e, f, i, s)
       go (inr (a, b)) (inr (c, d)) (inr (e, f)) = let i = h.inside in let s = h.few in omega (arith, a, b, c, d, e, f, i, s)
 
-  message_keeps_values : (h : RingHop ranks bytes) → moved (entry h.from (2 * h.step)) ≡ moved (entry (ahead ranks h.from 1) (2 * h.step + 1))
+  message_keeps_values : (h : RingHop ranks bytes) → slots_moved_by (entry h.from (2 * h.step)) ≡ slots_moved_by (entry (ahead ranks h.from 1) (2 * h.step + 1))
   message_keeps_values h =
-      ap moved (entry_sends h.from h.step) ∙ slots_of_single_slot (back ranks h.from h.step) ∙ ap (λ (n : ℕ). n ∷ []) (sym (sent_slot_is_received_slot h)) ∙ sym (ap moved (entry_receives (ahead ranks h.from 1) h.step) ∙ slots_of_single_slot (back ranks (ahead ranks h.from 1) (h.step + 1)))
+      ap slots_moved_by (entry_sends h.from h.step) ∙ slots_of_single_slot (back ranks h.from h.step) ∙ ap (λ (n : ℕ). n ∷ []) (sym (sent_slot_is_received_slot h)) ∙ sym (ap slots_moved_by (entry_receives (ahead ranks h.from 1) h.step) ∙ slots_of_single_slot (back ranks (ahead ranks h.from 1) (h.step + 1)))
 
   blueprint : IsBlueprint ranks count entry first (wanted Allgather ranks) own_value own_value (RingHop ranks bytes) bytes (ring_send ranks bytes) (ring_recv ranks bytes) (λ h. h.step) level
   blueprint = record {

@@ -29,7 +29,7 @@ use Rattle.goal_blocks.proofs.MadePaired.{at, at_of_equal_numbers}
 use Rattle.goal_blocks.proofs.Sizes.{sum_below_few, sum_low_few, entries_small}
 use Rattle.goal_blocks.proofs.Totals.{entries_few}
 use Rattle.goal_blocks.proofs.AllgatherCertified.{slots_of_single_slot, back_injective, back_zero, back_back}
-use Rattle.goal_blocks.proofs.Blueprint.{moved, touches, writes, Precedes, IsThere, Origin, Final, IsBlueprint, IsBounded, blueprint_certified}
+use Rattle.goal_blocks.proofs.Blueprint.{slots_moved_by, touches, writes, Precedes, IsThere, Origin, Final, IsBlueprint, IsBounded, blueprint_certified}
 
 module _ (ranks bytes : ℕ) (some : 0 < ranks) (few : ranks ≤ 512) where
   abbrev count : ℕ → ℕ
@@ -190,13 +190,13 @@ module _ (ranks bytes : ℕ) (some : 0 < ranks) (few : ranks ≤ 512) where
       sum =
           (let to = first_empty_elsewhere r (ranks + r) (omega arith) in let from = starts_with_own_item_for_each r r there.0 there.0 in λ i. merge (to i) (from i)) ∙ ap (λ (n : ℕ). single n r) (sym slot_is)
 
-  message_keeps_values : (h : Shift) → map (first h.from) (moved (entry h.from (suc (2 * h.step)))) ≡ map (shift_leaves (ahead ranks h.from (h.step + 1)) 0) (moved (entry (ahead ranks h.from (h.step + 1)) (suc (2 * h.step + 1))))
+  message_keeps_values : (h : Shift) → map (first h.from) (slots_moved_by (entry h.from (suc (2 * h.step)))) ≡ map (shift_leaves (ahead ranks h.from (h.step + 1)) 0) (slots_moved_by (entry (ahead ranks h.from (h.step + 1)) (suc (2 * h.step + 1))))
   message_keeps_values h =
       let low = h.few_steps in
       let to = ahead ranks h.from (h.step + 1) in
       let home = back_ahead ranks h.from (h.step + 1) h.inside (omega (arith, low)) in
       let number : ranks + back ranks to (h.step + 1) - ranks ≡ h.from = omega (arith, home) in
-      ap (λ (ks : List ℕ). map (first h.from) ks) (ap moved (entry_sends h.from h.step) ∙ slots_of_single_slot to) ∙ ap (λ (v : Value). v ∷ []) (starts_with_own_item_for_each h.from to h.inside (ahead_below ranks h.from (h.step + 1) h.inside (omega (arith, low)))) ∙ sym (ap (λ (ks : List ℕ). map (shift_leaves to 0) ks) (ap moved (entry_receives to h.step) ∙ slots_of_single_slot (ranks + back ranks to (h.step + 1))) ∙ ap (λ (n : ℕ). single n to ∷ []) number)
+      ap (λ (ks : List ℕ). map (first h.from) ks) (ap slots_moved_by (entry_sends h.from h.step) ∙ slots_of_single_slot to) ∙ ap (λ (v : Value). v ∷ []) (starts_with_own_item_for_each h.from to h.inside (ahead_below ranks h.from (h.step + 1) h.inside (omega (arith, low)))) ∙ sym (ap (λ (ks : List ℕ). map (shift_leaves to 0) ks) (ap slots_moved_by (entry_receives to h.step) ∙ slots_of_single_slot (ranks + back ranks to (h.step + 1))) ∙ ap (λ (n : ℕ). single n to ∷ []) number)
 
   wanted_at_end : (r k : ℕ) → r < ranks → ranks ≤ k → k < ranks + ranks → wanted Alltoall ranks r k (single (k - ranks) r) ≡ true
   unfolding wanted is_value
@@ -287,7 +287,7 @@ module _ (ranks bytes : ℕ) (some : 0 < ranks) (few : ranks ≤ 512) where
   blueprint_is_bounded size = record {
     first_cap = first_cap;
     leaves_cap = λ r i k there w. let low = cap_low r k (written_slot_below_twice_ranks r i k there.0 w) in omega (arith, low);
-    finds_load = λ h. subst (λ (ks : List ℕ). sum_by (λ (v : Value). length v) (map (first h.from) ks) ≤ 1) (sym (ap moved (entry_sends h.from h.step) ∙ slots_of_single_slot (ahead ranks h.from (h.step + 1)))) (let few_here = first_few h.from (ahead ranks h.from (h.step + 1)) in omega (arith, few_here));
+    finds_load = λ h. subst (λ (ks : List ℕ). sum_by (λ (v : Value). length v) (map (first h.from) ks) ≤ 1) (sym (ap slots_moved_by (entry_sends h.from h.step) ∙ slots_of_single_slot (ahead ranks h.from (h.step + 1)))) (let few_here = first_few h.from (ahead ranks h.from (h.step + 1)) in omega (arith, few_here));
     total = total;
   }
     where

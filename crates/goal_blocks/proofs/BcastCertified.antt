@@ -28,7 +28,7 @@ use Rattle.goal_blocks.proofs.BcastOfTwo.{successor_slot_is_not_zero}
 use Rattle.goal_blocks.proofs.BcastPaired.{TreeHop, tree_send, tree_recv, tree_messages}
 use Rattle.goal_blocks.proofs.Sizes.{sum_below_few, sum_low_few, entries_small}
 use Rattle.goal_blocks.proofs.Totals.{entries_few}
-use Rattle.goal_blocks.proofs.Blueprint.{moved, touches, writes, Precedes, now, IsBlueprint, IsBounded, blueprint_certified}
+use Rattle.goal_blocks.proofs.Blueprint.{slots_moved_by, touches, writes, Precedes, now, IsBlueprint, IsBounded, blueprint_certified}
 
 -- the tag of a send or a receive
 abbrev pub tag_of : Kind → ℕ
@@ -72,7 +72,7 @@ module _ (ranks root bytes : ℕ) (rooted : root < ranks) (few : ranks ≤ rank_
   unfolding initial
   first_at_root r inside e = rw (lt-ltb r ranks inside, eq-eqb r root (virtual_rank_zero_is_root ranks r root inside rooted e)) refl
 
-  moved_one : (v i : ℕ) → moved (bcast_in ranks root bytes v i) ≡ 0 ∷ []
+  moved_one : (v i : ℕ) → slots_moved_by (bcast_in ranks root bytes v i) ≡ 0 ∷ []
   unfolding bcast_in slots_from
   moved_one zero i = refl
   moved_one (suc v) zero = refl

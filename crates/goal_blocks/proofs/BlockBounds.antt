@@ -20,7 +20,7 @@ use Rattle.goal_blocks.proofs.Tree.{rounds_low}
 use Rattle.goal_blocks.proofs.TreeSizes.{block_size, block_cap, block_load, cap_of_block, blocks_held, blocks_moved}
 use Rattle.goal_blocks.proofs.Shares.{IsInShare, share_length, share_low, moved_notes, moving_low}
 use Rattle.goal_blocks.proofs.Sizes.{entries_moved}
-use Rattle.goal_blocks.proofs.Blueprint.{moved, writes, IsBounded}
+use Rattle.goal_blocks.proofs.Blueprint.{slots_moved_by, writes, IsBounded}
 
 -- values of one contribution
 lengths_of_one : (f : ℕ → Value) → ((k : ℕ) → length (f k) ≡ 1) → (ks : List ℕ) → sum_by (λ (v : Value). length v) (map f ks) ≡ length ks
@@ -33,7 +33,7 @@ lengths_of_one f one (k ∷ ks) =
 module _ (ranks : ℕ) (few : ranks ≤ rank_limit) (root : ℕ) (rooted : root < ranks) where
   -- an entry of v moves at most as many slots as its block has, and low ones
   pub record IsMoving (v n : ℕ) (x : Entry) : Type 0 where
-    pub few_moved : length (moved x) ≤ block_size ranks v
+    pub few_moved : length (slots_moved_by x) ≤ block_size ranks v
     pub low_slots : All NamesLowSlots (notes_of n x)
 
   module _ (v n : ℕ) (kind : Kind) (needs : List ℕ) (inside : v < ranks) where
@@ -70,6 +70,6 @@ module _ (ranks : ℕ) (few : ranks ≤ rank_limit) (root : ℕ) (rooted : root 
     blocks_bounded first wanted f M send one first_cap written there = record {
       first_cap = first_cap;
       leaves_cap = λ r i k at w. let is = written (back ranks r root) i k (back_below ranks r root at.0) at.1 w in let full = cap_of_block ranks few root rooted r k is.slot is.from is.before in let size = one k in omega (arith, full, size);
-      finds_load = λ m. let moves = (moving (back ranks (send m).rank root) (send m).op 0 (back_below ranks (send m).rank root (there m).0) (there m).1).few_moved in let is = lengths_of_one f one (moved (e (back ranks (send m).rank root) (send m).op)) in omega (arith, is, moves);
+      finds_load = λ m. let moves = (moving (back ranks (send m).rank root) (send m).op 0 (back_below ranks (send m).rank root (there m).0) (there m).1).few_moved in let is = lengths_of_one f one (slots_moved_by (e (back ranks (send m).rank root) (send m).op)) in omega (arith, is, moves);
       total = (let stores = blocks_held ranks few root rooted in let loads = blocks_moved ranks few root rooted (λ r. count (back ranks r root)) (λ r. most (back ranks r root)) in omega (arith, stores, loads));
     }

@@ -42,14 +42,14 @@ use Rattle.goal_blocks.proofs.Right.{matched_right}
 use Rattle.goal_graph.proofs.ForCallers.{op_of_kind}
 
 -- the slots that an entry moves, those that it touches, and those that it writes
-abbrev pub moved : Entry → List ℕ
-moved e = flat_map slots_of_span e.moves
+abbrev pub slots_moved_by : Entry → List ℕ
+slots_moved_by e = flat_map slots_of_span e.moves
 
 abbrev pub touches : Entry → List ℕ
-touches e = touched_in (Some e.kind) (moved e) e.adds
+touches e = touched_in (Some e.kind) (slots_moved_by e) e.adds
 
 abbrev pub writes : Entry → List ℕ
-writes e = written_in (Some e.kind) (moved e) e.adds
+writes e = written_in (Some e.kind) (slots_moved_by e) e.adds
 
 -- entry i of a rank precedes entry j: j requires i, directly or through other entries
 pub data Precedes (w : ℕ → Entry) : ℕ → ℕ → Type 0 where
@@ -124,14 +124,14 @@ module _ (ranks : ℕ) (count : ℕ → ℕ) (e : ℕ → ℕ → Entry) where
       -- a calc adds one slot to another
       pub summed : (r i nanos : ℕ) → IsThere r i → (e r i).kind ≡ Calc nanos → (a : Adding) × ((e r i).adds ≡ a ∷ []) × (merge (finds r i a.to) (finds r i a.from) ≡ leaves r i a.to)
       -- a receive leaves what its send finds
-      pub kept : (m : M) → map (finds (send m).rank (send m).op) (moved (e (send m).rank (send m).op)) ≡ map (leaves (recv m).rank (recv m).op) (moved (e (recv m).rank (recv m).op))
+      pub kept : (m : M) → map (finds (send m).rank (send m).op) (slots_moved_by (e (send m).rank (send m).op)) ≡ map (leaves (recv m).rank (recv m).op) (slots_moved_by (e (recv m).rank (recv m).op))
       pub final : (r k : ℕ) → r < ranks → Final r k
 
     -- bounds of the values in slots, and of the payloads of sends, which are together not too much
     pub record IsBounded (M : Type 0) (send : M → OpId) (cap load : ℕ → ℕ → ℕ) : Type 0 where
       pub first_cap : (r k : ℕ) → length (first r k) ≤ cap r k
       pub leaves_cap : (r i k : ℕ) → IsThere r i → Mem k (writes (e r i)) → length (leaves r i k) ≤ cap r k
-      pub finds_load : (m : M) → sum_by (λ (v : Value). length v) (map (finds (send m).rank (send m).op) (moved (e (send m).rank (send m).op))) ≤ load (send m).rank (send m).op
+      pub finds_load : (m : M) → sum_by (λ (v : Value). length v) (map (finds (send m).rank (send m).op) (slots_moved_by (e (send m).rank (send m).op))) ≤ load (send m).rank (send m).op
       pub total : sum_below ranks (λ r. sum_below (2 ^ 32) (cap r)) + sum_by (λ r. sum_by (load r) (range_with_len 0 (count r))) (range_with_len 0 ranks) ≤ weight_limit
 
     module _ (M : Type 0) (bytes : ℕ) (send recv : M → OpId) (tag : M → ℕ) (level : ℕ → ℕ → ℕ) (blueprint : IsBlueprint M bytes send recv tag level) where
@@ -262,7 +262,7 @@ module _ (ranks : ℕ) (count : ℕ → ℕ) (e : ℕ → ℕ → Entry) where
       no_race x y c =
           ordered x y c.one_rank c.two c.slot (contains_mem c.slot (touched made_plans x) c.is_touched) (contains_mem c.slot (written made_plans y) c.is_written)
 
-      slots_are : (x : OpId) → IsThere x.rank x.op → slots made_plans x ≡ moved (e x.rank x.op)
+      slots_are : (x : OpId) → IsThere x.rank x.op → slots made_plans x ≡ slots_moved_by (e x.rank x.op)
       slots_are x there = slots_there ranks count e x.rank x.op there.0 there.1
 
       send_is_there : (m : M) → IsThere (send m).rank (send m).op
@@ -278,7 +278,7 @@ module _ (ranks : ℕ) (count : ℕ → ℕ) (e : ℕ → ℕ → Entry) where
         where
           of_message : (s : M) → length (slots made_plans (send s)) ≡ length (slots made_plans (recv s))
           of_message s =
-              ap length (slots_are (send s) (send_is_there s)) ∙ sym (length-map (moved (entry_at (send s))) (finds (send s).rank (send s).op)) ∙ ap length (blueprint.kept s) ∙ length-map (moved (entry_at (recv s))) (leaves (recv s).rank (recv s).op) ∙ sym (ap length (slots_are (recv s) (recv_is_there s)))
+              ap length (slots_are (send s) (send_is_there s)) ∙ sym (length-map (slots_moved_by (entry_at (send s))) (finds (send s).rank (send s).op)) ∙ ap length (blueprint.kept s) ∙ length-map (slots_moved_by (entry_at (recv s))) (leaves (recv s).rank (recv s).op) ∙ sym (ap length (slots_are (recv s) (recv_is_there s)))
 
       -- the values of the operations, given by those of the entries
       abbrev found : OpId → ℕ → Value
@@ -327,11 +327,11 @@ module _ (ranks : ℕ) (count : ℕ → ℕ) (e : ℕ → ℕ → Entry) where
 
       touches_calc : (r i nanos : ℕ) (a : Adding) → (e r i).kind ≡ Calc nanos → (e r i).adds ≡ a ∷ [] → touches (e r i) ≡ a.from ∷ a.to ∷ []
       touches_calc r i nanos a k f =
-          ap (λ (kind : Kind). touched_in (Some kind) (moved (e r i)) (e r i).adds) k ∙ ap (λ (xs : List Adding). flat_map (λ (a : Adding). a.from ∷ a.to ∷ []) xs) f
+          ap (λ (kind : Kind). touched_in (Some kind) (slots_moved_by (e r i)) (e r i).adds) k ∙ ap (λ (xs : List Adding). flat_map (λ (a : Adding). a.from ∷ a.to ∷ []) xs) f
 
       writes_calc : (r i nanos : ℕ) (a : Adding) → (e r i).kind ≡ Calc nanos → (e r i).adds ≡ a ∷ [] → writes (e r i) ≡ a.to ∷ []
       writes_calc r i nanos a k f =
-          ap (λ (kind : Kind). written_in (Some kind) (moved (e r i)) (e r i).adds) k ∙ ap (λ (xs : List Adding). map (λ (a : Adding). a.to) xs) f
+          ap (λ (kind : Kind). written_in (Some kind) (slots_moved_by (e r i)) (e r i).adds) k ∙ ap (λ (xs : List Adding). map (λ (a : Adding). a.to) xs) f
 
       calc_kind : (x : OpId) (calc : IsCalc made_plans x) → IsThere x.rank x.op × (entry_at x).kind ≡ Calc calc.nanos
       calc_kind x calc =
@@ -371,7 +371,7 @@ module _ (ranks : ℕ) (count : ℕ → ℕ) (e : ℕ → ℕ → Entry) where
           of_message u v =
               let sent = ap (λ (ks : List ℕ). map (found (send u)) ks) (slots_are (send u) (send_is_there u)) ∙ blueprint.kept u in
               let got = slots_are (recv u) (recv_is_there u) in
-              (λ i. write (recv u).rank (got i) (sent i) s (recv u).rank k) ∙ write_map (recv u).rank (moved (entry_at (recv u))) (left_by (recv u)) s k (subst (λ (kind : Kind). Mem k (written_in (Some kind) (moved (entry_at (recv u))) (entry_at (recv u)).adds)) (blueprint.messages.received u) (writing (recv u) k v).1)
+              (λ i. write (recv u).rank (got i) (sent i) s (recv u).rank k) ∙ write_map (recv u).rank (slots_moved_by (entry_at (recv u))) (left_by (recv u)) s k (subst (λ (kind : Kind). Mem k (written_in (Some kind) (slots_moved_by (entry_at (recv u))) (entry_at (recv u)).adds)) (blueprint.messages.received u) (writing (recv u) k v).1)
 
       flow : IsFlow made_plans matched first found left_by
       flow = record { source = sources; moves = moves; sums = sums }

@@ -25,11 +25,11 @@ use Rattle.goal_blocks.proofs.Trees.{rounds_few, child_below}
 use Rattle.goal_blocks.proofs.Tree.{rounds_low, low_zero, IsInRound, round_of_descendant, round_of_descendant_unique, round_in_block}
 use Rattle.goal_blocks.proofs.TreeSizes.{block_cap, block_load, cap_of_block}
 use Rattle.goal_blocks.proofs.BlockBounds.{IsMoving, own_block, child_block, blocks_small, blocks_bounded}
-use Rattle.goal_blocks.proofs.TreeMessages.{TreeEdge, above, above_is_parent, above_inside, virtual, child_end, parent_end, AreTreeEnds, up_messages}
+use Rattle.goal_blocks.proofs.TreeMessages.{TreeEdge, above, above_is_parent, above_inside, back_from_ahead_is_virtual_rank, child_end, parent_end, AreTreeEnds, up_messages}
 use Rattle.goal_blocks.proofs.TreeCases.{gather_hears, gather_sends}
 use Rattle.goal_blocks.proofs.Shares.{IsInShare, mem_share_is_in_share, in_share_is_mem_share}
 use Rattle.goal_blocks.proofs.BcastCertified.{tag_of}
-use Rattle.goal_blocks.proofs.Blueprint.{moved, touches, writes, Precedes, now, Origin, Final, IsBlueprint, blueprint_certified}
+use Rattle.goal_blocks.proofs.Blueprint.{slots_moved_by, touches, writes, Precedes, now, Origin, Final, IsBlueprint, blueprint_certified}
 
 module _ (ranks root bytes : ℕ) (rooted : root < ranks) (few : ranks ≤ rank_limit) where
   abbrev entry_in : ℕ → ℕ → Entry
@@ -199,18 +199,18 @@ module _ (ranks root bytes : ℕ) (rooted : root < ranks) (few : ranks ≤ rank_
     block : List ℕ
     block = flat_map slots_of_span (share ranks root m.child (2 ^ low m.child))
 
-    given_slots : moved (entry_in m.child (rounds ranks m.child)) ≡ block
+    given_slots : slots_moved_by (entry_in m.child (rounds ranks m.child)) ≡ block
     unfolding block
-    given_slots = ap moved (entry_sends m.child (rounds ranks m.child) (omega arith))
+    given_slots = ap slots_moved_by (entry_sends m.child (rounds ranks m.child) (omega arith))
 
-    heard_slots : moved (entry_in (above ranks root bytes rooted few m) (low m.child)) ≡ block
+    heard_slots : slots_moved_by (entry_in (above ranks root bytes rooted few m) (low m.child)) ≡ block
     unfolding block
     heard_slots =
-        ap moved (entry_receives (above ranks root bytes rooted few m) (low m.child) (above_is_parent ranks root bytes rooted few m).round) ∙ ap (λ (c : ℕ). flat_map slots_of_span (share ranks root c (2 ^ low m.child))) (above_is_parent ranks root bytes rooted few m).child
+        ap slots_moved_by (entry_receives (above ranks root bytes rooted few m) (low m.child) (above_is_parent ranks root bytes rooted few m).round) ∙ ap (λ (c : ℕ). flat_map slots_of_span (share ranks root c (2 ^ low m.child))) (above_is_parent ranks root bytes rooted few m).child
 
-  message_keeps_values : (m : TreeEdge ranks) → map (λ (k : ℕ). single k 0) (moved (entry (ahead ranks m.child root) (rounds ranks m.child))) ≡ map (λ (k : ℕ). single k 0) (moved (entry (ahead ranks (above ranks root bytes rooted few m) root) (low m.child)))
+  message_keeps_values : (m : TreeEdge ranks) → map (λ (k : ℕ). single k 0) (slots_moved_by (entry (ahead ranks m.child root) (rounds ranks m.child))) ≡ map (λ (k : ℕ). single k 0) (slots_moved_by (entry (ahead ranks (above ranks root bytes rooted few m) root) (low m.child)))
   message_keeps_values m =
-      ap (λ (ks : List ℕ). map (λ (k : ℕ). single k 0) ks) (rw (virtual ranks root bytes rooted few m.child m.inside, virtual ranks root bytes rooted few (above ranks root bytes rooted few m) (above_inside ranks root bytes rooted few m)) (given_slots m ∙ sym (heard_slots m)))
+      ap (λ (ks : List ℕ). map (λ (k : ℕ). single k 0) ks) (rw (back_from_ahead_is_virtual_rank ranks root bytes rooted few m.child m.inside, back_from_ahead_is_virtual_rank ranks root bytes rooted few (above ranks root bytes rooted few m) (above_inside ranks root bytes rooted few m)) (given_slots m ∙ sym (heard_slots m)))
 
   blueprint : IsBlueprint ranks count entry first (wanted (Gather root) ranks) item_of_slot item_of_slot (TreeEdge ranks) bytes gather_send gather_recv (λ m. low m.child) level
   blueprint = record {

@@ -31,13 +31,13 @@ use Rattle.goal_blocks.proofs.RingAndTree.{back_below, upward_some, upward_few}
 use Rattle.goal_blocks.proofs.Trees.{rounds_few, child_below, sum_range, sum_below_le, tree_total}
 use Rattle.goal_blocks.proofs.Tree.{low_zero, rounds_low, round_with_child_exists}
 use Rattle.goal_blocks.proofs.TreeCases.{reduce_hears, reduce_sums, reduce_sends}
-use Rattle.goal_blocks.proofs.TreeMessages.{TreeEdge, above, above_is_parent, above_inside, virtual, AreTreeEnds, child_end, parent_end, up_messages}
+use Rattle.goal_blocks.proofs.TreeMessages.{TreeEdge, above, above_is_parent, above_inside, back_from_ahead_is_virtual_rank, AreTreeEnds, child_end, parent_end, up_messages}
 use Rattle.goal_blocks.proofs.TreeSizes.{block_size, sizes_sum, sum_below_times}
 use Rattle.goal_blocks.proofs.Gathered.{block, block_first, block_of_next_round, blocks_past_ranks_are_equal, block_all, length-block}
 use Rattle.goal_blocks.proofs.Doubling.{doubling, doubling_zero, doubling_early, doubling_high}
 use Rattle.goal_blocks.proofs.MovedSlots.{sum_with_one_nonzero}
 use Rattle.goal_blocks.proofs.Sizes.{entries_small}
-use Rattle.goal_blocks.proofs.Blueprint.{moved, touches, writes, Precedes, now, after, IsThere, Origin, Final, IsBlueprint, IsBounded, blueprint_certified}
+use Rattle.goal_blocks.proofs.Blueprint.{slots_moved_by, touches, writes, Precedes, now, after, IsThere, Origin, Final, IsBlueprint, IsBounded, blueprint_certified}
 use Rattle.goal_blocks.proofs.Wishes.{is_value_reflexive}
 
 -- an even number, or an odd one
@@ -289,7 +289,7 @@ module _ (ranks root bytes : ℕ) (rooted : root < ranks) (few : ranks ≤ rank_
 
   -- the place of a virtual rank's rank
   virtual_rank_of_ahead : (v : ℕ) → v < ranks → virtual_rank (ahead ranks v root) ≡ v
-  virtual_rank_of_ahead v l = virtual ranks root bytes rooted few v l
+  virtual_rank_of_ahead v l = back_from_ahead_is_virtual_rank ranks root bytes rooted few v l
 
   abbrev parent_of_edge : TreeEdge ranks → ℕ
   parent_of_edge m = above ranks root bytes rooted few m
@@ -409,17 +409,17 @@ module _ (ranks root bytes : ℕ) (rooted : root < ranks) (few : ranks ≤ rank_
   part_is_complete v =
       ⊎_elim (λ e. ap (λ (j : ℕ). block ranks root j v) e) (λ g. blocks_past_ranks_are_equal ranks root (children v) (low v) v g (let more : 2 ^ children v ≤ 2 ^ low v = pow_mono (rounds_low ranks few v) in omega (arith, g, more))) (rounds_cover_part v)
 
-  message_keeps_values : (m : TreeEdge ranks) → map (finds (edge_send m).rank (edge_send m).op) (moved (entry (edge_send m).rank (edge_send m).op)) ≡ map (leaves (edge_recv m).rank (edge_recv m).op) (moved (entry (edge_recv m).rank (edge_recv m).op))
+  message_keeps_values : (m : TreeEdge ranks) → map (finds (edge_send m).rank (edge_send m).op) (slots_moved_by (entry (edge_send m).rank (edge_send m).op)) ≡ map (leaves (edge_recv m).rank (edge_recv m).op) (slots_moved_by (entry (edge_recv m).rank (edge_recv m).op))
   message_keeps_values m =
       sent ∙ ap (λ (v : Value). v ∷ []) same ∙ sym received
     where
-      sent : map (finds (edge_send m).rank (edge_send m).op) (moved (entry (edge_send m).rank (edge_send m).op)) ≡ tree_finds m.child (children m.child + children m.child) 0 ∷ []
+      sent : map (finds (edge_send m).rank (edge_send m).op) (slots_moved_by (entry (edge_send m).rank (edge_send m).op)) ≡ tree_finds m.child (children m.child + children m.child) 0 ∷ []
       sent =
-          ap (λ (v : ℕ). map (tree_finds v (children m.child + children m.child)) (moved (tree_entry v (children m.child + children m.child)))) (virtual_rank_of_ahead m.child m.inside) ∙ ap (λ (ks : List ℕ). map (tree_finds m.child (children m.child + children m.child)) ks) (ap moved (entry_sends m.child) ∙ slots_of_single_slot 0)
+          ap (λ (v : ℕ). map (tree_finds v (children m.child + children m.child)) (slots_moved_by (tree_entry v (children m.child + children m.child)))) (virtual_rank_of_ahead m.child m.inside) ∙ ap (λ (ks : List ℕ). map (tree_finds m.child (children m.child + children m.child)) ks) (ap slots_moved_by (entry_sends m.child) ∙ slots_of_single_slot 0)
 
-      received : map (leaves (edge_recv m).rank (edge_recv m).op) (moved (entry (edge_recv m).rank (edge_recv m).op)) ≡ tree_leaves (parent_of_edge m) (low m.child + low m.child) (low m.child + 1) ∷ []
+      received : map (leaves (edge_recv m).rank (edge_recv m).op) (slots_moved_by (entry (edge_recv m).rank (edge_recv m).op)) ≡ tree_leaves (parent_of_edge m) (low m.child + low m.child) (low m.child + 1) ∷ []
       received =
-          ap (λ (v : ℕ). map (tree_leaves v (low m.child + low m.child)) (moved (tree_entry v (low m.child + low m.child)))) (virtual_rank_of_ahead (parent_of_edge m) (up_inside m)) ∙ ap (λ (ks : List ℕ). map (tree_leaves (parent_of_edge m) (low m.child + low m.child)) ks) (ap moved (entry_receives (parent_of_edge m) (low m.child) (up_round m)) ∙ slots_of_single_slot (low m.child + 1))
+          ap (λ (v : ℕ). map (tree_leaves v (low m.child + low m.child)) (slots_moved_by (tree_entry v (low m.child + low m.child)))) (virtual_rank_of_ahead (parent_of_edge m) (up_inside m)) ∙ ap (λ (ks : List ℕ). map (tree_leaves (parent_of_edge m) (low m.child + low m.child)) ks) (ap slots_moved_by (entry_receives (parent_of_edge m) (low m.child) (up_round m)) ∙ slots_of_single_slot (low m.child + 1))
 
       same : tree_finds m.child (children m.child + children m.child) 0 ≡ tree_leaves (parent_of_edge m) (low m.child + low m.child) (low m.child + 1)
       same =
@@ -541,12 +541,12 @@ module _ (ranks root bytes : ℕ) (rooted : root < ranks) (few : ranks ≤ rank_
       go (by_adding j l e f) =
           subst (λ (k : ℕ). length (leaves r i k) ≤ cap r k) f (let is = ap length (leaves_zero (virtual_rank r) i j (omega (arith, e))) in let size = length-block ranks root (suc j) (virtual_rank r) in let room = doubling_zero (children (virtual_rank r)) in let le : 2 ^ suc j ≤ 2 ^ children (virtual_rank r) = pow_mono (omega (arith, l)) in omega (arith, is, size, room, le))
 
-  finds_load : (m : TreeEdge ranks) → sum_by (λ (v : Value). length v) (map (finds (edge_send m).rank (edge_send m).op) (moved (entry (edge_send m).rank (edge_send m).op))) ≤ load (edge_send m).rank (edge_send m).op
+  finds_load : (m : TreeEdge ranks) → sum_by (λ (v : Value). length v) (map (finds (edge_send m).rank (edge_send m).op) (slots_moved_by (entry (edge_send m).rank (edge_send m).op))) ≤ load (edge_send m).rank (edge_send m).op
   finds_load m =
       let is = ap length (finds_zero m.child (children m.child + children m.child) (children m.child) (omega arith)) in
       let size = length-block ranks root (children m.child) m.child in
       let room : load (ahead ranks m.child root) (children m.child + children m.child) ≡ 2 ^ children m.child = load_send (ahead ranks m.child root) (children m.child + children m.child) (ap (λ (v : ℕ). children v + children v) (sym (virtual_rank_of_ahead m.child m.inside))) ∙ ap (λ (v : ℕ). 2 ^ children v) (virtual_rank_of_ahead m.child m.inside) in
-      subst (λ (vs : List Value). sum_by (λ (v : Value). length v) vs ≤ load (ahead ranks m.child root) (children m.child + children m.child)) (sym (ap (λ (v : ℕ). map (tree_finds v (children m.child + children m.child)) (moved (tree_entry v (children m.child + children m.child)))) (virtual_rank_of_ahead m.child m.inside) ∙ ap (λ (ks : List ℕ). map (tree_finds m.child (children m.child + children m.child)) ks) (ap moved (entry_sends m.child) ∙ slots_of_single_slot 0))) (omega (arith, is, size, room))
+      subst (λ (vs : List Value). sum_by (λ (v : Value). length v) vs ≤ load (ahead ranks m.child root) (children m.child + children m.child)) (sym (ap (λ (v : ℕ). map (tree_finds v (children m.child + children m.child)) (slots_moved_by (tree_entry v (children m.child + children m.child)))) (virtual_rank_of_ahead m.child m.inside) ∙ ap (λ (ks : List ℕ). map (tree_finds m.child (children m.child + children m.child)) ks) (ap slots_moved_by (entry_sends m.child) ∙ slots_of_single_slot 0))) (omega (arith, is, size, room))
 
   -- two to the number of children of a virtual rank is at most twice the size of its part of the tree
   power_few : (v : ℕ) → v < ranks → 2 ^ children v ≤ 2 * block_size ranks v

@@ -29,7 +29,7 @@ use Rattle.goal_blocks.proofs.Sizes.{sum_below_few, sum_low_few, entries_small}
 use Rattle.goal_blocks.proofs.Totals.{entries_few, sum_range_few}
 use Rattle.goal_blocks.proofs.AllgatherCertified.{slots_of_single_slot}
 use Rattle.goal_blocks.proofs.Rounds.{cases_triple}
-use Rattle.goal_blocks.proofs.Blueprint.{moved, touches, writes, Precedes, now, IsThere, Origin, Final, IsBlueprint, IsBounded, blueprint_certified}
+use Rattle.goal_blocks.proofs.Blueprint.{slots_moved_by, touches, writes, Precedes, now, IsThere, Origin, Final, IsBlueprint, IsBounded, blueprint_certified}
 use Rattle.goal_blocks.proofs.Wishes.{of_each_single, is_value_reflexive}
 use Rattle.goal_blocks.proofs.Picked.{picked, picked_few, picked_same, insert_picked, picked_none, picked_all}
 
@@ -377,13 +377,13 @@ module _ (ranks bytes : ℕ) (some : 0 < ranks) (few : ranks ≤ 128) where
       go (inr (a, b)) (inr (c, d)) (inl (e, f)) = let i = h.inside in let s = h.early in omega (arith, a, b, c, d, e, f, i, s)
       go (inr (a, b)) (inr (c, d)) (inr (e, f)) = let i = h.inside in let s = h.early in omega (arith, a, b, c, d, e, f, i, s)
 
-  message_keeps_values : (h : Pass) → map (rs_finds h.sender (3 * h.step)) (moved (entry h.sender (3 * h.step))) ≡ map (rs_leaves (ahead ranks h.sender 1) (3 * h.step + 1)) (moved (entry (ahead ranks h.sender 1) (3 * h.step + 1)))
+  message_keeps_values : (h : Pass) → map (rs_finds h.sender (3 * h.step)) (slots_moved_by (entry h.sender (3 * h.step))) ≡ map (rs_leaves (ahead ranks h.sender 1) (3 * h.step + 1)) (slots_moved_by (entry (ahead ranks h.sender 1) (3 * h.step + 1)))
   message_keeps_values h =
       let s = h.step in
       let to = ahead ranks h.sender 1 in
       let a = back ranks h.sender (s + 1) in
       let b = back ranks to (s + 2) in
-      ap (λ (ks : List ℕ). map (rs_finds h.sender (3 * s)) ks) (ap moved (as_send h.sender (3 * s) s refl) ∙ slots_of_single_slot a) ∙ ap (λ (v : Value). v ∷ []) (finds_send h.sender s a (back_below ranks h.sender (s + 1) h.inside) ∙ ap (λ (n : ℕ). window n (s + 1)) (sym (sender_and_receiver_slot_agree h)) ∙ sym (leaves_heard to s b)) ∙ sym (ap (λ (ks : List ℕ). map (rs_leaves to (3 * s + 1)) ks) (ap moved (as_receive to (3 * s + 1) s refl) ∙ slots_of_single_slot (ranks + b)))
+      ap (λ (ks : List ℕ). map (rs_finds h.sender (3 * s)) ks) (ap slots_moved_by (as_send h.sender (3 * s) s refl) ∙ slots_of_single_slot a) ∙ ap (λ (v : Value). v ∷ []) (finds_send h.sender s a (back_below ranks h.sender (s + 1) h.inside) ∙ ap (λ (n : ℕ). window n (s + 1)) (sym (sender_and_receiver_slot_agree h)) ∙ sym (leaves_heard to s b)) ∙ sym (ap (λ (ks : List ℕ). map (rs_leaves to (3 * s + 1)) ks) (ap slots_moved_by (as_receive to (3 * s + 1) s refl) ∙ slots_of_single_slot (ranks + b)))
 
   wanted_at_end : (r : ℕ) → r < ranks → wanted ReduceScatter ranks r r (of_each ranks r) ≡ true
   unfolding wanted
@@ -467,12 +467,12 @@ module _ (ranks bytes : ℕ) (some : 0 < ranks) (few : ranks ≤ 128) where
   writes_low r i k p w =
       ⊎_elim (λ v. let h = v.2 in let low = back_below ranks r (v.0 + 2) p in omega (arith, h, low, few)) (λ v. let h = v.2 in let low = back_below ranks r (v.0 + 2) p in omega (arith, h, low, few)) (rs_writes_cases r i k w)
 
-  finds_load : (h : Pass) → sum_by (λ (v : Value). length v) (map (rs_finds h.sender (3 * h.step)) (moved (entry h.sender (3 * h.step)))) ≤ 128
+  finds_load : (h : Pass) → sum_by (λ (v : Value). length v) (map (rs_finds h.sender (3 * h.step)) (slots_moved_by (entry h.sender (3 * h.step)))) ≤ 128
   finds_load h =
       let a = back ranks h.sender (h.step + 1) in
       let size = ap length (finds_send h.sender h.step a (back_below ranks h.sender (h.step + 1) h.inside)) in
       let w = window_few a (h.step + 1) in
-      subst (λ (ks : List ℕ). sum_by (λ (v : Value). length v) (map (rs_finds h.sender (3 * h.step)) ks) ≤ 128) (sym (ap moved (as_send h.sender (3 * h.step) h.step refl) ∙ slots_of_single_slot a)) (omega (arith, size, w, few))
+      subst (λ (ks : List ℕ). sum_by (λ (v : Value). length v) (map (rs_finds h.sender (3 * h.step)) ks) ≤ 128) (sym (ap slots_moved_by (as_send h.sender (3 * h.step) h.step refl) ∙ slots_of_single_slot a)) (omega (arith, size, w, few))
 
   few_ops : sum_by count (range_with_len 0 ranks) ≤ ranks * 381
   few_ops = sum_range_few count ranks 381 (λ r l. omega (arith, few))

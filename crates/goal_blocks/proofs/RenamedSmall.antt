@@ -14,15 +14,15 @@ use Rattle.goal_blocks.specs.Renamed.{renamed_note, renamed_plan, renamed_from, 
 use Rattle.goal_blocks.specs.Laws.{KeepsSlots}
 
 module _ (name : ℕ → ℕ) (low : (slot : ℕ) → slot ≤ slot_limit → name slot ≤ slot_limit) where
-  abbrev one : ℕ → ℕ → Note
-  one op slot = Moves op (name slot) (name slot)
+  abbrev note_moving_slot : ℕ → ℕ → Note
+  note_moving_slot op slot = Moves op (name slot) (name slot)
 
-  low_moves : (op lo n : ℕ) → lo + n ≤ slot_limit + 1 → All NamesLowSlots (map (one op) (slots_from lo n))
+  low_moves : (op lo n : ℕ) → lo + n ≤ slot_limit + 1 → All NamesLowSlots (map (note_moving_slot op) (slots_from lo n))
   unfolding slots_from
   low_moves op lo zero h = All-nil NamesLowSlots
   low_moves op lo (suc n) h =
       let here = low lo (omega (arith, h)) in
-      All-cons NamesLowSlots (one op lo) (map (one op) (slots_from (lo + 1) n)) (here, here) (low_moves op (lo + 1) n (omega (arith, h)))
+      All-cons NamesLowSlots (note_moving_slot op lo) (map (note_moving_slot op) (slots_from (lo + 1) n)) (here, here) (low_moves op (lo + 1) n (omega (arith, h)))
 
   renamed_note_is_low : (n : Note) → NamesLowSlots n → All NamesLowSlots (renamed_note name n)
   renamed_note_is_low (Moves op lo hi) h =
@@ -35,13 +35,13 @@ module _ (name : ℕ → ℕ) (low : (slot : ℕ) → slot ≤ slot_limit → na
   renamed_notes_are_low (n ∷ ns) h =
       subst (λ (ms : List Note). All NamesLowSlots ms) (sym (flat_map-cons (renamed_note name) n ns)) (All-append NamesLowSlots (renamed_note name n) (flat_map (renamed_note name) ns) (renamed_note_is_low n (All-head NamesLowSlots n ns h)) (renamed_notes_are_low ns (All-tail NamesLowSlots n ns h)))
 
-  count_moves : (op lo n : ℕ) → sum_by moved_count (map (one op) (slots_from lo n)) ≡ n
+  count_moves : (op lo n : ℕ) → sum_by moved_count (map (note_moving_slot op) (slots_from lo n)) ≡ n
   unfolding slots_from
   count_moves op lo zero = refl
   count_moves op lo (suc n) =
       let here : name lo + 1 - name lo ≡ 1 = omega arith in
       let rest = count_moves op (lo + 1) n in
-      sum_by-cons moved_count (one op lo) (map (one op) (slots_from (lo + 1) n)) ∙ omega (arith, here, rest)
+      sum_by-cons moved_count (note_moving_slot op lo) (map (note_moving_slot op) (slots_from (lo + 1) n)) ∙ omega (arith, here, rest)
 
   count_note : (n : Note) → sum_by moved_count (renamed_note name n) ≡ moved_count n
   count_note (Moves op lo hi) = count_moves op lo (hi + 1 - lo)
@@ -59,8 +59,8 @@ FewOps p = length p.ops ≤ certified_op_limit
 abbrev LowNotes : Plan → Type 0
 LowNotes p = All NamesLowSlots p.notes
 
-abbrev moved : Plan → ℕ
-moved p = sum_by moved_count p.notes
+abbrev moved_slot_count : Plan → ℕ
+moved_slot_count p = sum_by moved_count p.notes
 
 module _ (name : ℕ → ℕ → ℕ) where
   few_ops : (rank : ℕ) (plans : List Plan) → All FewOps plans → All FewOps (renamed_from name rank plans)
@@ -75,13 +75,13 @@ module _ (name : ℕ → ℕ → ℕ) where
   renamed_plans_have_low_slots low rank (p ∷ ps) h =
       All-cons LowNotes (renamed_plan (name rank) p) (renamed_from name (rank + 1) ps) (renamed_notes_are_low (name rank) (low.low rank) p.notes (All-head LowNotes p ps h)) (renamed_plans_have_low_slots low (rank + 1) ps (All-tail LowNotes p ps h))
 
-  renamed_plans_move_as_many : KeepsSlots name → (rank : ℕ) (plans : List Plan) → sum_by moved (renamed_from name rank plans) ≡ sum_by moved plans
+  renamed_plans_move_as_many : KeepsSlots name → (rank : ℕ) (plans : List Plan) → sum_by moved_slot_count (renamed_from name rank plans) ≡ sum_by moved_slot_count plans
   unfolding renamed_from
   renamed_plans_move_as_many low rank [] = refl
   renamed_plans_move_as_many low rank (p ∷ ps) =
-      sum_by-cons moved (renamed_plan (name rank) p) (renamed_from name (rank + 1) ps)
+      sum_by-cons moved_slot_count (renamed_plan (name rank) p) (renamed_from name (rank + 1) ps)
       ∙ (λ i. count_notes (name rank) (low.low rank) p.notes i + renamed_plans_move_as_many low (rank + 1) ps i)
-      ∙ sym (sum_by-cons moved p ps)
+      ∙ sym (sum_by-cons moved_slot_count p ps)
 
   pub renamed_small : (plans : List Plan) → KeepsSlots name → IsSmall plans → IsSmall (renamed name plans)
   renamed_small plans low small = record {

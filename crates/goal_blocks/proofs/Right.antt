@@ -54,27 +54,27 @@ module _ (plans : List Plan) (no_race : HasNoRace plans) (matched : IsMatched pl
       ordered (inl b) = inl (differ, inl b)
       ordered (inr b) = inr (inl (other, inl b))
 
-  abbrev step : OpId → Held → Held
-  step = ended plans (sender plans matched)
+  abbrev held_after_end : OpId → Held → Held
+  held_after_end = ended plans (sender plans matched)
 
-  abbrev walk : List Act
-  walk = matched.no_stall.walk
+  abbrev walk_of_matched : List Act
+  walk_of_matched = matched.no_stall.walk
 
-  walk_is_complete : IsCompleteInterleaving plans no_send walk
+  walk_is_complete : IsCompleteInterleaving plans no_send walk_of_matched
   walk_is_complete = matched.no_stall.is_walk.complete
 
   -- every complete interleaving leaves what the walk leaves
   pub held_as_the_walk : (first : Store) (eager : OpId → Bool) (h : List Act) → IsCompleteInterleaving plans eager h → held_after plans eager first h ≡ held_after plans no_send first matched.no_stall.walk
   held_as_the_walk first eager h done =
-      held_by_ends plans matched eager first h done.each ∙ (ordered_runs_agree step (start plans first) (Before plans matched) swaps (ends plans eager h) (ends plans no_send walk) (ends_once plans eager h done.each) (ends_once plans no_send walk walk_is_complete.each) (ends_keep plans matched eager h done.each) (ends_keep plans matched no_send walk walk_is_complete.each) into from ∙ sym (held_by_ends plans matched no_send first walk walk_is_complete.each))
+      held_by_ends plans matched eager first h done.each ∙ (ordered_runs_agree held_after_end (start plans first) (Before plans matched) swaps (ends plans eager h) (ends plans no_send walk_of_matched) (ends_once plans eager h done.each) (ends_once plans no_send walk_of_matched walk_is_complete.each) (ends_keep plans matched eager h done.each) (ends_keep plans matched no_send walk_of_matched walk_is_complete.each) into from ∙ sym (held_by_ends plans matched no_send first walk_of_matched walk_is_complete.each))
     where
-      into : (z : OpId) → Mem z (ends plans eager h) → Mem z (ends plans no_send walk)
+      into : (z : OpId) → Mem z (ends plans eager h) → Mem z (ends plans no_send walk_of_matched)
       into z m =
-          ended_listed plans no_send walk z (matched.no_stall.all_end z (listed_op plans eager h z done.each m))
+          ended_listed plans no_send walk_of_matched z (matched.no_stall.all_end z (listed_op plans eager h z done.each m))
 
-      from : (z : OpId) → Mem z (ends plans no_send walk) → Mem z (ends plans eager h)
+      from : (z : OpId) → Mem z (ends plans no_send walk_of_matched) → Mem z (ends plans eager h)
       from z m =
-          ended_listed plans eager h z ((ends_in_its_pairs plans eager h matched done).all_end z (listed_op plans no_send walk z walk_is_complete.each m))
+          ended_listed plans eager h z ((ends_in_its_pairs plans eager h matched done).all_end z (listed_op plans no_send walk_of_matched z walk_is_complete.each m))
 
 -- a matched schedule without races is right everywhere if its walk leaves what is wanted
 pub matched_right : (plans : List Plan) (first : Store) (wanted : ℕ → ℕ → Value → Bool) (matched : IsMatched plans) → HasNoRace plans → HoldsWanted plans wanted (value plans no_send first matched.no_stall.walk) → IsRightEverywhere plans first wanted

@@ -28,7 +28,7 @@ use Rattle.goal_blocks.proofs.Doubling.{doubling, doubling_zero, doubling_early,
 use Rattle.goal_blocks.proofs.Slim.{All_one}
 use Rattle.goal_blocks.proofs.Sizes.{sum_below_few, entries_small}
 use Rattle.goal_blocks.proofs.Totals.{sum_range_few}
-use Rattle.goal_blocks.proofs.Blueprint.{moved, touches, writes, Precedes, now, after, IsThere, Origin, Final, IsBlueprint, IsBounded, blueprint_right, blueprint_certified}
+use Rattle.goal_blocks.proofs.Blueprint.{slots_moved_by, touches, writes, Precedes, now, after, IsThere, Origin, Final, IsBlueprint, IsBounded, blueprint_right, blueprint_certified}
 use Rattle.goal_blocks.proofs.Sorted.{length_merge}
 
 pub pow_le : (a b : ℕ) → a ≤ b → 2 ^ a ≤ 2 ^ b
@@ -72,14 +72,14 @@ module _ (ranks n bytes : ℕ) (to from : ℕ → ℕ → ℕ) (to_rank : (r k :
   abbrev pub rounds_level : ℕ → ℕ → ℕ
   rounds_level r i = 2 * (i / 3) + (i % 3) / 2
 
-  sends : (r k : ℕ) → rounds_entry r (3 * k) ≡ sending bytes (to r k) k (before_round k) (slot 0)
-  sends r k =
+  round_entry_sends : (r k : ℕ) → rounds_entry r (3 * k) ≡ sending bytes (to r k) k (before_round k) (slot 0)
+  round_entry_sends r k =
       let third : 3 * k / 3 ≡ k = omega arith in
       let rest : 3 * k % 3 ≡ 0 = omega arith in
       rw (rest, third) refl
 
-  receives : (r k : ℕ) → rounds_entry r (3 * k + 1) ≡ receiving bytes (from r k) k (slot (k + 1))
-  receives r k =
+  round_entry_receives : (r k : ℕ) → rounds_entry r (3 * k + 1) ≡ receiving bytes (from r k) k (slot (k + 1))
+  round_entry_receives r k =
       let third : (3 * k + 1) / 3 ≡ k = omega arith in
       let rest : (3 * k + 1) % 3 ≡ 1 = omega arith in
       rw (rest, third) refl
@@ -92,10 +92,10 @@ module _ (ranks n bytes : ℕ) (to from : ℕ → ℕ → ℕ) (to_rank : (r k :
 
   -- an entry by the number of its operation
   as_send : (r i k : ℕ) → i ≡ 3 * k → rounds_entry r i ≡ sending bytes (to r k) k (before_round k) (slot 0)
-  as_send r i k e = ap (λ (m : ℕ). rounds_entry r m) e ∙ sends r k
+  as_send r i k e = ap (λ (m : ℕ). rounds_entry r m) e ∙ round_entry_sends r k
 
   as_receive : (r i k : ℕ) → i ≡ 3 * k + 1 → rounds_entry r i ≡ receiving bytes (from r k) k (slot (k + 1))
-  as_receive r i k e = ap (λ (m : ℕ). rounds_entry r m) e ∙ receives r k
+  as_receive r i k e = ap (λ (m : ℕ). rounds_entry r m) e ∙ round_entry_receives r k
 
   as_sum : (r i k : ℕ) → i ≡ 3 * k + 2 → rounds_entry r i ≡ summing ((3 * k) ∷ (3 * k + 1) ∷ []) (k + 1) 0
   as_sum r i k e = ap (λ (m : ℕ). rounds_entry r m) e ∙ adds_up r k
@@ -121,8 +121,8 @@ module _ (ranks n bytes : ℕ) (to from : ℕ → ℕ → ℕ) (to_rank : (r k :
   turn_messages = record {
     send_there = λ t. let early = t.early in (t.inside, omega (arith, early));
     recv_there = λ t. let early = t.early in (to_rank t.sender t.round t.inside t.early, omega (arith, early));
-    sent = λ t. ap (λ (y : Entry). y.kind) (sends t.sender t.round);
-    received = λ t. ap (λ (y : Entry). y.kind) (receives (to t.sender t.round) t.round) ∙ ap (λ (r : ℕ). Recv bytes (Some r) (Some t.round)) (there_and_back t.sender t.round t.inside t.early);
+    sent = λ t. ap (λ (y : Entry). y.kind) (round_entry_sends t.sender t.round);
+    received = λ t. ap (λ (y : Entry). y.kind) (round_entry_receives (to t.sender t.round) t.round) ∙ ap (λ (r : ℕ). Recv bytes (Some r) (Some t.round)) (there_and_back t.sender t.round t.inside t.early);
     cases = λ x in_rank inside. turn_cases x in_rank inside;
     apart = λ t u source target tag. (
       at_of_equal_numbers t.sender (3 * t.round) u.sender (3 * u.round) source (ap (λ (k : ℕ). 3 * k) tag),
@@ -157,7 +157,7 @@ module _ (ranks n bytes : ℕ) (to from : ℕ → ℕ → ℕ) (to_rank : (r k :
   receive_precedes_own_sum r t = now (subst (λ (x : Entry). Mem (3 * t + 1) x.needs) (sym (adds_up r t)) (inr (inl refl)))
 
   next_send_needs_sum : (r t : ℕ) → Mem (3 * t + 2) (rounds_entry r (3 * suc t)).needs
-  next_send_needs_sum r t = subst (λ (x : Entry). Mem (3 * t + 2) x.needs) (sym (sends r (suc t))) (inl refl)
+  next_send_needs_sum r t = subst (λ (x : Entry). Mem (3 * t + 2) x.needs) (sym (round_entry_sends r (suc t))) (inl refl)
 
   sum_needs_send : (r t : ℕ) → Mem (3 * t) (rounds_entry r (3 * t + 2)).needs
   sum_needs_send r t = subst (λ (x : Entry). Mem (3 * t) x.needs) (sym (adds_up r t)) (inl refl)
@@ -194,7 +194,7 @@ module _ (ranks n bytes : ℕ) (to from : ℕ → ℕ → ℕ) (to_rank : (r k :
 
   pub receive_writes : (r k : ℕ) → Mem (k + 1) (writes (rounds_entry r (3 * k + 1)))
   receive_writes r k =
-      subst (λ (x : Entry). Mem (k + 1) (writes x)) (sym (receives r k)) (subst (λ (ks : List ℕ). Mem (k + 1) ks) (sym (slots_of_single_slot (k + 1))) (inl refl))
+      subst (λ (x : Entry). Mem (k + 1) (writes x)) (sym (round_entry_receives r k)) (subst (λ (ks : List ℕ). Mem (k + 1) ks) (sym (slots_of_single_slot (k + 1))) (inl refl))
 
   sum_writes : (r k : ℕ) → Mem 0 (writes (rounds_entry r (3 * k + 2)))
   sum_writes r k = subst (λ (x : Entry). Mem 0 (writes x)) (sym (adds_up r k)) (inl refl)
@@ -307,11 +307,11 @@ module _ (ranks n bytes : ℕ) (to from : ℕ → ℕ → ℕ) (to_rank : (r k :
             let third : i / 3 ≡ k = omega (arith, e) in
             (record { from = k + 1; to = 0 }, ap (λ (x : Entry). x.adds) (as_sum r i k e), (let to_is = finds_zero r i k third in let from_is = finds_other r i k (k + 1) third (omega arith) in λ j. merge (to_is j) (from_is j)) ∙ sym (leaves_zero r i k third))
 
-    kept : (t : Turn) → map (rounds_finds t.sender (3 * t.round)) (moved (rounds_entry t.sender (3 * t.round))) ≡ map (rounds_leaves (to t.sender t.round) (3 * t.round + 1)) (moved (rounds_entry (to t.sender t.round) (3 * t.round + 1)))
+    kept : (t : Turn) → map (rounds_finds t.sender (3 * t.round)) (slots_moved_by (rounds_entry t.sender (3 * t.round))) ≡ map (rounds_leaves (to t.sender t.round) (3 * t.round + 1)) (slots_moved_by (rounds_entry (to t.sender t.round) (3 * t.round + 1)))
     kept t =
         let r = to t.sender t.round in
         let k = t.round in
-        ap (λ (ks : List ℕ). map (rounds_finds t.sender (3 * k)) ks) (ap moved (sends t.sender k) ∙ slots_of_single_slot 0) ∙ ap (λ (v : Value). v ∷ []) (finds_zero t.sender (3 * k) k (omega arith) ∙ ap (λ (q : ℕ). gained k q) (sym (there_and_back t.sender k t.inside t.early)) ∙ sym (leaves_other r (3 * k + 1) k (k + 1) (omega arith) (omega arith))) ∙ sym (ap (λ (ks : List ℕ). map (rounds_leaves r (3 * k + 1)) ks) (ap moved (receives r k) ∙ slots_of_single_slot (k + 1)))
+        ap (λ (ks : List ℕ). map (rounds_finds t.sender (3 * k)) ks) (ap slots_moved_by (round_entry_sends t.sender k) ∙ slots_of_single_slot 0) ∙ ap (λ (v : Value). v ∷ []) (finds_zero t.sender (3 * k) k (omega arith) ∙ ap (λ (q : ℕ). gained k q) (sym (there_and_back t.sender k t.inside t.early)) ∙ sym (leaves_other r (3 * k + 1) k (k + 1) (omega arith) (omega arith))) ∙ sym (ap (λ (ks : List ℕ). map (rounds_leaves r (3 * k + 1)) ks) (ap slots_moved_by (round_entry_receives r k) ∙ slots_of_single_slot (k + 1)))
 
     final : (m : ℕ) → n ≡ m → (r s : ℕ) → r < ranks → Final ranks rounds_count rounds_entry first wanted rounds_finds rounds_leaves r s
     unfolding gained
@@ -399,11 +399,11 @@ module _ (ranks n bytes : ℕ) (to from : ℕ → ℕ → ℕ) (to_rank : (r k :
               let inside = there.1 in
               subst (λ (m : ℕ). length (rounds_leaves r i m) ≤ cap r m) f (let is = ap length (leaves_zero r i k (omega (arith, e))) ∙ length-gained (suc k) r in let room = doubling_zero n in let le = pow_le (suc k) n (omega (arith, inside, e)) in omega (arith, is, room, le))
 
-      finds_load : (t : Turn) → sum_by (λ (v : Value). length v) (map (rounds_finds t.sender (3 * t.round)) (moved (rounds_entry t.sender (3 * t.round)))) ≤ load t.sender (3 * t.round)
+      finds_load : (t : Turn) → sum_by (λ (v : Value). length v) (map (rounds_finds t.sender (3 * t.round)) (slots_moved_by (rounds_entry t.sender (3 * t.round)))) ≤ load t.sender (3 * t.round)
       finds_load t =
           let is = ap length (finds_zero t.sender (3 * t.round) t.round (omega arith)) ∙ length-gained t.round t.sender in
           let room = load_send t.sender t.round in
-          subst (λ (ks : List ℕ). sum_by (λ (v : Value). length v) (map (rounds_finds t.sender (3 * t.round)) ks) ≤ load t.sender (3 * t.round)) (sym (ap moved (sends t.sender t.round) ∙ slots_of_single_slot 0)) (omega (arith, is, room))
+          subst (λ (ks : List ℕ). sum_by (λ (v : Value). length v) (map (rounds_finds t.sender (3 * t.round)) ks) ≤ load t.sender (3 * t.round)) (sym (ap slots_moved_by (round_entry_sends t.sender t.round) ∙ slots_of_single_slot 0)) (omega (arith, is, room))
 
       total : sum_below ranks (λ r. sum_below (2 ^ 32) (cap r)) + sum_by (λ r. sum_by (load r) (range_with_len 0 (rounds_count r))) (range_with_len 0 ranks) ≤ weight_limit
       total =

@@ -68,9 +68,9 @@ module _ (ranks n bytes : ℕ) (to from : ℕ → ℕ → ℕ) (to_rank : (r k :
       le-leb (doubling n 0) (length (gained ranks n bytes to from to_rank from_rank there_and_back back_and_there n r)) (omega (arith, size, most))
 
   -- what a round receives stays in its slot
-  others : (r s : ℕ) → r < ranks → Final ranks count entry first at_least finds leaves r (suc s)
+  received_slot_value_is_final : (r s : ℕ) → r < ranks → Final ranks count entry first at_least finds leaves r (suc s)
   unfolding at_least
-  others r s inside =
+  received_slot_value_is_final r s inside =
       ⊎_elim (λ l. inr (inr (3 * s + 1, omega (arith, l), written, λ j m w. inl (writer j (rounds_writes_cases ranks n bytes to from to_rank from_rank there_and_back back_and_there r j (suc s) w)), enough l))) (λ g. inl (λ v. let none = doubling_late n s g in le-leb (doubling n (suc s)) (length v) (omega (arith, none)))) (cases_lt s n)
     where
       written : Mem (suc s) (writes (entry r (3 * s + 1)))
@@ -93,7 +93,7 @@ module _ (ranks n bytes : ℕ) (to from : ℕ → ℕ → ℕ) (to_rank : (r k :
   unfolding at_least
   held_at_end w is r k inside =
       let size = length_plans ranks count entry in
-      leb-true (doubling n k) (length ((held_after plans no_send first w).store r k)) (final_values ranks count entry first at_least finds leaves (Turn ranks n bytes to from to_rank from_rank there_and_back back_and_there) bytes (λ t. turn_send ranks n bytes to from to_rank from_rank there_and_back back_and_there t) (λ t. turn_recv ranks n bytes to from to_rank from_rank there_and_back back_and_there t) (λ t. t.round) (λ r i. rounds_level ranks n bytes to from to_rank from_rank there_and_back back_and_there r i) (rounds_blueprint ranks n bytes to from to_rank from_rank there_and_back back_and_there first at_least first_is gained_value_is_enough others) w is r k (omega (arith, inside, size)))
+      leb-true (doubling n k) (length ((held_after plans no_send first w).store r k)) (final_values ranks count entry first at_least finds leaves (Turn ranks n bytes to from to_rank from_rank there_and_back back_and_there) bytes (λ t. turn_send ranks n bytes to from to_rank from_rank there_and_back back_and_there t) (λ t. turn_recv ranks n bytes to from to_rank from_rank there_and_back back_and_there t) (λ t. t.round) (λ r i. rounds_level ranks n bytes to from to_rank from_rank there_and_back back_and_there r i) (rounds_blueprint ranks n bytes to from to_rank from_rank there_and_back back_and_there first at_least first_is gained_value_is_enough received_slot_value_is_final) w is r k (omega (arith, inside, size)))
 
   module _ (many : certified_rank_limit < ranks) (few : ranks ≤ rank_limit) (rounds : (12 ≤ n) × (n ≤ 16)) where
     stored_many : (w : List Act) → IsWalk plans w → weight_limit < stored ranks (held_after plans no_send first w).store

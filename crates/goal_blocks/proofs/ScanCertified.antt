@@ -28,7 +28,7 @@ use Rattle.goal_blocks.proofs.MadeFits.{scan_fits}
 use Rattle.goal_blocks.proofs.MadePaired.{LineHop, line_send, line_recv, line_messages}
 use Rattle.goal_blocks.proofs.Sizes.{sum_below_few, sum_low_few, entries_small}
 use Rattle.goal_blocks.proofs.Totals.{sum_range_few}
-use Rattle.goal_blocks.proofs.Blueprint.{moved, touches, writes, Precedes, now, IsThere, Origin, Final, IsBlueprint, IsBounded, blueprint_certified}
+use Rattle.goal_blocks.proofs.Blueprint.{slots_moved_by, touches, writes, Precedes, now, IsThere, Origin, Final, IsBlueprint, IsBounded, blueprint_certified}
 use Rattle.goal_blocks.proofs.Wishes.{length_of_each, of_each_single, is_value_reflexive}
 
 -- a contribution that is lower than none in a value is inserted at the end
@@ -193,7 +193,7 @@ module _ (ranks bytes : ℕ) (some : 0 < ranks) (few : ranks ≤ 2048) where
       let two : 2 * upward (suc w) ≡ 2 = omega (arith, upward_some (suc w) (omega arith)) in
       rw (two, add-one (suc w)) (omega arith)
 
-  message_keeps_values : (r : ℕ) → map (scan_finds r (2 * upward r)) (moved (entry r (2 * upward r))) ≡ map (scan_leaves (r + 1) 0) (moved (entry (r + 1) 0))
+  message_keeps_values : (r : ℕ) → map (scan_finds r (2 * upward r)) (slots_moved_by (entry r (2 * upward r))) ≡ map (scan_leaves (r + 1) 0) (slots_moved_by (entry (r + 1) 0))
   unfolding scan_in slots_from scan_finds scan_leaves
   message_keeps_values zero = refl
   message_keeps_values (suc w) =
@@ -287,7 +287,7 @@ module _ (ranks bytes : ℕ) (some : 0 < ranks) (few : ranks ≤ 2048) where
           let inside = there.0 in
           subst (λ (n : ℕ). length (scan_leaves r n k) ≤ cap r k) (sym e) (subst (λ (n : ℕ). length (of_each (r + 1) 0) ≤ cap r n) f (omega (arith, size, inside)))
 
-  finds_load : (r : ℕ) → r + 1 < ranks → sum_by (λ (v : Value). length v) (map (scan_finds r (2 * upward r)) (moved (entry r (2 * upward r)))) ≤ load r (2 * upward r)
+  finds_load : (r : ℕ) → r + 1 < ranks → sum_by (λ (v : Value). length v) (map (scan_finds r (2 * upward r)) (slots_moved_by (entry r (2 * upward r)))) ≤ load r (2 * upward r)
   unfolding scan_in slots_from scan_finds load
   finds_load zero inside = let size = length_of_each (0 + 1) 0 in omega (arith, size, inside)
   finds_load (suc w) inside =

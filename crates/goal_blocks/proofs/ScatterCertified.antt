@@ -27,9 +27,9 @@ use Rattle.goal_blocks.proofs.Tree.{rounds_low, low_zero}
 use Rattle.goal_blocks.proofs.TreeSizes.{block_cap, block_load, cap_of_block}
 use Rattle.goal_blocks.proofs.BlockBounds.{IsMoving, own_block, child_block, blocks_small, blocks_bounded}
 use Rattle.goal_blocks.proofs.TreeCases.{scatter_gives_first, scatter_takes, scatter_gives}
-use Rattle.goal_blocks.proofs.TreeMessages.{TreeEdge, above, above_is_parent, above_inside, virtual, child_end, parent_end, AreTreeEnds, down_messages}
+use Rattle.goal_blocks.proofs.TreeMessages.{TreeEdge, above, above_is_parent, above_inside, back_from_ahead_is_virtual_rank, child_end, parent_end, AreTreeEnds, down_messages}
 use Rattle.goal_blocks.proofs.Shares.{IsInShare, mem_share_is_in_share, in_share_is_mem_share}
-use Rattle.goal_blocks.proofs.Blueprint.{moved, touches, writes, Precedes, now, Origin, Final, IsBlueprint, blueprint_certified}
+use Rattle.goal_blocks.proofs.Blueprint.{slots_moved_by, touches, writes, Precedes, now, Origin, Final, IsBlueprint, blueprint_certified}
 
 -- what a send requires: the receive, if there is one
 abbrev needs_of_send : ℕ → List ℕ
@@ -236,17 +236,17 @@ module _ (ranks root bytes : ℕ) (rooted : root < ranks) (few : ranks ≤ rank_
     up_low = above_inside ranks root bytes rooted few m
 
     -- both ends of a message have the slots of the child's block
-    same_moved : moved (entry_in up_rank (send_number up_rank (low m.child))) ≡ moved (entry_in m.child 0)
+    same_moved : slots_moved_by (entry_in up_rank (send_number up_rank (low m.child))) ≡ slots_moved_by (entry_in m.child 0)
     same_moved =
-        ap moved (entry_sends up_rank (low m.child) (above_is_parent ranks root bytes rooted few m).round) ∙ ap (λ (c : ℕ). flat_map slots_of_span (share ranks root c (2 ^ low m.child))) (above_is_parent ranks root bytes rooted few m).child ∙ sym (ap moved (entry_receives m.child m.some))
+        ap slots_moved_by (entry_sends up_rank (low m.child) (above_is_parent ranks root bytes rooted few m).round) ∙ ap (λ (c : ℕ). flat_map slots_of_span (share ranks root c (2 ^ low m.child))) (above_is_parent ranks root bytes rooted few m).child ∙ sym (ap slots_moved_by (entry_receives m.child m.some))
 
-    message_keeps_values : map (λ (k : ℕ). single root k) (moved (entry (ahead ranks up_rank root) (send_number up_rank (low m.child)))) ≡ map (λ (k : ℕ). single root k) (moved (entry (ahead ranks m.child root) 0))
+    message_keeps_values : map (λ (k : ℕ). single root k) (slots_moved_by (entry (ahead ranks up_rank root) (send_number up_rank (low m.child)))) ≡ map (λ (k : ℕ). single root k) (slots_moved_by (entry (ahead ranks m.child root) 0))
     message_keeps_values =
-        ap (λ (ks : List ℕ). map (λ (k : ℕ). single root k) ks) (rw (virtual ranks root bytes rooted few up_rank up_low, virtual ranks root bytes rooted few m.child m.inside) same_moved)
+        ap (λ (ks : List ℕ). map (λ (k : ℕ). single root k) ks) (rw (back_from_ahead_is_virtual_rank ranks root bytes rooted few up_rank up_low, back_from_ahead_is_virtual_rank ranks root bytes rooted few m.child m.inside) same_moved)
 
     same_level : level (ahead ranks up_rank root) (send_number up_rank (low m.child)) ≡ level (ahead ranks m.child root) 0
     same_level =
-        rw (virtual ranks root bytes rooted few up_rank up_low, virtual ranks root bytes rooted few m.child m.inside) (level_gives up_rank (low m.child) (above_is_parent ranks root bytes rooted few m).round ∙ (above_is_parent ranks root bytes rooted few m).child ∙ sym (level_takes m.child m.some))
+        rw (back_from_ahead_is_virtual_rank ranks root bytes rooted few up_rank up_low, back_from_ahead_is_virtual_rank ranks root bytes rooted few m.child m.inside) (level_gives up_rank (low m.child) (above_is_parent ranks root bytes rooted few m).round ∙ (above_is_parent ranks root bytes rooted few m).child ∙ sym (level_takes m.child m.some))
 
   blueprint : IsBlueprint ranks count entry first (wanted (Scatter root) ranks) item_of_slot item_of_slot (TreeEdge ranks) bytes give_end take_end (λ m. low m.child) level
   blueprint = record {

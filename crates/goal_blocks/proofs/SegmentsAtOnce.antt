@@ -110,23 +110,23 @@ module _ (plans : List Plan) (eager : OpId → Bool) where
       change_sorted (partner (pairs plans h) a.op) a.class a.op (kind_at plans a.op) (held_after plans eager first h) (held_sorted first s h)
 
 -- a schedule that starts with empty slots leaves them empty
-abbrev nothing : Store
-nothing rank slot = []
+abbrev empty_store : Store
+empty_store rank slot = []
 
 value_of_length_zero_is_empty : (v : Value) → length v ≡ 0 → v ≡ []
 value_of_length_zero_is_empty [] e = refl
 value_of_length_zero_is_empty (c ∷ v) e = absurd (omega (arith, e))
 
-joined_nothing : nothing ≡ joined nothing nothing
+joined_nothing : empty_store ≡ joined empty_store empty_store
 unfolding merge
 joined_nothing = refl
 
-empty_store_stays_empty : (plans : List Plan) (eager : OpId → Bool) (h : List Act) (rank slot : ℕ) → value plans eager nothing h rank slot ≡ []
+empty_store_stays_empty : (plans : List Plan) (eager : OpId → Bool) (h : List Act) (rank slot : ℕ) → value plans eager empty_store h rank slot ≡ []
 empty_store_stays_empty plans eager h rank slot =
-    let twice : value plans eager nothing h rank slot ≡ merge (value plans eager nothing h rank slot) (value plans eager nothing h rank slot) = ap (λ (s : Store). value plans eager s h rank slot) joined_nothing ∙ joined_holds plans eager nothing nothing h rank slot in
-    let size = length_merge (value plans eager nothing h rank slot) (value plans eager nothing h rank slot) in
+    let twice : value plans eager empty_store h rank slot ≡ merge (value plans eager empty_store h rank slot) (value plans eager empty_store h rank slot) = ap (λ (s : Store). value plans eager s h rank slot) joined_nothing ∙ joined_holds plans eager empty_store empty_store h rank slot in
+    let size = length_merge (value plans eager empty_store h rank slot) (value plans eager empty_store h rank slot) in
     let long = ap length twice in
-    value_of_length_zero_is_empty (value plans eager nothing h rank slot) (omega (arith, size, long))
+    value_of_length_zero_is_empty (value plans eager empty_store h rank slot) (omega (arith, size, long))
 
 -- different blocks share no slot
 block_order : (width i j : ℕ) → i < j → i * width + width ≤ j * width
@@ -135,8 +135,8 @@ block_order width i j less =
     let is = suc-mul i width in
     omega (arith, le, is)
 
-elsewhere : (width count i j slot : ℕ) → j < count → slot < width → (i ≡ j → ⊥) → is_elsewhere width count i (j * width + slot) ≡ true
-elsewhere width count i j slot low inside ne = ⊎_elim before (λ le. after (omega (arith, le, ne))) (cases_lt i j)
+slot_of_other_block_is_elsewhere : (width count i j slot : ℕ) → j < count → slot < width → (i ≡ j → ⊥) → is_elsewhere width count i (j * width + slot) ≡ true
+slot_of_other_block_is_elsewhere width count i j slot low inside ne = ⊎_elim before (λ le. after (omega (arith, le, ne))) (cases_lt i j)
   where
     within : nat_lt (j * width + slot) (count * width) ≡ true
     within =
@@ -158,19 +158,19 @@ elsewhere width count i j slot low inside ne = ⊎_elim before (λ le. after (om
 
 module _ (what : Collective) (width count : ℕ) (plans : List Plan) (eager : OpId → Bool) (h : List Act) (each : (block : ℕ) → block < count → IsCertifiedIn what width block plans) (apart : (block : ℕ) → block < count → IsCertified plans (initial_in what width block (length plans)) (keeps_out width count block)) (done : IsCompleteInterleaving plans eager h) where
   -- the values that one segment leaves alone, and that the first n leave at once
-  abbrev alone : ℕ → ℕ → ℕ → Value
-  alone block = value plans eager (initial_in what width block (length plans)) h
+  abbrev value_of_one_segment : ℕ → ℕ → ℕ → Value
+  value_of_one_segment block = value plans eager (initial_in what width block (length plans)) h
 
-  abbrev at_once : ℕ → ℕ → ℕ → Value
-  at_once n = value plans eager (all_starts what width n (length plans)) h
+  abbrev value_of_first_segments : ℕ → ℕ → ℕ → Value
+  value_of_first_segments n = value plans eager (all_starts what width n (length plans)) h
 
   -- a segment leaves nothing in the block of another
-  segment_leaves_other_blocks_empty : (i j rank slot : ℕ) → i < count → j < count → rank < length plans → slot < width → (i ≡ j → ⊥) → alone i rank (j * width + slot) ≡ []
+  segment_leaves_other_blocks_empty : (i j rank slot : ℕ) → i < count → j < count → rank < length plans → slot < width → (i ≡ j → ⊥) → value_of_one_segment i rank (j * width + slot) ≡ []
   segment_leaves_other_blocks_empty i j rank slot low_i low_j inside within ne =
       let holds = (certified_right plans (initial_in what width i (length plans)) (keeps_out width count i) (apart i low_i) eager h done).wanted_held rank (j * width + slot) inside in
-      value_equal (alone i rank (j * width + slot)) [] (sym (ap (λ (b : Bool). if b then is_value (alone i rank (j * width + slot)) [] else true) (elsewhere width count i j slot low_j within ne)) ∙ holds)
+      value_equal (value_of_one_segment i rank (j * width + slot)) [] (sym (ap (λ (b : Bool). if b then is_value (value_of_one_segment i rank (j * width + slot)) [] else true) (slot_of_other_block_is_elsewhere width count i j slot low_j within ne)) ∙ holds)
 
-  alone_sorted : (i rank slot : ℕ) → IsSorted (alone i rank slot)
+  alone_sorted : (i rank slot : ℕ) → IsSorted (value_of_one_segment i rank slot)
   alone_sorted i rank slot =
       (held_sorted plans eager (initial_in what width i (length plans)) (λ r k. initial_sorted what (length plans) r (exchange width i k)) h).stores rank slot
 
@@ -178,33 +178,33 @@ module _ (what : Collective) (width count : ℕ) (plans : List Plan) (eager : Op
   unfolding all_starts
   more_starts n = refl
 
-  no_starts : all_starts what width 0 (length plans) ≡ nothing
+  no_starts : all_starts what width 0 (length plans) ≡ empty_store
   unfolding all_starts
   no_starts = refl
 
-  at_once_merges_next_segment : (n rank slot : ℕ) → at_once (suc n) rank slot ≡ merge (at_once n rank slot) (alone n rank slot)
+  at_once_merges_next_segment : (n rank slot : ℕ) → value_of_first_segments (suc n) rank slot ≡ merge (value_of_first_segments n rank slot) (value_of_one_segment n rank slot)
   at_once_merges_next_segment n rank slot =
       ap (λ (s : Store). value plans eager s h rank slot) (more_starts n) ∙ joined_holds plans eager (all_starts what width n (length plans)) (initial_in what width n (length plans)) h rank slot
 
   -- the first n segments leave later blocks empty; an earlier block has what its own segment leaves
-  later_empty : (n : ℕ) → n ≤ count → (j rank slot : ℕ) → n ≤ j → j < count → rank < length plans → slot < width → at_once n rank (j * width + slot) ≡ []
+  later_empty : (n : ℕ) → n ≤ count → (j rank slot : ℕ) → n ≤ j → j < count → rank < length plans → slot < width → value_of_first_segments n rank (j * width + slot) ≡ []
   later_empty zero le j rank slot later low inside within =
       ap (λ (s : Store). value plans eager s h rank (j * width + slot)) no_starts ∙ empty_store_stays_empty plans eager h rank (j * width + slot)
   later_empty (suc n) le j rank slot later low inside within =
       at_once_merges_next_segment n rank (j * width + slot) ∙ ((λ i. merge (later_empty n (omega (arith, le)) j rank slot (omega (arith, later)) low inside within i) (segment_leaves_other_blocks_empty n j rank slot (omega (arith, le)) low inside within (λ e. omega (arith, e, later)) i)) ∙ merge_first_none [])
 
-  earlier_block_has_own_segment : (n : ℕ) → n ≤ count → (j rank slot : ℕ) → j < n → rank < length plans → slot < width → at_once n rank (j * width + slot) ≡ alone j rank (j * width + slot)
+  earlier_block_has_own_segment : (n : ℕ) → n ≤ count → (j rank slot : ℕ) → j < n → rank < length plans → slot < width → value_of_first_segments n rank (j * width + slot) ≡ value_of_one_segment j rank (j * width + slot)
   earlier_block_has_own_segment zero le j rank slot low inside within = absurd (omega (arith, low))
   earlier_block_has_own_segment (suc n) le j rank slot low inside within =
       at_once_merges_next_segment n rank (j * width + slot) ∙ ⊎_elim (here (λ e. later_empty n (omega (arith, le)) j rank slot (omega (arith, e)) (omega (arith, low, le)) inside within)) (before (λ less. earlier_block_has_own_segment n (omega (arith, le)) j rank slot less inside within)) (cases_eq j n)
     where
-      here : (j ≡ n → at_once n rank (j * width + slot) ≡ []) → j ≡ n → merge (at_once n rank (j * width + slot)) (alone n rank (j * width + slot)) ≡ alone j rank (j * width + slot)
+      here : (j ≡ n → value_of_first_segments n rank (j * width + slot) ≡ []) → j ≡ n → merge (value_of_first_segments n rank (j * width + slot)) (value_of_one_segment n rank (j * width + slot)) ≡ value_of_one_segment j rank (j * width + slot)
       here rest e =
-          (λ i. merge (rest e i) (alone (sym e i) rank (j * width + slot))) ∙ merge_first_none (alone j rank (j * width + slot))
+          (λ i. merge (rest e i) (value_of_one_segment (sym e i) rank (j * width + slot))) ∙ merge_first_none (value_of_one_segment j rank (j * width + slot))
 
-      before : (j < n → at_once n rank (j * width + slot) ≡ alone j rank (j * width + slot)) → (j ≡ n → ⊥) → merge (at_once n rank (j * width + slot)) (alone n rank (j * width + slot)) ≡ alone j rank (j * width + slot)
+      before : (j < n → value_of_first_segments n rank (j * width + slot) ≡ value_of_one_segment j rank (j * width + slot)) → (j ≡ n → ⊥) → merge (value_of_first_segments n rank (j * width + slot)) (value_of_one_segment n rank (j * width + slot)) ≡ value_of_one_segment j rank (j * width + slot)
       before rest ne =
-          (λ i. merge (rest (omega (arith, low, ne)) i) (segment_leaves_other_blocks_empty n j rank slot (omega (arith, le)) (omega (arith, low, le)) inside within (λ e. ne (sym e)) i)) ∙ merge_none (alone j rank (j * width + slot)) (alone_sorted j rank (j * width + slot))
+          (λ i. merge (rest (omega (arith, low, ne)) i) (segment_leaves_other_blocks_empty n j rank slot (omega (arith, le)) (omega (arith, low, le)) inside within (λ e. ne (sym e)) i)) ∙ merge_none (value_of_one_segment j rank (j * width + slot)) (alone_sorted j rank (j * width + slot))
 
   pub segments_at_once : (block : ℕ) → block < count → EndsInItsPairs plans eager h × HoldsSegment what width block plans (value plans eager (all_starts what width count (length plans)) h) × ((rank slot : ℕ) → rank < length plans → slot < width → value plans eager (all_starts what width count (length plans)) h rank (block * width + slot) ≡ value plans eager (initial_in what width block (length plans)) h rank (block * width + slot))
   segments_at_once block low =

@@ -26,12 +26,12 @@ use Rattle.goal_blocks.proofs.Slim.{All_one, All_two}
 
 -- slots in a row
 
-slots_in : (lo n k : ℕ) → Mem k (slots_from lo n) → (lo ≤ k) × (k < lo + n)
+slots_from_bounds : (lo n k : ℕ) → Mem k (slots_from lo n) → (lo ≤ k) × (k < lo + n)
 unfolding slots_from
-slots_in lo zero k m = absurd m
-slots_in lo (suc n) k (inl e) = (omega (arith, e), omega (arith, e))
-slots_in lo (suc n) k (inr m) =
-    let rest = slots_in (lo + 1) n k m in
+slots_from_bounds lo zero k m = absurd m
+slots_from_bounds lo (suc n) k (inl e) = (omega (arith, e), omega (arith, e))
+slots_from_bounds lo (suc n) k (inr m) =
+    let rest = slots_from_bounds (lo + 1) n k m in
     let above = rest.0 in
     let below = rest.1 in
     (omega (arith, above), omega (arith, below))
@@ -147,9 +147,9 @@ module _ (ranks root v s : ℕ) (rooted : root < ranks) (inside : v < ranks) (so
       go (inr u) (inr (a, e)) (inr (b, f)) = record { slot = omega (arith, rooted, inside, u, a, e, b, f); from = omega (arith, rooted, inside, u, a, e, b, f); before = omega (arith, rooted, inside, u, a, e, b, f) }
 
       either : Mem k (slots_from lo first_run) ⊎ Mem k (slots_from 0 (many - first_run)) → IsInShare ranks root v s k
-      either (inl m) = go (inl (slots_in lo first_run k m)) (ahead_cases ranks v root) (back_cases ranks k root)
+      either (inl m) = go (inl (slots_from_bounds lo first_run k m)) (ahead_cases ranks v root) (back_cases ranks k root)
       either (inr m) =
-          let below = (slots_in 0 (many - first_run) k m).1 in
+          let below = (slots_from_bounds 0 (many - first_run) k m).1 in
           go (inr (omega (arith, below))) (ahead_cases ranks v root) (back_cases ranks k root)
 
   pub in_share_is_mem_share : (k : ℕ) → k < ranks → v ≤ back ranks k root → back ranks k root < v + s → Mem k (flat_map slots_of_span (share ranks root v s))

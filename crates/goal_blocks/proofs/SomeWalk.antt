@@ -26,10 +26,10 @@ module _ (plans : List Plan) where
   abbrev pub NoneOf : List Act → List OpId → Type 0
   NoneOf h os = (y : OpId) → Contains os y → (d : Class) → is_allowed h d y ≡ false
 
-  search : (h : List Act) (os : List OpId) → AllPairs IsBefore os → ((a : Act) × IsFirst h os a) ⊎ NoneOf h os
-  search h [] ordered = inr (λ y c d. absurd (omega (arith, c.1)))
-  search h (x ∷ os) ordered =
-      ⊎_elim (λ found. inl (record { class = found.0; op = x }, here found.0 found.1)) (λ none. ⊎_elim (λ found. inl (found.0, later none found.0 found.1)) (λ rest. inr (nowhere none rest)) (search h os (λ i j d l b. ordered (suc i) (suc j) d (omega (arith, l)) (omega (arith, b))))) (allowed_class_or_none plans no_send h x)
+  find_first_allowed_action : (h : List Act) (os : List OpId) → AllPairs IsBefore os → ((a : Act) × IsFirst h os a) ⊎ NoneOf h os
+  find_first_allowed_action h [] ordered = inr (λ y c d. absurd (omega (arith, c.1)))
+  find_first_allowed_action h (x ∷ os) ordered =
+      ⊎_elim (λ found. inl (record { class = found.0; op = x }, here found.0 found.1)) (λ none. ⊎_elim (λ found. inl (found.0, later none found.0 found.1)) (λ rest. inr (nowhere none rest)) (find_first_allowed_action h os (λ i j d l b. ordered (suc i) (suc j) d (omega (arith, l)) (omega (arith, b))))) (allowed_class_or_none plans no_send h x)
     where
       here : (c : Class) → is_allowed h c x ≡ true → IsFirst h (x ∷ os) (record { class = c; op = x })
       here c p = record { may = p; first = stands }
@@ -67,7 +67,7 @@ module _ (plans : List Plan) where
   extends_to_walk : (n : ℕ) (h : List Act) → left plans h < n → IsInterleaving plans no_send h → TakesFirst plans h → (w : List Act) × IsWalk plans w
   extends_to_walk zero h few run takes = absurd (omega (arith, few))
   extends_to_walk (suc n) h few run takes =
-      ⊎_elim (λ found. let fewer = left_falls plans no_send found.0 h found.1.may in extends_to_walk n (found.0 ∷ h) (omega (arith, few, fewer)) (run, found.1.may) (takes, takes_first h found.0 run found.1)) (λ none. (h, record { complete = record { each = run; none_left = nothing_allowed_if_none_found h none }; in_order = takes })) (search h (operations plans) (operations_in_order plans))
+      ⊎_elim (λ found. let fewer = left_falls plans no_send found.0 h found.1.may in extends_to_walk n (found.0 ∷ h) (omega (arith, few, fewer)) (run, found.1.may) (takes, takes_first h found.0 run found.1)) (λ none. (h, record { complete = record { each = run; none_left = nothing_allowed_if_none_found h none }; in_order = takes })) (find_first_allowed_action h (operations plans) (operations_in_order plans))
 
   pub some_walk : (w : List Act) × IsWalk plans w
   some_walk = extends_to_walk (suc (left plans [])) [] (omega arith) tt tt

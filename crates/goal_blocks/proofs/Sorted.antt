@@ -7,22 +7,22 @@ use Rattle.std.proofs.lemmas.Bool.Decides.{nat_tests}
 use Rattle.goal_blocks.specs.Values.{Contribution, Value, is_lower, insert_one, merge}
 use Rattle.goal_blocks.specs.Stored.{ComesFirst, IsSorted}
 
-abbrev lower : ℕ → ℕ → ℕ → ℕ → Bool
-lower a b c d = nat_lt a c || ((a == c) && nat_lt b d)
+abbrev is_lower_pair : ℕ → ℕ → ℕ → ℕ → Bool
+is_lower_pair a b c d = nat_lt a c || ((a == c) && nat_lt b d)
 
-lower_not : (a b c d : ℕ) → lower a b c d ≡ true → lower c d a b ≡ false
+lower_not : (a b c d : ℕ) → is_lower_pair a b c d ≡ true → is_lower_pair c d a b ≡ false
 lower_not a b c d h = grind (arith, nat_tests)
 
-pair_lower_than_not_lower : (a b c d e f : ℕ) → lower a b c d ≡ true → lower e f c d ≡ false → lower a b e f ≡ true
+pair_lower_than_not_lower : (a b c d e f : ℕ) → is_lower_pair a b c d ≡ true → is_lower_pair e f c d ≡ false → is_lower_pair a b e f ≡ true
 pair_lower_than_not_lower a b c d e f h g = grind (arith, nat_tests)
 
-pair_not_lower_transitive : (a b c d e f : ℕ) → lower c d a b ≡ false → lower e f c d ≡ false → lower e f a b ≡ false
+pair_not_lower_transitive : (a b c d e f : ℕ) → is_lower_pair c d a b ≡ false → is_lower_pair e f c d ≡ false → is_lower_pair e f a b ≡ false
 pair_not_lower_transitive a b c d e f h g = grind (arith, nat_tests)
 
-pair_firsts_equal : (a b c d : ℕ) → lower a b c d ≡ false → lower c d a b ≡ false → a ≡ c
+pair_firsts_equal : (a b c d : ℕ) → is_lower_pair a b c d ≡ false → is_lower_pair c d a b ≡ false → a ≡ c
 pair_firsts_equal a b c d h g = grind (arith, nat_tests)
 
-pair_seconds_equal : (a b c d : ℕ) → lower a b c d ≡ false → lower c d a b ≡ false → b ≡ d
+pair_seconds_equal : (a b c d : ℕ) → is_lower_pair a b c d ≡ false → is_lower_pair c d a b ≡ false → b ≡ d
 pair_seconds_equal a b c d h g = grind (arith, nat_tests)
 
 pub not_after : (c d : Contribution) → is_lower c d ≡ true → is_lower d c ≡ false
@@ -136,34 +136,34 @@ length_merge (c ∷ v) w =
     omega (arith, more, rest)
 
 -- the value from a place on
-abbrev none : Contribution
-none = record { rank = 0; item = 0 }
+abbrev default_contribution : Contribution
+default_contribution = record { rank = 0; item = 0 }
 
-drop_is_get_and_rest : (v : Value) (i : ℕ) → i < length v → drop i v ≡ get_or v i none ∷ drop (i + 1) v
-drop_is_get_and_rest v i l = rw (add-one, drop-cons v i none) refl
+drop_is_get_and_rest : (v : Value) (i : ℕ) → i < length v → drop i v ≡ get_or v i default_contribution ∷ drop (i + 1) v
+drop_is_get_and_rest v i l = rw (add-one, drop-cons v i default_contribution) refl
 
 pub sorted_more : (v : Value) (i : ℕ) → i < length v → IsSorted (drop i v) → IsSorted (drop (i + 1) v)
 sorted_more v i l s =
-    let both : IsSorted (get_or v i none ∷ drop (i + 1) v) = subst IsSorted (drop_is_get_and_rest v i l) s in
+    let both : IsSorted (get_or v i default_contribution ∷ drop (i + 1) v) = subst IsSorted (drop_is_get_and_rest v i l) s in
     both.1
 
 module _ (sum more a b : Value) (i j : ℕ) (l : i < length a) (m : j < length b) (s : IsSorted (drop i a)) (t : IsSorted (drop j b)) where
-  pub merge_step_takes_right : is_lower (get_or b j none) (get_or a i none) ≡ true → more ≡ sum ++ get_or b j none ∷ [] → more ++ merge (drop i a) (drop (j + 1) b) ≡ sum ++ merge (drop i a) (drop j b)
+  pub merge_step_takes_right : is_lower (get_or b j default_contribution) (get_or a i default_contribution) ≡ true → more ≡ sum ++ get_or b j default_contribution ∷ [] → more ++ merge (drop i a) (drop (j + 1) b) ≡ sum ++ merge (drop i a) (drop j b)
   merge_step_takes_right low e =
-      let left : IsSorted (get_or a i none ∷ drop (i + 1) a) = subst IsSorted (drop_is_get_and_rest a i l) s in
-      let step = merge_takes_right_head (get_or a i none) (get_or b j none) (drop (i + 1) a) (drop (j + 1) b) left low in
-      ap (λ (x : Value). x ++ merge (drop i a) (drop (j + 1) b)) e ∙ append_assoc sum (get_or b j none ∷ []) (merge (drop i a) (drop (j + 1) b))
-      ∙ ap (λ (x : Value). sum ++ get_or b j none ∷ merge x (drop (j + 1) b)) (drop_is_get_and_rest a i l) ∙ ap (λ (x : Value). sum ++ x) (sym step)
-      ∙ ap (λ (x : Value). sum ++ merge x (get_or b j none ∷ drop (j + 1) b)) (sym (drop_is_get_and_rest a i l)) ∙ ap (λ (x : Value). sum ++ merge (drop i a) x) (sym (drop_is_get_and_rest b j m))
+      let left : IsSorted (get_or a i default_contribution ∷ drop (i + 1) a) = subst IsSorted (drop_is_get_and_rest a i l) s in
+      let step = merge_takes_right_head (get_or a i default_contribution) (get_or b j default_contribution) (drop (i + 1) a) (drop (j + 1) b) left low in
+      ap (λ (x : Value). x ++ merge (drop i a) (drop (j + 1) b)) e ∙ append_assoc sum (get_or b j default_contribution ∷ []) (merge (drop i a) (drop (j + 1) b))
+      ∙ ap (λ (x : Value). sum ++ get_or b j default_contribution ∷ merge x (drop (j + 1) b)) (drop_is_get_and_rest a i l) ∙ ap (λ (x : Value). sum ++ x) (sym step)
+      ∙ ap (λ (x : Value). sum ++ merge x (get_or b j default_contribution ∷ drop (j + 1) b)) (sym (drop_is_get_and_rest a i l)) ∙ ap (λ (x : Value). sum ++ merge (drop i a) x) (sym (drop_is_get_and_rest b j m))
 
-  pub merge_step_takes_left : is_lower (get_or b j none) (get_or a i none) ≡ false → more ≡ sum ++ get_or a i none ∷ [] → more ++ merge (drop (i + 1) a) (drop j b) ≡ sum ++ merge (drop i a) (drop j b)
+  pub merge_step_takes_left : is_lower (get_or b j default_contribution) (get_or a i default_contribution) ≡ false → more ≡ sum ++ get_or a i default_contribution ∷ [] → more ++ merge (drop (i + 1) a) (drop j b) ≡ sum ++ merge (drop i a) (drop j b)
   merge_step_takes_left low e =
-      let left : IsSorted (get_or a i none ∷ drop (i + 1) a) = subst IsSorted (drop_is_get_and_rest a i l) s in
-      let right : IsSorted (get_or b j none ∷ drop (j + 1) b) = subst IsSorted (drop_is_get_and_rest b j m) t in
-      let step = merge_takes_left_head (get_or a i none) (get_or b j none) (drop (i + 1) a) (drop (j + 1) b) left right low in
-      ap (λ (x : Value). x ++ merge (drop (i + 1) a) (drop j b)) e ∙ append_assoc sum (get_or a i none ∷ []) (merge (drop (i + 1) a) (drop j b))
-      ∙ ap (λ (x : Value). sum ++ get_or a i none ∷ merge (drop (i + 1) a) x) (drop_is_get_and_rest b j m) ∙ ap (λ (x : Value). sum ++ x) (sym step)
-      ∙ ap (λ (x : Value). sum ++ merge x (get_or b j none ∷ drop (j + 1) b)) (sym (drop_is_get_and_rest a i l)) ∙ ap (λ (x : Value). sum ++ merge (drop i a) x) (sym (drop_is_get_and_rest b j m))
+      let left : IsSorted (get_or a i default_contribution ∷ drop (i + 1) a) = subst IsSorted (drop_is_get_and_rest a i l) s in
+      let right : IsSorted (get_or b j default_contribution ∷ drop (j + 1) b) = subst IsSorted (drop_is_get_and_rest b j m) t in
+      let step = merge_takes_left_head (get_or a i default_contribution) (get_or b j default_contribution) (drop (i + 1) a) (drop (j + 1) b) left right low in
+      ap (λ (x : Value). x ++ merge (drop (i + 1) a) (drop j b)) e ∙ append_assoc sum (get_or a i default_contribution ∷ []) (merge (drop (i + 1) a) (drop j b))
+      ∙ ap (λ (x : Value). sum ++ get_or a i default_contribution ∷ merge (drop (i + 1) a) x) (drop_is_get_and_rest b j m) ∙ ap (λ (x : Value). sum ++ x) (sym step)
+      ∙ ap (λ (x : Value). sum ++ merge x (get_or b j default_contribution ∷ drop (j + 1) b)) (sym (drop_is_get_and_rest a i l)) ∙ ap (λ (x : Value). sum ++ merge (drop i a) x) (sym (drop_is_get_and_rest b j m))
 
 pub merge_first_none : (v : Value) → merge [] v ≡ v
 unfolding merge

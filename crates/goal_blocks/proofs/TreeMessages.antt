@@ -31,8 +31,8 @@ module _ (ranks root bytes : ℕ) (rooted : root < ranks) (few : ranks ≤ rank_
   above_inside m = let inside = m.inside in omega (arith, inside)
 
   -- v is the virtual rank of its rank
-  pub virtual : (v : ℕ) → v < ranks → back ranks (ahead ranks v root) root ≡ v
-  virtual v inside = back_ahead ranks v root inside (omega (arith, rooted))
+  pub back_from_ahead_is_virtual_rank : (v : ℕ) → v < ranks → back ranks (ahead ranks v root) root ≡ v
+  back_from_ahead_is_virtual_rank v inside = back_ahead ranks v root inside (omega (arith, rooted))
 
   -- so many operations of each virtual rank, and their entries; the number of the one that is its end of the message between
   -- it and its parent, and of the one that is its end of that between it and its child of a round
@@ -52,11 +52,11 @@ module _ (ranks root bytes : ℕ) (rooted : root < ranks) (few : ranks ≤ rank_
     module _ (ends : AreTreeEnds) where
       child_there : (m : TreeEdge ranks) → ((child_end m).rank < ranks) × ((child_end m).op < count (back ranks (child_end m).rank root))
       child_there m =
-          (ahead_below ranks m.child root m.inside (omega (arith, rooted)), rw (virtual m.child m.inside) (ends.up_there m.child m.some m.inside))
+          (ahead_below ranks m.child root m.inside (omega (arith, rooted)), rw (back_from_ahead_is_virtual_rank m.child m.inside) (ends.up_there m.child m.some m.inside))
 
       parent_there : (m : TreeEdge ranks) → ((parent_end m).rank < ranks) × ((parent_end m).op < count (back ranks (parent_end m).rank root))
       parent_there m =
-          (ahead_below ranks (above m) root (above_inside m) (omega (arith, rooted)), rw (virtual (above m) (above_inside m)) (ends.down_there (above m) (low m.child) (above_inside m) (above_is_parent m).round))
+          (ahead_below ranks (above m) root (above_inside m) (omega (arith, rooted)), rw (back_from_ahead_is_virtual_rank (above m) (above_inside m)) (ends.down_there (above m) (low m.child) (above_inside m) (above_is_parent m).round))
 
       cases : (x : OpId) → x.rank < ranks → x.op < count (back ranks x.rank root) → ((nanos : ℕ) × ((e (back ranks x.rank root) x.op).kind ≡ Calc nanos)) ⊎ (((m : TreeEdge ranks) × (child_end m ≡ x)) ⊎ ((m : TreeEdge ranks) × (parent_end m ≡ x)))
       cases x in_rank inside =
@@ -79,7 +79,7 @@ module _ (ranks root bytes : ℕ) (rooted : root < ranks) (few : ranks ≤ rank_
       -- the child's rank tells the message
       same_child : (m n : TreeEdge ranks) → (child_end m).rank ≡ (child_end n).rank → m.child ≡ n.child
       same_child m n same =
-          sym (virtual m.child m.inside) ∙ ap (λ (r : ℕ). back ranks r root) same ∙ virtual n.child n.inside
+          sym (back_from_ahead_is_virtual_rank m.child m.inside) ∙ ap (λ (r : ℕ). back ranks r root) same ∙ back_from_ahead_is_virtual_rank n.child n.inside
 
       same_child_end : (m n : TreeEdge ranks) → m.child ≡ n.child → child_end m ≡ child_end n
       same_child_end m n same = ap (λ (c : ℕ). at (ahead ranks c root) (up c)) same
@@ -94,8 +94,8 @@ module _ (ranks root bytes : ℕ) (rooted : root < ranks) (few : ranks ≤ rank_
       up_messages sends takes = record {
         send_there = child_there;
         recv_there = parent_there;
-        sent = λ m. rw (virtual m.child m.inside) (sends m.child m.some m.inside);
-        received = λ m. rw (virtual (above m) (above_inside m)) (takes (above m) (low m.child) (above_inside m) (above_is_parent m).round ∙ ap (λ (c : ℕ). Recv bytes (Some (ahead ranks c root)) (Some (low m.child))) (above_is_parent m).child);
+        sent = λ m. rw (back_from_ahead_is_virtual_rank m.child m.inside) (sends m.child m.some m.inside);
+        received = λ m. rw (back_from_ahead_is_virtual_rank (above m) (above_inside m)) (takes (above m) (low m.child) (above_inside m) (above_is_parent m).round ∙ ap (λ (c : ℕ). Recv bytes (Some (ahead ranks c root)) (Some (low m.child))) (above_is_parent m).child);
         cases = cases;
         apart = λ m n source target tag. let same = same_child m n source in (same_child_end m n same, same_parent_end m n same);
       }
@@ -106,8 +106,8 @@ module _ (ranks root bytes : ℕ) (rooted : root < ranks) (few : ranks ≤ rank_
       down_messages takes sends = record {
         send_there = parent_there;
         recv_there = child_there;
-        sent = λ m. rw (virtual (above m) (above_inside m)) (sends (above m) (low m.child) (above_inside m) (above_is_parent m).round ∙ ap (λ (c : ℕ). Send bytes (ahead ranks c root) (low m.child)) (above_is_parent m).child);
-        received = λ m. rw (virtual m.child m.inside) (takes m.child m.some m.inside);
+        sent = λ m. rw (back_from_ahead_is_virtual_rank (above m) (above_inside m)) (sends (above m) (low m.child) (above_inside m) (above_is_parent m).round ∙ ap (λ (c : ℕ). Send bytes (ahead ranks c root) (low m.child)) (above_is_parent m).child);
+        received = λ m. rw (back_from_ahead_is_virtual_rank m.child m.inside) (takes m.child m.some m.inside);
         cases = λ x in_rank inside. ⊎_elim (λ c. inl c) (λ c. inr (⊎_elim (λ a. inr a) (λ a. inl a) c)) (cases x in_rank inside);
         apart = λ m n source target tag. let same = same_child m n target in (same_parent_end m n same, same_child_end m n same);
       }

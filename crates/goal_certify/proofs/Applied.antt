@@ -28,7 +28,7 @@ use Rattle.goal_blocks.specs.Faults.{IsTooHeavy, IsFirstTooHeavy}
 use Rattle.goal_values.specs.Kept.{Kept, values}
 use Rattle.goal_certify.specs.Carried.{ParcelValues, size_of, parcel_of, IsCarrying, IsOver, AddsOver, AddsWithin}
 use Rattle.goal_certify.proofs.Places.{allowed_exists}
-use Rattle.goal_certify.proofs.Carrying.{parcel_within, store_post, receive_adds, parcel_there, sum_taken, carrying_taken, held_before, carrying_calc, calc_over, carrying_same, carrying_handed, handed_over, store_send, send_adds}
+use Rattle.goal_certify.proofs.Carrying.{parcel_within, store_post, receive_adds, parcel_there, sum_taken, carrying_taken, held_before, carrying_calc, calc_over, carrying_same, carrying_handed, transfer_over_limit_is_first_too_heavy, store_send, send_adds}
 
 -- of answers
 pub on_ok_combined : {T E : Type 0} (P Q R : Type 0) (r : Result T E) → (P → Q → R) → OnOk r P → OnOk r Q → OnOk r R
@@ -44,24 +44,24 @@ over_map P Q fault f (inl e) = inl e
 over_map P Q fault f (inr over) = inr (over.0, over.1, f over.0 over.2)
 
 module _ (plans : List Plan) (hist : List Act) (a : Act) (newest : hist ≡ a ∷ drop 1 hist) (each : IsInterleaving plans no_send hist) where
-  pub now : IsInterleaving plans no_send (a ∷ drop 1 hist)
-  now = subst (λ (l : List Act). IsInterleaving plans no_send l) newest each
+  pub split_history_is_interleaving : IsInterleaving plans no_send (a ∷ drop 1 hist)
+  split_history_is_interleaving = subst (λ (l : List Act). IsInterleaving plans no_send l) newest each
 
   pub op_of_newest_exists : IsOp plans a.op
-  op_of_newest_exists = allowed_exists plans (drop 1 hist) a.class a.op now.1
+  op_of_newest_exists = allowed_exists plans (drop 1 hist) a.class a.op split_history_is_interleaving.1
 
   pub slot_there : (j : ℕ) × (slice_get (operations plans) j ≡ Some a.op)
   slot_there =
-      let listed = allowed_listed plans no_send (drop 1 hist) a.class a.op now.1 in
+      let listed = allowed_listed plans no_send (drop 1 hist) a.class a.op split_history_is_interleaving.1 in
       (listed.0, slice_get-get_or (operations plans) listed.0 a.op listed.1 ∙ ap Some listed.2)
 
   module _ (first : Store) (s : Kept) (parcels : List (Option ParcelValues)) (count : ℕ) (so_far : IsCarrying plans first (drop 1 hist) s parcels count) where
     pub light_before : stored s.ranks (values s) + count ≤ weight_limit
-    light_before = held_before plans first (drop 1 hist) a now s parcels count so_far
+    light_before = held_before plans first (drop 1 hist) a split_history_is_interleaving s parcels count so_far
 
     -- each operation has a place among the parcels
     pub there_within : (j : ℕ) (x : OpId) → slice_get (operations plans) j ≡ Some x → j < length parcels
-    there_within = parcel_within plans first (drop 1 hist) a now s parcels count so_far
+    there_within = parcel_within plans first (drop 1 hist) a split_history_is_interleaving s parcels count so_far
 
     whole : (t : Kept) (new_parcels : List (Option ParcelValues)) (total : ℕ) → IsCarrying plans first (a ∷ drop 1 hist) t new_parcels total → IsCarrying plans first hist t new_parcels total
     whole t new_parcels total = subst (λ (l : List Act). IsCarrying plans first l t new_parcels total) (sym newest)
@@ -71,43 +71,43 @@ module _ (plans : List Plan) (hist : List Act) (a : Act) (newest : hist ≡ a �
 
     pub begun_calc : a.class ≡ Begin → IsCalc plans a.op → (t : Kept) → values t ≡ add_all a.op.rank (adds plans a.op) (values s) → t.ranks ≡ s.ranks → AddsWithin s.ranks a.op.rank (adds plans a.op) (values s) count → IsCarrying plans first hist t parcels count
     begun_calc c k t e r within =
-        whole t parcels count (carrying_calc plans first (drop 1 hist) a now s parcels count so_far c k t e r within)
+        whole t parcels count (carrying_calc plans first (drop 1 hist) a split_history_is_interleaving s parcels count so_far c k t e r within)
 
     pub begun_over : IsCalc plans a.op → (total : ℕ) → AddsOver s.ranks a.op.rank (adds plans a.op) (values s) count total → IsFirstTooHeavy plans first hist total
-    begun_over k total over = heavy total (calc_over plans first (drop 1 hist) a now s parcels count so_far k total over)
+    begun_over k total over = heavy total (calc_over plans first (drop 1 hist) a split_history_is_interleaving s parcels count so_far k total over)
 
     pub begun_send : a.class ≡ Begin → IsSend plans a.op → IsCarrying plans first hist s parcels count
     begun_send c k =
-        whole s parcels count (carrying_same plans first (drop 1 hist) a now s parcels count so_far (ap (λ (b : Class). place b == 2) c) (ap (λ (b : Class). place b == 1) c) (store_send plans first (drop 1 hist) a now k) (send_adds plans first (drop 1 hist) a now k))
+        whole s parcels count (carrying_same plans first (drop 1 hist) a split_history_is_interleaving s parcels count so_far (ap (λ (b : Class). place b == 2) c) (ap (λ (b : Class). place b == 1) c) (store_send plans first (drop 1 hist) a split_history_is_interleaving k) (send_adds plans first (drop 1 hist) a split_history_is_interleaving k))
 
-    pub arrived : a.class ≡ Arrive → IsCarrying plans first hist s parcels count
-    arrived c =
-        let k = (allowed_arrive plans no_send (drop 1 hist) a.op (subst (λ (b : Class). allowed plans no_send (drop 1 hist) b a.op ≡ true) c now.1)).0 in
-        whole s parcels count (carrying_same plans first (drop 1 hist) a now s parcels count so_far (ap (λ (b : Class). place b == 2) c) (ap (λ (b : Class). place b == 1) c) (store_send plans first (drop 1 hist) a now k) (send_adds plans first (drop 1 hist) a now k))
+    pub carrying_unchanged_by_arrive : a.class ≡ Arrive → IsCarrying plans first hist s parcels count
+    carrying_unchanged_by_arrive c =
+        let k = (allowed_arrive plans no_send (drop 1 hist) a.op (subst (λ (b : Class). allowed plans no_send (drop 1 hist) b a.op ≡ true) c split_history_is_interleaving.1)).0 in
+        whole s parcels count (carrying_same plans first (drop 1 hist) a split_history_is_interleaving s parcels count so_far (ap (λ (b : Class). place b == 2) c) (ap (λ (b : Class). place b == 1) c) (store_send plans first (drop 1 hist) a split_history_is_interleaving k) (send_adds plans first (drop 1 hist) a split_history_is_interleaving k))
 
-    pub posted : a.class ≡ Post → IsCarrying plans first hist s parcels count
-    posted c =
-        let k = (allowed_post plans no_send (drop 1 hist) a.op (subst (λ (b : Class). allowed plans no_send (drop 1 hist) b a.op ≡ true) c now.1)).0 in
-        whole s parcels count (carrying_same plans first (drop 1 hist) a now s parcels count so_far (ap (λ (b : Class). place b == 2) c) (ap (λ (b : Class). place b == 1) c) (store_post plans first (drop 1 hist) a now c) (receive_adds plans first (drop 1 hist) a now k))
+    pub carrying_unchanged_by_post : a.class ≡ Post → IsCarrying plans first hist s parcels count
+    carrying_unchanged_by_post c =
+        let k = (allowed_post plans no_send (drop 1 hist) a.op (subst (λ (b : Class). allowed plans no_send (drop 1 hist) b a.op ≡ true) c split_history_is_interleaving.1)).0 in
+        whole s parcels count (carrying_same plans first (drop 1 hist) a split_history_is_interleaving s parcels count so_far (ap (λ (b : Class). place b == 2) c) (ap (λ (b : Class). place b == 1) c) (store_post plans first (drop 1 hist) a split_history_is_interleaving c) (receive_adds plans first (drop 1 hist) a split_history_is_interleaving k))
 
     module _ (c : a.class ≡ Data) (j : ℕ) (at : slice_get (operations plans) j ≡ Some a.op) where
-      is_send : IsSend plans a.op
-      is_send =
-          (allowed_data plans no_send (drop 1 hist) a.op (subst (λ (b : Class). allowed plans no_send (drop 1 hist) b a.op ≡ true) c now.1)).0
+      newest_transfer_is_of_send : IsSend plans a.op
+      newest_transfer_is_of_send =
+          (allowed_data plans no_send (drop 1 hist) a.op (subst (λ (b : Class). allowed plans no_send (drop 1 hist) b a.op ≡ true) c split_history_is_interleaving.1)).0
 
       pub sent : (p : ParcelValues) (new_parcels : List (Option ParcelValues)) (total : ℕ) → p ≡ parcel_of (map (values s a.op.rank) (slots plans a.op)) → new_parcels ≡ set parcels j (Some p) → total ≡ count + p.size → stored s.ranks (values s) + count + size_of (map (values s a.op.rank) (slots plans a.op)) ≤ weight_limit → IsCarrying plans first hist s new_parcels total
       sent p new_parcels total is put sum few =
-          whole s new_parcels total (carrying_handed plans first (drop 1 hist) a now s parcels count so_far c is_send j at new_parcels total (put ∙ ap (λ (q : ParcelValues). set parcels j (Some q)) is) (sum ∙ ap (λ (q : ParcelValues). count + q.size) is) few)
+          whole s new_parcels total (carrying_handed plans first (drop 1 hist) a split_history_is_interleaving s parcels count so_far c newest_transfer_is_of_send j at new_parcels total (put ∙ ap (λ (q : ParcelValues). set parcels j (Some q)) is) (sum ∙ ap (λ (q : ParcelValues). count + q.size) is) few)
 
       pub sent_over : (total : ℕ) → (stored s.ranks (values s) + count + size_of (map (values s a.op.rank) (slots plans a.op)) ≡ total) × IsTooHeavy total → IsFirstTooHeavy plans first hist total
       sent_over total is =
-          heavy total (handed_over plans first (drop 1 hist) a now s parcels count so_far c is_send j at total is.0 is.1)
+          heavy total (transfer_over_limit_is_first_too_heavy plans first (drop 1 hist) a split_history_is_interleaving s parcels count so_far c newest_transfer_is_of_send j at total is.0 is.1)
 
   -- the partner of a receive that takes its message
   module _ (c : a.class ≡ Serve) where
     receives : IsReceive plans a.op × (is_served plans no_send (drop 1 hist) (partner (pairs plans (drop 1 hist)) a.op) ≡ true)
     receives =
-        allowed_serve plans no_send (drop 1 hist) a.op (subst (λ (b : Class). allowed plans no_send (drop 1 hist) b a.op ≡ true) c now.1)
+        allowed_serve plans no_send (drop 1 hist) a.op (subst (λ (b : Class). allowed plans no_send (drop 1 hist) b a.op ≡ true) c split_history_is_interleaving.1)
 
     pub serve_pair : (m : OpId) × (partner (pairs plans (drop 1 hist)) a.op ≡ Some m)
     serve_pair = go (partner (pairs plans (drop 1 hist)) a.op) refl receives.1
@@ -131,18 +131,18 @@ module _ (plans : List Plan) (hist : List Act) (a : Act) (newest : hist ≡ a �
       pub as_many : HasNoWildcard plans → HasEqualLengths plans → (first : Store) → length (slots plans a.op) ≡ length ((held_after plans no_send first (drop 1 hist)).payload m)
       as_many known equal first =
           let met = partner_of_receive plans (drop 1 hist) a.op m receives.0 pair in
-          sym (payload_length plans first m (drop 1 hist) now.0 data_there ∙ equal m a.op (fits_channel plans a.op m known met.fit))
+          sym (payload_length plans first m (drop 1 hist) split_history_is_interleaving.0 data_there ∙ equal m a.op (fits_channel plans a.op m known met.fit))
 
       module _ (first : Store) (s : Kept) (parcels : List (Option ParcelValues)) (count : ℕ) (so_far : IsCarrying plans first (drop 1 hist) s parcels count) (j : ℕ) (at : slice_get (operations plans) j ≡ Some m) where
         pub parcel_is : get_or parcels j None ≡ Some (parcel_of ((held_after plans no_send first (drop 1 hist)).payload m))
-        parcel_is = parcel_there plans first (drop 1 hist) a now s parcels count so_far c receives.0 m pair j at
+        parcel_is = parcel_there plans first (drop 1 hist) a split_history_is_interleaving s parcels count so_far c receives.0 m pair j at
 
         pub parcel_known : (p : ParcelValues) → get_or parcels j None ≡ Some p → p ≡ parcel_of ((held_after plans no_send first (drop 1 hist)).payload m)
         parcel_known p e = same_Some _ _ (sym e ∙ parcel_is)
 
         pub size_within : (p : ParcelValues) → get_or parcels j None ≡ Some p → p.size ≤ count
         size_within p e =
-            omega (arith, sum_taken plans first (drop 1 hist) a now s parcels count so_far c receives.0 m pair j at, ap (λ (q : ParcelValues). q.size) (parcel_known p e))
+            omega (arith, sum_taken plans first (drop 1 hist) a split_history_is_interleaving s parcels count so_far c receives.0 m pair j at, ap (λ (q : ParcelValues). q.size) (parcel_known p e))
 
         pub size_told : (p : ParcelValues) → get_or parcels j None ≡ Some p → p.size ≡ size_of p.payload
         size_told p e =
@@ -152,4 +152,4 @@ module _ (plans : List Plan) (hist : List Act) (a : Act) (newest : hist ≡ a �
         received p e t new_parcels total below low put r taken left =
             let is = parcel_known p e in
             let written = put ∙ ap (λ (q : ParcelValues). write a.op.rank (slots plans a.op) q.payload (values s)) is in
-            subst (λ (l : List Act). IsCarrying plans first l t new_parcels total) (sym newest) (carrying_taken plans first (drop 1 hist) a now s parcels count so_far c receives.0 m pair j at t new_parcels total below low written r taken (omega (arith, left, size_within p e, ap (λ (q : ParcelValues). q.size) is)))
+            subst (λ (l : List Act). IsCarrying plans first l t new_parcels total) (sym newest) (carrying_taken plans first (drop 1 hist) a split_history_is_interleaving s parcels count so_far c receives.0 m pair j at t new_parcels total below low written r taken (omega (arith, left, size_within p e, ap (λ (q : ParcelValues). q.size) is)))

@@ -26,8 +26,8 @@ module _ (what : Collective) (width count : ℕ) (plans : List Plan) where
   more_apart block before this k low =
       ⊎_elim (λ e. subst (λ (b : ℕ). IsCertifiedApart what width count b plans) (sym e) this) (λ ne. before k (omega (arith, low, ne))) (cases_eq k block)
 
-  abbrev pub IsTold : AtOnceFault → Type 0
-  IsTold told = IsOutOfMemory told ⊎ IsAtOnceFault what width count plans told
+  abbrev pub IsAtOnceFaultOrNoMemory : AtOnceFault → Type 0
+  IsAtOnceFaultOrNoMemory told = IsOutOfMemory told ⊎ IsAtOnceFault what width count plans told
 
   module _ (excludes : FaultExcludesCertified) (faultless : FaultlessIsCertified) (one : OneFirstFault) (accepted : IsAccepted plans) where
     not_apart : (from : ℕ) (fault : CertFault) → IsFaultApart what width count from plans fault → IsCertifiedApart what width count from plans → ⊥
@@ -72,6 +72,6 @@ module _ (what : Collective) (width count : ℕ) (plans : List Plan) where
     one_fault (Stray from rank slot) (Stray from' rank' slot') is other =
         one_stray from rank slot from' rank' slot' is.1 other.1
 
-    pub that_told : (told : AtOnceFault) → IsTold told → (found : AtOnceFault) → IsAtOnceFault what width count plans found → (told ≡ found) ⊎ IsOutOfMemory told
+    pub that_told : (told : AtOnceFault) → IsAtOnceFaultOrNoMemory told → (found : AtOnceFault) → IsAtOnceFault what width count plans found → (told ≡ found) ⊎ IsOutOfMemory told
     that_told told (inl e) found is = inr e
     that_told told (inr here) found is = inl (one_fault told found here is)

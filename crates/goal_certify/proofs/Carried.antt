@@ -145,12 +145,12 @@ module _ (plans : List Plan) (first : Store) (h : List Act) (a : Act) (now : IsI
     payload_now k =
         ap₂ (λ (c : Class) (o : Option Kind). (change plans no_send (partner (pairs plans h) a.op) c a.op o before).payload a.op) class k.kind ∙ cond-true (same_op a.op a.op) _ _ (same_op_itself a.op)
 
-    is_send : IsSend plans a.op
-    is_send = (allowed_data plans no_send h a.op (subst (λ (c : Class). allowed plans no_send h c a.op ≡ true) class now.1)).0
+    transferring_op_is_send : IsSend plans a.op
+    transferring_op_is_send = (allowed_data plans no_send h a.op (subst (λ (c : Class). allowed plans no_send h c a.op ≡ true) class now.1)).0
 
     pub handed_now : kept_after a.op ≡ Some (parcel_of (map (before.store a.op.rank) (slots plans a.op)))
     handed_now =
-        cond-true _ _ _ under_now ∙ ap (λ vs. Some (parcel_of vs)) (payload_now is_send)
+        cond-true _ _ _ under_now ∙ ap (λ vs. Some (parcel_of vs)) (payload_now transferring_op_is_send)
 
     pub kept_handed : (j : ℕ) → slice_get (operations plans) j ≡ Some a.op → set (map kept_before (operations plans)) j (kept_after a.op) ≡ map kept_after (operations plans)
     kept_handed j e =
@@ -174,8 +174,8 @@ module _ (plans : List Plan) (first : Store) (h : List Act) (a : Act) (now : IsI
     not_data : (place a.class == 2) ≡ false
     not_data = ap (λ (c : Class). place c == 2) class
 
-    served : is_served plans no_send h (partner (pairs plans h) a.op) ≡ true
-    served =
+    partner_of_serve_is_served : is_served plans no_send h (partner (pairs plans h) a.op) ≡ true
+    partner_of_serve_is_served =
         (allowed_serve plans no_send h a.op (subst (λ (c : Class). allowed plans no_send h c a.op ≡ true) class now.1)).1
 
     module _ (m : OpId) (pair : partner (pairs plans h) a.op ≡ Some m) where
@@ -183,7 +183,7 @@ module _ (plans : List Plan) (first : Store) (h : List Act) (a : Act) (now : IsI
       back = partners_mutual plans no_send h a.op m now.0 pair
 
       data_there : happened Data m h ≡ true
-      data_there = subst (λ (o : Option OpId). is_served plans no_send h o ≡ true) pair served
+      data_there = subst (λ (o : Option OpId). is_served plans no_send h o ≡ true) pair partner_of_serve_is_served
 
       pub taken_before : kept_before m ≡ Some (parcel_of (before.payload m))
       taken_before =
@@ -209,7 +209,7 @@ module _ (plans : List Plan) (first : Store) (h : List Act) (a : Act) (now : IsI
 
 handed_length : (plans : List Plan) (first : Store) (h : List Act) (a : Act) (now : IsInterleaving plans no_send (a ∷ h)) → a.class ≡ Data → length ((held_after plans no_send first (a ∷ h)).payload a.op) ≡ length (slots plans a.op)
 handed_length plans first h a now class =
-    ap length (payload_now plans first h a now class (is_send plans first h a now class)) ∙ length-map (slots plans a.op) ((held_after plans no_send first h).store a.op.rank)
+    ap length (payload_now plans first h a now class (transferring_op_is_send plans first h a now class)) ∙ length-map (slots plans a.op) ((held_after plans no_send first h).store a.op.rank)
 
 payload_length_after_action : (plans : List Plan) (first : Store) (m : OpId) (h : List Act) (a : Act) (now : IsInterleaving plans no_send (a ∷ h)) → happened Data m (a ∷ h) ≡ true → (happened Data m h ≡ true → length ((held_after plans no_send first h).payload m) ≡ length (slots plans m)) → length ((held_after plans no_send first (a ∷ h)).payload m) ≡ length (slots plans m)
 payload_length_after_action plans first m h a now e was = go (cases_Bool (is_act Data m a))

@@ -171,8 +171,8 @@ module _ (plans : List Plan) (first : Store) (h : List Act) (a : Act) (now : IsI
       carrying_handed new_parcels total put sum few =
           carrying_after s new_parcels total (so_far.values_are ∙ sym (store_send k)) refl (put ∙ handed) (ap (sum_by parcel_size) put ∙ sum_handed ∙ sym sum) (send_adds k) (omega (arith, few, sum))
 
-      pub handed_over : (total : ℕ) → stored s.ranks (values s) + count + size_of read_now ≡ total → IsTooHeavy total → IsFirstTooHeavy plans first (a ∷ h) total
-      handed_over total is heavy =
+      pub transfer_over_limit_is_first_too_heavy : (total : ℕ) → stored s.ranks (values s) + count + size_of read_now ≡ total → IsTooHeavy total → IsFirstTooHeavy plans first (a ∷ h) total
+      transfer_over_limit_is_first_too_heavy total is heavy =
           heavy_after (set parcels j (Some (parcel_of read_now))) (values s) total (count + size_of read_now) (so_far.values_are ∙ sym (store_send k)) handed sum_handed (send_adds k) (omega (arith, is)) heavy
 
     -- a receive takes them

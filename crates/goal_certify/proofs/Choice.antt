@@ -128,8 +128,8 @@ module _ (plans : List Plan) (h : List Act) (x : OpId) where
   happened_iff_met k AfterStart c e l =
       ap (λ (d : Class). happened d x h) l ∙ ap (λ (o : Option Kind). happened (class_at AfterStart o) x h) (sym e)
 
-  pub start_of : (c : Class) → IsOp plans x → c ≡ first_class (kind_at plans x) → may_act plans h c x ≡ (not (happened c x h) && is_ready plans no_send h x)
-  start_of c is first =
+  pub first_action_may_act_iff_fresh_and_ready : (c : Class) → IsOp plans x → c ≡ first_class (kind_at plans x) → may_act plans h c x ≡ (not (happened c x h) && is_ready plans no_send h x)
+  first_action_may_act_iff_fresh_and_ready c is first =
       let o = op_at_is_some plans x is in
       let kind = kind_from_op plans x o.0 o.0.kind o.1 refl in
       may_start_iff_fresh_and_ready o.0.kind c kind (first ∙ ap first_class kind)

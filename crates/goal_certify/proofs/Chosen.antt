@@ -19,7 +19,7 @@ use Rattle.goal_graph.specs.Laws.{IsCalc}
 use Rattle.goal_graph.proofs.ForCallers.{act_of, happened_cases, happened_none, happened_newest, happened_stays, is_act_class, is_some_from, value_of_is_some, contains_first, partner_stays, allowed_arrive, allowed_data, allowed_serve, allowed_post, allowed_begin, allowed_fresh, not_receive_calc, not_send_receive, fits_receive, fits_send, arrived_begun, data_paired, served_message, partner_is_receive, partner_of_receive, partners_met, partners_mutual, ready_need}
 use Rattle.goal_blocks.specs.Walk.{no_send}
 use Rattle.goal_certify.specs.WalkQueue.{may_act, moves_partner, IsIdle}
-use Rattle.goal_certify.proofs.Choice.{calc_idle, send_idle, receive_idle, may_arrive_iff_fresh_and_begun, may_transfer_iff_fresh_and_paired, may_serve_iff_fresh_and_transferred, start_of}
+use Rattle.goal_certify.proofs.Choice.{calc_idle, send_idle, receive_idle, may_arrive_iff_fresh_and_begun, may_transfer_iff_fresh_and_paired, may_serve_iff_fresh_and_transferred, first_action_may_act_iff_fresh_and_ready}
 
 -- what has happened may not happen again
 happened_may_not_act : (plans : List Plan) (h : List Act) (c : Class) (x : OpId) → happened c x h ≡ true → may_act plans h c x ≡ false
@@ -56,20 +56,20 @@ module _ (plans : List Plan) (rest : List Act) (x : OpId) where
   only_sends_arrive : IsInterleaving plans no_send (after Arrive) → IsSend plans x
   only_sends_arrive now = (allowed_arrive plans no_send rest x now.1).0
 
-  arrived : IsInterleaving plans no_send (after Arrive) → may_act plans (after Arrive) Data x ≡ false → IsIdle plans (after Arrive) x
-  arrived now unpaired =
+  unpaired_send_is_idle_after_arrive : IsInterleaving plans no_send (after Arrive) → may_act plans (after Arrive) Data x ≡ false → IsIdle plans (after Arrive) x
+  unpaired_send_is_idle_after_arrive now unpaired =
       let a = allowed_arrive plans no_send rest x now.1 in
       send_idle plans (after Arrive) x a.0 (before Arrive Begin a.1) (newest_may_not_act Arrive) unpaired
 
-  handed_over : IsInterleaving plans no_send (after Data) → IsIdle plans (after Data) x
-  handed_over now =
+  send_is_idle_after_transfer : IsInterleaving plans no_send (after Data) → IsIdle plans (after Data) x
+  send_is_idle_after_transfer now =
       let d = allowed_data plans no_send rest x now.1 in
       let y = value_of_is_some (partner (pairs plans rest) x) d.2 in
       let came : happened Arrive x rest ≡ true = elim (partners_met plans rest x y.0 y.1) [ inl met ↦ met.arrived | inr met ↦ absurd (not_send_receive plans x d.0 (fits_receive plans x y.0 met.fit)) ] in
       send_idle plans (after Data) x d.0 (before Data Begin (arrived_begun plans no_send rest x now.0 came)) (before Data Arrive came) (newest_may_not_act Data)
 
-  served : IsInterleaving plans no_send (after Serve) → IsIdle plans (after Serve) x
-  served now =
+  receive_is_idle_after_serve : IsInterleaving plans no_send (after Serve) → IsIdle plans (after Serve) x
+  receive_is_idle_after_serve now =
       let s = allowed_serve plans no_send rest x now.1 in
       receive_idle plans (after Serve) x s.0 (before Serve Post (go (partner (pairs plans rest) x) refl s.0 s.1)) (newest_may_not_act Serve)
     where
@@ -92,8 +92,8 @@ module _ (plans : List Plan) (rest : List Act) (x : OpId) where
           let there = partners_mutual plans no_send rest m x now.0 (y.1 ∙ ap Some same) in
           both_ways _ (allowed_fresh plans no_send rest Post x now.1) (partner_of_receive plans rest x m (allowed_post plans no_send rest x now.1).0 there).posted
 
-  posted : IsInterleaving plans no_send (after Post) → IsIdle plans (after Post) x
-  posted now =
+  receive_is_idle_after_post : IsInterleaving plans no_send (after Post) → IsIdle plans (after Post) x
+  receive_is_idle_after_post now =
       receive_idle plans (after Post) x (allowed_post plans no_send rest x now.1).0 (newest_may_not_act Post) (false_from_ne_true _ (λ t. go (partner (pairs plans (after Post)) x) refl (allowed_serve plans no_send (after Post) x t).1))
     where
       go : (o : Option OpId) → partner (pairs plans (after Post)) x ≡ o → is_served plans no_send (after Post) o ≡ true → ⊥
@@ -152,21 +152,21 @@ module _ (plans : List Plan) (h : List Act) (x : OpId) (now : IsInterleaving pla
   pub newest_begin_is_not_of_receive : IsNewest Begin → IsReceive plans x → ⊥
   newest_begin_is_not_of_receive e k = receive_never_begins plans (drop 1 h) x (now_after Begin e) k
 
-  pub is_send : IsNewest Arrive → IsSend plans x
-  is_send e = only_sends_arrive plans (drop 1 h) x (now_after Arrive e)
+  pub newest_arrive_is_of_send : IsNewest Arrive → IsSend plans x
+  newest_arrive_is_of_send e = only_sends_arrive plans (drop 1 h) x (now_after Arrive e)
 
   pub idle_arrived : IsNewest Arrive → may_act plans h Data x ≡ false → IsIdle plans h x
   idle_arrived e f =
-      back Arrive e (arrived plans (drop 1 h) x (now_after Arrive e) (subst (λ (l : List Act). may_act plans l Data x ≡ false) e f))
+      back Arrive e (unpaired_send_is_idle_after_arrive plans (drop 1 h) x (now_after Arrive e) (subst (λ (l : List Act). may_act plans l Data x ≡ false) e f))
 
   pub idle_handed_over : IsNewest Data → IsIdle plans h x
-  idle_handed_over e = back Data e (handed_over plans (drop 1 h) x (now_after Data e))
+  idle_handed_over e = back Data e (send_is_idle_after_transfer plans (drop 1 h) x (now_after Data e))
 
   pub idle_served : IsNewest Serve → IsIdle plans h x
-  idle_served e = back Serve e (served plans (drop 1 h) x (now_after Serve e))
+  idle_served e = back Serve e (receive_is_idle_after_serve plans (drop 1 h) x (now_after Serve e))
 
   pub idle_posted : IsNewest Post → IsIdle plans h x
-  idle_posted e = back Post e (posted plans (drop 1 h) x (now_after Post e))
+  idle_posted e = back Post e (receive_is_idle_after_post plans (drop 1 h) x (now_after Post e))
 
   -- the partner that the action moves may act
   pub partner_acts : (c : Class) → IsNewest c → moves_partner c ≡ true → (y : OpId) → partner (pairs plans h) x ≡ Some y → (d : Class) × (may_act plans h d y ≡ true)
@@ -224,5 +224,5 @@ module _ (plans : List Plan) (x : OpId) where
   pub acts_at_first : (h : List Act) → h ≡ [] → IsOp plans x → needs plans x ≡ [] → (c : Class) × (may_act plans h c x ≡ true)
   acts_at_first h e is none =
       let first : Class = first_class (kind_at plans x) in
-      let may = start_of plans [] x first is refl ∙ (λ i. not (happened_none first x i) && ready_at_once none i) in
+      let may = first_action_may_act_iff_fresh_and_ready plans [] x first is refl ∙ (λ i. not (happened_none first x i) && ready_at_once none i) in
       (first, subst (λ (l : List Act). may_act plans l first x ≡ true) (sym e) may)

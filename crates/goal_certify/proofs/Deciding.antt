@@ -10,7 +10,7 @@ use Rattle.goal_blocks.specs.Laws.{CertifiedIsRightEverywhere, FaultExcludesCert
 use Rattle.goal_blocks.specs.Right.{IsRightEverywhere}
 use Rattle.goal_blocks.specs.Faults.{HasFault, IsCertificationFault}
 use Rattle.goal_certify.specs.Stages.{HasNone, IsFirstOf, IsStopped}
-use Rattle.goal_certify.proofs.StageLemmas.{none_joined, first_later, first_sooner}
+use Rattle.goal_certify.proofs.StageLemmas.{none_joined, first_fault_with_earlier_start, first_fault_with_later_end}
 
 module _ (plans : List Plan) (first : Store) (wanted : ℕ → ℕ → Value → Bool) where
   -- the answer of a stage whose kinds of faults may speak of values
@@ -23,11 +23,11 @@ module _ (plans : List Plan) (first : Store) (wanted : ℕ → ℕ → Value →
 
   pub fault_from_with_earlier_start : (a b c : ℕ) (fault : CertFault) → a ≤ b → HasNone plans first wanted a b → IsFaultFrom b c fault → IsFaultFrom a c fault
   fault_from_with_earlier_start a b c fault le none (inl e) = inl e
-  fault_from_with_earlier_start a b c fault le none (inr is) = inr (first_later plans first wanted a b c fault le none is)
+  fault_from_with_earlier_start a b c fault le none (inr is) = inr (first_fault_with_earlier_start plans first wanted a b c fault le none is)
 
   pub fault_from_with_later_end : (a b c : ℕ) (fault : CertFault) → b ≤ c → IsFaultFrom a b fault → IsFaultFrom a c fault
   fault_from_with_later_end a b c fault le (inl e) = inl e
-  fault_from_with_later_end a b c fault le (inr is) = inr (first_sooner plans first wanted a b c fault le is)
+  fault_from_with_later_end a b c fault le (inr is) = inr (first_fault_with_later_end plans first wanted a b c fault le is)
 
   pub none_on_ok_with_earlier_start : {T : Type 0} (r : Result T CertFault) (a b c : ℕ) → HasNone plans first wanted a b → OnOk r (HasNone plans first wanted b c) → OnOk r (HasNone plans first wanted a c)
   none_on_ok_with_earlier_start (Ok x) a b c lower upper = none_joined plans first wanted a b c lower upper

@@ -28,9 +28,9 @@ module _ (plans : List Plan) (rank n : ℕ) (in_range : (k : ℕ) → k < n → 
   abbrev deep : ℕ → ℕ → Bool
   deep m k = is_below plans m (op_id rank k)
 
-  next : (m l : ℕ) (k : ℕ) → k < n → ((j : ℕ) → j < n → deep m j ≡ true → deep l j ≡ true) → deep (suc m) k ≡ true → deep (suc l) k ≡ true
+  next_depth_preserves_implication : (m l : ℕ) (k : ℕ) → k < n → ((j : ℕ) → j < n → deep m j ≡ true → deep l j ≡ true) → deep (suc m) k ≡ true → deep (suc l) k ≡ true
   unfolding is_below
-  next m l k inside each h =
+  next_depth_preserves_implication m l k inside each h =
       list_all-from_AllPass (λ (d : Need). is_below plans l (needed (op_id rank k) d)) (needs plans (op_id rank k)) (λ i d lt. each (get_or (needs plans (op_id rank k)) i d).op (in_range k inside i d lt) (AllPass-from_list_all (λ (d : Need). is_below plans m (needed (op_id rank k) d)) (needs plans (op_id rank k)) h i d lt))
 
   deep_with_more : (j m k : ℕ) → deep m k ≡ true → deep (j + m) k ≡ true
@@ -47,7 +47,7 @@ module _ (plans : List Plan) (rank n : ℕ) (in_range : (k : ℕ) → k < n → 
   settled_at_larger_bound m (suc j) s =
       let e : suc j + m ≡ suc (j + m) = omega arith in
       let before : Settled (j + m) = settled_at_larger_bound m j s in
-      subst Settled (sym e) (λ k inside h. next (suc (j + m)) (j + m) k inside before h)
+      subst Settled (sym e) (λ k inside h. next_depth_preserves_implication (suc (j + m)) (j + m) k inside before h)
 
   settled_depth_stays : (m j k : ℕ) → Settled m → k < n → deep (j + m) k ≡ true → deep m k ≡ true
   settled_depth_stays m zero k s inside h = subst (λ (x : ℕ). deep x k ≡ true) (zero-add m) h

@@ -42,8 +42,8 @@ module _ (plans : List Plan) (first : Store) (h : List Act) (parcels : List (Opt
 
 -- the values at the place of a parcel
 module _ (sums : List Value) (parcels : List (Option Parcel)) (j : ℕ) (inside : j < length (values_of_parcels sums parcels)) where
-  within : j < length parcels
-  within = omega (arith, inside, length-map parcels (option_map (values_of_parcel sums)))
+  parcel_index_in_bounds : j < length parcels
+  parcel_index_in_bounds = omega (arith, inside, length-map parcels (option_map (values_of_parcel sums)))
 
   parcel_values_map : get_or (values_of_parcels sums parcels) j None ≡ option_map (values_of_parcel sums) (get_or parcels j None)
   parcel_values_map = get_or-map (option_map (values_of_parcel sums)) parcels j None
@@ -52,7 +52,7 @@ module _ (sums : List Value) (parcels : List (Option Parcel)) (j : ℕ) (inside 
   parcel_values_at p e = parcel_values_map ∙ ap (option_map (values_of_parcel sums)) e
 
   pub parcel_known_at : All (IsKnown sums) parcels → (p : Parcel) → get_or parcels j None ≡ Some p → IsPayload sums p.payload
-  parcel_known_at known p e = subst (IsKnown sums) e (known j None within)
+  parcel_known_at known p e = subst (IsKnown sums) e (known j None parcel_index_in_bounds)
 
   -- where a parcel has values, the parcel exists
   pub parcel_with_values : (t : ParcelValues) → get_or (values_of_parcels sums parcels) j None ≡ Some t → (p : Parcel) × (get_or parcels j None ≡ Some p)

@@ -200,17 +200,17 @@ free_of_races plans rank all none first wanted NoMemory low high h = absurd (ome
 
 -- what is known of a rank of a small schedule
 module _ (plans : List Plan) (rank : ℕ) (small : IsSmall plans) (inside : rank < length plans) (p : Plan) (read : p ≡ get_or plans rank p) where
-  at : slice_get plans rank ≡ Some p
-  at = slice_get_read plans (length plans) rank p refl inside read
+  plan_is_at_rank : slice_get plans rank ≡ Some p
+  plan_is_at_rank = slice_get_read plans (length plans) rank p refl inside read
 
   pub few_operations : length (ops_at plans rank) ≤ certified_op_limit
   few_operations =
       let few : length p.ops ≤ certified_op_limit = subst (λ (q : Plan). length q.ops ≤ certified_op_limit) (sym read) (small.operations rank p inside) in
-      omega (arith, ap length (ops_at_some plans rank p at), few)
+      omega (arith, ap length (ops_at_some plans rank p plan_is_at_rank), few)
 
   pub known_touches : (touches : List Touch) → touches ≡ flat_map (touches_of p.ops) p.notes → AreTouches plans rank touches
   known_touches touches e =
-      subst (AreTouches plans rank) (sym e) (are_touches plans rank p at (subst (λ (q : Plan). All NamesLowSlots q.notes) (sym read) (small.slots rank p inside)))
+      subst (AreTouches plans rank) (sym e) (are_touches plans rank p plan_is_at_rank (subst (λ (q : Plan). All NamesLowSlots q.notes) (sym read) (small.slots rank p inside)))
 
   pub low_ops : (touches : List Touch) → AreTouches plans rank touches → All (λ (t : Touch). t.op < certified_op_limit) touches
   low_ops touches known k d within =

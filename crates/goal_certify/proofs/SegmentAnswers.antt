@@ -44,27 +44,27 @@ module _ (what : Collective) (width : ℕ) (plans : List Plan) where
 
     module _ (count : ℕ) where
       -- of the block and its fault
-      abbrev pub IsTold : SegmentFault → Type 0
-      IsTold told = (told.fault ≡ NoMemory) ⊎ IsSegmentFault what width count plans told
+      abbrev pub IsSegmentFaultOrNoMemory : SegmentFault → Type 0
+      IsSegmentFaultOrNoMemory told = (told.fault ≡ NoMemory) ⊎ IsSegmentFault what width count plans told
 
-      pub told_there : (block : ℕ) (fault : CertFault) → block < count → ((k : ℕ) → k < block → IsCertifiedIn what width k plans) → IsFaultFrom plans (start block) (wish block) 0 9 fault → IsTold (record { block = block; fault = fault })
-      told_there block fault low before (inl e) = inl e
-      told_there block fault low before (inr is) =
+      pub segment_fault_from_block_fault : (block : ℕ) (fault : CertFault) → block < count → ((k : ℕ) → k < block → IsCertifiedIn what width k plans) → IsFaultFrom plans (start block) (wish block) 0 9 fault → IsSegmentFaultOrNoMemory (record { block = block; fault = fault })
+      segment_fault_from_block_fault block fault low before (inl e) = inl e
+      segment_fault_from_block_fault block fault low before (inr is) =
           inr (record { block = low; fault = is_fault plans (start block) (wish block) faultless excludes one (λ ps first wanted c. certified_right ps first wanted c) accepted fault is; certified_before = before })
 
-      pub stopped_there : (fault : CertFault) → 0 < count → IsStopped plans 0 6 fault → IsTold (record { block = 0; fault = fault })
-      stopped_there fault some stopped =
-          told_there 0 fault some (λ k low. absurd (omega (arith, low))) (fault_from_with_later_end plans (start 0) (wish 0) 0 6 9 fault (omega arith) (fault_from_if_stopped plans (start 0) (wish 0) 0 6 fault stopped))
+      pub first_segment_fault_if_stopped : (fault : CertFault) → 0 < count → IsStopped plans 0 6 fault → IsSegmentFaultOrNoMemory (record { block = 0; fault = fault })
+      first_segment_fault_if_stopped fault some stopped =
+          segment_fault_from_block_fault 0 fault some (λ k low. absurd (omega (arith, low))) (fault_from_with_later_end plans (start 0) (wish 0) 0 6 9 fault (omega arith) (fault_from_if_stopped plans (start 0) (wish 0) 0 6 fault stopped))
 
-      pub walked_there : (block : ℕ) (fault : CertFault) → block < count → ((k : ℕ) → k < block → IsCertifiedIn what width k plans) → IsFree plans 0 6 → IsFaultFrom plans (start block) (wish block) 6 9 fault → IsTold (record { block = block; fault = fault })
-      walked_there block fault low before free told =
-          told_there block fault low before (fault_from_with_earlier_start plans (start block) (wish block) 0 6 9 fault (omega arith) (free (start block) (wish block)) told)
+      pub segment_fault_from_late_stages : (block : ℕ) (fault : CertFault) → block < count → ((k : ℕ) → k < block → IsCertifiedIn what width k plans) → IsFree plans 0 6 → IsFaultFrom plans (start block) (wish block) 6 9 fault → IsSegmentFaultOrNoMemory (record { block = block; fault = fault })
+      segment_fault_from_late_stages block fault low before free told =
+          segment_fault_from_block_fault block fault low before (fault_from_with_earlier_start plans (start block) (wish block) 0 6 9 fault (omega arith) (free (start block) (wish block)) told)
 
       pub excluded : (found : SegmentFault) → IsSegmentFault what width count plans found → IsCertifiedIn what width found.block plans → ⊥
       excluded found is good =
           excludes plans (start found.block) (wish found.block) found.fault is.fault.has good
 
-      pub none_told : (told : SegmentFault) → IsTold told → ((block : ℕ) → block < count → IsCertifiedIn what width block plans) → told.fault ≡ NoMemory
+      pub none_told : (told : SegmentFault) → IsSegmentFaultOrNoMemory told → ((block : ℕ) → block < count → IsCertifiedIn what width block plans) → told.fault ≡ NoMemory
       none_told told (inl e) all = e
       none_told told (inr is) all = absurd (excluded told is (all told.block is.block))
 
@@ -78,6 +78,6 @@ module _ (what : Collective) (width : ℕ) (plans : List Plan) where
               let same = one plans (start found.block) (wish found.block) told.fault found.fault (subst (λ (b : ℕ). IsCertificationFault plans (start b) (wish b) told.fault) e is.fault) other.fault in
               λ i. record { block = e i; fault = same i }
 
-      pub that_told : (told : SegmentFault) → IsTold told → (found : SegmentFault) → IsSegmentFault what width count plans found → (told ≡ found) ⊎ (told.fault ≡ NoMemory)
+      pub that_told : (told : SegmentFault) → IsSegmentFaultOrNoMemory told → (found : SegmentFault) → IsSegmentFault what width count plans found → (told ≡ found) ⊎ (told.fault ≡ NoMemory)
       that_told told (inl e) found is = inr e
       that_told told (inr here) found is = inl (one_found told found here is)

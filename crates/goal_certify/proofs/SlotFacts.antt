@@ -144,8 +144,8 @@ unfolding add_all
 add_last rank [] a s = refl
 add_last rank (b ∷ added) a s = add_last rank added a (set_slot rank b.to (merge (s rank b.to) (s rank b.from)) s)
 
-pub add_more : (rank : ℕ) (added : List Adding) (i : ℕ) (d : Adding) (s : Store) → i < length added → add_all rank (take (i + 1) added) s ≡ set_slot rank (get_or added i d).to (merge (add_all rank (take i added) s rank (get_or added i d).to) (add_all rank (take i added) s rank (get_or added i d).from)) (add_all rank (take i added) s)
-add_more rank added i d s l =
+pub add_all_takes_next_adding : (rank : ℕ) (added : List Adding) (i : ℕ) (d : Adding) (s : Store) → i < length added → add_all rank (take (i + 1) added) s ≡ set_slot rank (get_or added i d).to (merge (add_all rank (take i added) s rank (get_or added i d).to) (add_all rank (take i added) s rank (get_or added i d).from)) (add_all rank (take i added) s)
+add_all_takes_next_adding rank added i d s l =
     ap (λ (items : List Adding). add_all rank items s) (take_more added i d l) ∙ add_last rank (take i added) (get_or added i d) s
 
 pub stored_after_next_adding : (ranks rank : ℕ) (added : List Adding) (i : ℕ) (d : Adding) (s : Store) → rank < ranks → i < length added → (get_or added i d).to ≤ slot_limit → stored ranks (add_all rank (take (i + 1) added) s) ≡ stored ranks (add_all rank (take i added) s) + length (add_all rank (take i added) s rank (get_or added i d).from)
@@ -153,7 +153,7 @@ stored_after_next_adding ranks rank added i d s low l to_low =
     let a = get_or added i d in
     let t = add_all rank (take i added) s in
     let set = stored_set ranks rank a.to (merge (t rank a.to) (t rank a.from)) t low (omega (arith, to_low)) in
-    omega (arith, set, length_merge (t rank a.to) (t rank a.from), ap (stored ranks) (add_more rank added i d s l))
+    omega (arith, set, length_merge (t rank a.to) (t rank a.from), ap (stored ranks) (add_all_takes_next_adding rank added i d s l))
 
 -- the notes before the place are added, and after each of them few enough contributions were held
 pub record NotesAdded (rank : ℕ) (added : List Adding) (others : ℕ) (first now : Store) (ranks ranks_now i : ℕ) : Type 0 where
@@ -179,7 +179,7 @@ module _ (rank : ℕ) (added : List Adding) (others : ℕ) (first now : Store) (
     pub added_next : total ≤ weight_limit → (after : Store) (ranks_after : ℕ) → after ≡ set_slot rank (get_or added i d).to (merge (now rank (get_or added i d).to) (now rank (get_or added i d).from)) now → ranks_after ≡ ranks_now → NotesAdded rank added others first after ranks ranks_after (i + 1)
     added_next few after ranks_after e same = record {
       same = same ∙ so_far.same;
-      stores = e ∙ ap (λ (s : Store). set_slot rank (get_or added i d).to (merge (s rank (get_or added i d).to) (s rank (get_or added i d).from)) s) so_far.stores ∙ sym (add_more rank added i d first inside);
+      stores = e ∙ ap (λ (s : Store). set_slot rank (get_or added i d).to (merge (s rank (get_or added i d).to) (s rank (get_or added i d).from)) s) so_far.stores ∙ sym (add_all_takes_next_adding rank added i d first inside);
       within = λ n l. elim (cases_lt i n) [ inl past ↦ (let e : i + 1 ≡ n = omega (arith, l, past) in let most : stored ranks (add_all rank (take (i + 1) added) first) + others ≤ weight_limit = omega (arith, next_total, few) in subst (λ (k : ℕ). stored ranks (add_all rank (take k added) first) + others ≤ weight_limit) e most) | inr le ↦ so_far.within n le ];
     }
 

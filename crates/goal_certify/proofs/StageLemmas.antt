@@ -20,8 +20,8 @@ module _ (plans : List Plan) where
         ⊎_elim (λ l. lower fault from l has) (λ g. upper fault g under has) (cases_lt (fault_place fault) b)
 
     -- the first fault of a stage, where the one before has none
-    pub first_later : (a b c : ℕ) (fault : CertFault) → a ≤ b → HasNone plans first wanted a b → IsFirstOf plans first wanted b c fault → IsFirstOf plans first wanted a c fault
-    first_later a b c fault le lower is = record {
+    pub first_fault_with_earlier_start : (a b c : ℕ) (fault : CertFault) → a ≤ b → HasNone plans first wanted a b → IsFirstOf plans first wanted b c fault → IsFirstOf plans first wanted a c fault
+    first_fault_with_earlier_start a b c fault le lower is = record {
       has = is.has;
       not_under = omega (arith, le, is.not_under);
       under = is.under;
@@ -29,8 +29,8 @@ module _ (plans : List Plan) where
     }
 
     -- the first fault of a stage, with those that follow it
-    pub first_sooner : (a b c : ℕ) (fault : CertFault) → b ≤ c → IsFirstOf plans first wanted a b fault → IsFirstOf plans first wanted a c fault
-    first_sooner a b c fault le is = record {
+    pub first_fault_with_later_end : (a b c : ℕ) (fault : CertFault) → b ≤ c → IsFirstOf plans first wanted a b fault → IsFirstOf plans first wanted a c fault
+    first_fault_with_later_end a b c fault le is = record {
       has = is.has;
       not_under = is.not_under;
       under = omega (arith, le, is.under);
@@ -46,24 +46,24 @@ module _ (plans : List Plan) where
   free_within a b c d low high free first wanted fault from under has =
       free first wanted fault (omega (arith, low, from)) (omega (arith, high, under)) has
 
-  pub stopped_later : (a b c : ℕ) (fault : CertFault) → a ≤ b → IsFree plans a b → IsStopped plans b c fault → IsStopped plans a c fault
-  stopped_later a b c fault le free (inl e) = inl e
-  stopped_later a b c fault le free (inr is) =
-      inr (λ first wanted. first_later first wanted a b c fault le (free first wanted) (is first wanted))
+  pub stopped_with_earlier_start : (a b c : ℕ) (fault : CertFault) → a ≤ b → IsFree plans a b → IsStopped plans b c fault → IsStopped plans a c fault
+  stopped_with_earlier_start a b c fault le free (inl e) = inl e
+  stopped_with_earlier_start a b c fault le free (inr is) =
+      inr (λ first wanted. first_fault_with_earlier_start first wanted a b c fault le (free first wanted) (is first wanted))
 
-  pub stopped_sooner : (a b c : ℕ) (fault : CertFault) → b ≤ c → IsStopped plans a b fault → IsStopped plans a c fault
-  stopped_sooner a b c fault le (inl e) = inl e
-  stopped_sooner a b c fault le (inr is) =
-      inr (λ first wanted. first_sooner first wanted a b c fault le (is first wanted))
+  pub stopped_with_later_end : (a b c : ℕ) (fault : CertFault) → b ≤ c → IsStopped plans a b fault → IsStopped plans a c fault
+  stopped_with_later_end a b c fault le (inl e) = inl e
+  stopped_with_later_end a b c fault le (inr is) =
+      inr (λ first wanted. first_fault_with_later_end first wanted a b c fault le (is first wanted))
 
   -- the answer of a stage after one that has no fault
-  pub answer_free : {T : Type 0} (r : Result T CertFault) (a b c : ℕ) → IsFree plans a b → OnOk r (IsFree plans b c) → OnOk r (IsFree plans a c)
-  answer_free (Ok x) a b c lower upper = free_joined a b c lower upper
-  answer_free (Err fault) a b c lower upper = tt
+  pub free_on_ok_with_earlier_start : {T : Type 0} (r : Result T CertFault) (a b c : ℕ) → IsFree plans a b → OnOk r (IsFree plans b c) → OnOk r (IsFree plans a c)
+  free_on_ok_with_earlier_start (Ok x) a b c lower upper = free_joined a b c lower upper
+  free_on_ok_with_earlier_start (Err fault) a b c lower upper = tt
 
-  pub answer_stopped : {T : Type 0} (r : Result T CertFault) (a b c : ℕ) → a ≤ b → IsFree plans a b → IfErr r (IsStopped plans b c) → IfErr r (IsStopped plans a c)
-  answer_stopped (Ok x) a b c le free stopped = tt
-  answer_stopped (Err fault) a b c le free stopped = stopped_later a b c fault le free stopped
+  pub stopped_on_err_with_earlier_start : {T : Type 0} (r : Result T CertFault) (a b c : ℕ) → a ≤ b → IsFree plans a b → IfErr r (IsStopped plans b c) → IfErr r (IsStopped plans a c)
+  stopped_on_err_with_earlier_start (Ok x) a b c le free stopped = tt
+  stopped_on_err_with_earlier_start (Err fault) a b c le free stopped = stopped_with_earlier_start a b c fault le free stopped
 
   -- a fault of the one kind that a stage looks for is its first
   pub stopped_by : (n : ℕ) (fault : CertFault) → fault_place fault ≡ n → ((first : Store) (wanted : ℕ → ℕ → Value → Bool) → HasFault plans first wanted fault) → IsStopped plans n (n + 1) fault

@@ -156,22 +156,22 @@ module _ (plans : List Plan) (rank : ℕ) (p : Plan) (at : slice_get plans rank 
   noted_touch (Adds op from to) (Some (Recv room source tag)) t cn ct = absurd (omega (arith, ct.1))
   noted_touch (Adds op from to) None t cn ct = absurd (omega (arith, ct.1))
 
-  abbrev all : List Touch
-  all = flat_map (touches_of p.ops) p.notes
+  abbrev touches_of_all_notes : List Touch
+  touches_of_all_notes = flat_map (touches_of p.ops) p.notes
 
-  touch_fits : (t : Touch) → Contains all t → Fits (kind t.op) t
+  touch_fits : (t : Touch) → Contains touches_of_all_notes t → Fits (kind t.op) t
   touch_fits t c =
       let m = in_flat_map (touches_of p.ops) p.notes t c in
       let s = noted_touch m.0 (kind (noted m.0)) t m.1 m.2 in
       subst (λ (k : ℕ). Fits (kind k) t) s.0 s.1
 
-  in_all : (n : Note) (t : Touch) → Contains p.notes n → Contains (touches_in (kind (noted n)) n) t → Contains all t
+  in_all : (n : Note) (t : Touch) → Contains p.notes n → Contains (touches_in (kind (noted n)) n) t → Contains touches_of_all_notes t
   in_all n t cn ct = flat_map_in (touches_of p.ops) p.notes n t cn ct
 
   -- a moved slot is touched
   module _ (k s : ℕ) (q : Option Kind) (is_kind : kind k ≡ q) where
     abbrev Found : Bool → Type 0
-    Found w = (t : Touch) × Contains all t × (t.op ≡ k) × (t.slot ≡ s) × (t.writes ≡ w)
+    Found w = (t : Touch) × Contains touches_of_all_notes t × (t.op ≡ k) × (t.slot ≡ s) × (t.writes ≡ w)
 
     move_found : (w : Bool) → ((lo hi : ℕ) → touches_in q (Moves k lo hi) ≡ moved k w (slots_from lo (hi + 1 - lo))) → Contains (flat_map (moved_by k) p.notes) s → Found w
     unfolding moved
@@ -192,8 +192,8 @@ module _ (plans : List Plan) (rank : ℕ) (p : Plan) (at : slice_get plans rank 
         by_note (Adds of from to) cn cs = absurd (omega (arith, cs.1))
 
   -- the slots of an addition are those of a note
-  note_of : (k : ℕ) (a : Adding) → Contains (flat_map (added_by k) p.notes) a → Contains p.notes (Adds k a.from a.to)
-  note_of k a c = let m = in_flat_map (added_by k) p.notes a c in by_note m.0 m.1 m.2
+  adding_has_note : (k : ℕ) (a : Adding) → Contains (flat_map (added_by k) p.notes) a → Contains p.notes (Adds k a.from a.to)
+  adding_has_note k a c = let m = in_flat_map (added_by k) p.notes a c in by_note m.0 m.1 m.2
     where
       by_note : (n : Note) → Contains p.notes n → Contains (added_by k n) a → Contains p.notes (Adds k a.from a.to)
       by_note (Moves of lo hi) cn ca = absurd (omega (arith, ca.1))
@@ -212,16 +212,16 @@ module _ (plans : List Plan) (rank : ℕ) (p : Plan) (at : slice_get plans rank 
     abbrev writing : Touch
     writing = record { op = k; slot = a.to; writes = true }
 
-    both : Contains all reading × Contains all writing
+    both : Contains touches_of_all_notes reading × Contains touches_of_all_notes writing
     both =
         let n : Note = Adds k a.from a.to in
         let shape : touches_in (kind k) n ≡ reading ∷ writing ∷ [] = ap (λ (r : Option Kind). touches_in r n) is_kind in
-        (in_all n reading (note_of k a c) (subst (λ (ts : List Touch). Contains ts reading) (sym shape) (contains_first reading (writing ∷ []) reading refl)), in_all n writing (note_of k a c) (subst (λ (ts : List Touch). Contains ts writing) (sym shape) (contains_more reading (writing ∷ []) writing (contains_first writing [] writing refl))))
+        (in_all n reading (adding_has_note k a c) (subst (λ (ts : List Touch). Contains ts reading) (sym shape) (contains_first reading (writing ∷ []) reading refl)), in_all n writing (adding_has_note k a c) (subst (λ (ts : List Touch). Contains ts writing) (sym shape) (contains_more reading (writing ∷ []) writing (contains_first writing [] writing refl))))
 
-  touched_found : (k s : ℕ) → Contains (touched plans (op_id rank k)) s → (t : Touch) × Contains all t × (t.op ≡ k) × (t.slot ≡ s)
+  touched_found : (k s : ℕ) → Contains (touched plans (op_id rank k)) s → (t : Touch) × Contains touches_of_all_notes t × (t.op ≡ k) × (t.slot ≡ s)
   touched_found k s c = go (kind k) refl (subst (λ (zs : List ℕ). Contains zs s) (touched_is k) c)
     where
-      go : (q : Option Kind) → kind k ≡ q → Contains (touched_here q k) s → (t : Touch) × Contains all t × (t.op ≡ k) × (t.slot ≡ s)
+      go : (q : Option Kind) → kind k ≡ q → Contains (touched_here q k) s → (t : Touch) × Contains touches_of_all_notes t × (t.op ≡ k) × (t.slot ≡ s)
       go None e c = absurd (omega (arith, c.1))
       go (Some (Send bytes to tag)) e c =
           let f = move_found k s (Some (Send bytes to tag)) e false (λ lo hi. refl) c in (f.0, f.1, f.2, f.3)
@@ -231,15 +231,15 @@ module _ (plans : List Plan) (rank : ℕ) (p : Plan) (at : slice_get plans rank 
           let m = in_flat_map (λ (a : Adding). a.from ∷ a.to ∷ []) (flat_map (added_by k) p.notes) s c in
           either m.0 (both k nanos e m.0 m.1) m.2
         where
-          either : (a : Adding) → Contains all (record { op = k; slot = a.from; writes = false }) × Contains all (record { op = k; slot = a.to; writes = true }) → Contains (a.from ∷ a.to ∷ []) s → (t : Touch) × Contains all t × (t.op ≡ k) × (t.slot ≡ s)
+          either : (a : Adding) → Contains touches_of_all_notes (record { op = k; slot = a.from; writes = false }) × Contains touches_of_all_notes (record { op = k; slot = a.to; writes = true }) → Contains (a.from ∷ a.to ∷ []) s → (t : Touch) × Contains touches_of_all_notes t × (t.op ≡ k) × (t.slot ≡ s)
           either a b (zero, l, f) = (record { op = k; slot = a.from; writes = false }, b.0, refl, f)
           either a b (suc zero, l, f) = (record { op = k; slot = a.to; writes = true }, b.1, refl, f)
           either a b (suc (suc i), l, f) = absurd (omega (arith, l))
 
-  written_found : (k s : ℕ) → Contains (written plans (op_id rank k)) s → (t : Touch) × Contains all t × (t.op ≡ k) × (t.slot ≡ s) × (t.writes ≡ true)
+  written_found : (k s : ℕ) → Contains (written plans (op_id rank k)) s → (t : Touch) × Contains touches_of_all_notes t × (t.op ≡ k) × (t.slot ≡ s) × (t.writes ≡ true)
   written_found k s c = go (kind k) refl (subst (λ (zs : List ℕ). Contains zs s) (written_is k) c)
     where
-      go : (q : Option Kind) → kind k ≡ q → Contains (written_here q k) s → (t : Touch) × Contains all t × (t.op ≡ k) × (t.slot ≡ s) × (t.writes ≡ true)
+      go : (q : Option Kind) → kind k ≡ q → Contains (written_here q k) s → (t : Touch) × Contains touches_of_all_notes t × (t.op ≡ k) × (t.slot ≡ s) × (t.writes ≡ true)
       go None e c = absurd (omega (arith, c.1))
       go (Some (Send bytes to tag)) e c = absurd (omega (arith, c.1))
       go (Some (Recv room from tag)) e c = move_found k s (Some (Recv room from tag)) e true (λ lo hi. refl) c
@@ -276,7 +276,7 @@ module _ (plans : List Plan) (rank : ℕ) (p : Plan) (at : slice_get plans rank 
   touch_is_low (Moves op lo hi) None t l c = absurd (omega (arith, c.1))
   touch_is_low (Adds op from to) None t l c = absurd (omega (arith, c.1))
 
-  pub are_touches : All NamesLowSlots p.notes → AreTouches plans rank all
+  pub are_touches : All NamesLowSlots p.notes → AreTouches plans rank touches_of_all_notes
   are_touches slots_low = record {
     touch = λ t c. subst (λ (zs : List ℕ). Contains zs t.slot) (sym (touched_is t.op)) (touch_fits t c).0;
     write = λ t c w. subst (λ (zs : List ℕ). Contains zs t.slot) (sym (written_is t.op)) ((touch_fits t c).1 w);

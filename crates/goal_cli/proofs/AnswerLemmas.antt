@@ -789,49 +789,49 @@ module _ (old new : Devices) where
   read_fault command err err' answer.NoMemory s cause (inl (e, told)) is = cc
 
   -- the output was written whole
-  pub done : (command : Option Command) (err err' : SinkState) (a : Answer) (s : Status) → IsCause old new command a
+  pub done_status_means_written : (command : Option Command) (err err' : SinkState) (a : Answer) (s : Status) → IsCause old new command a
       → IsAnswered err err' a s → s ≡ status.Done
       → IsSomeAnd command (IsWritten old new ending.Done)
-  done command err err' a s cause (inr (e, part)) is = cc
-  done None err err' (answer.Written ending.Done) s cause (inl (e, told)) is = absurd cause
-  done (Some c) err err' (answer.Written ending.Done) s cause (inl (e, told)) is = cause
-  done command err err' (answer.Written ending.Stuck) s cause (inl (e, told)) is = cc
-  done command err err' (answer.Written ending.NotCertified) s cause (inl (e, told)) is = cc
-  done command err err' answer.BadLine s cause (inl (e, told)) is = cc
-  done command err err' (answer.Refused r) s cause (inl (e, told)) is = cc
-  done command err err' answer.ReadFault s cause (inl (e, told)) is = cc
-  done command err err' answer.WriteFault s cause (inl (e, told)) is = cc
-  done command err err' answer.NoMemory s cause (inl (e, told)) is = cc
+  done_status_means_written command err err' a s cause (inr (e, part)) is = cc
+  done_status_means_written None err err' (answer.Written ending.Done) s cause (inl (e, told)) is = absurd cause
+  done_status_means_written (Some c) err err' (answer.Written ending.Done) s cause (inl (e, told)) is = cause
+  done_status_means_written command err err' (answer.Written ending.Stuck) s cause (inl (e, told)) is = cc
+  done_status_means_written command err err' (answer.Written ending.NotCertified) s cause (inl (e, told)) is = cc
+  done_status_means_written command err err' answer.BadLine s cause (inl (e, told)) is = cc
+  done_status_means_written command err err' (answer.Refused r) s cause (inl (e, told)) is = cc
+  done_status_means_written command err err' answer.ReadFault s cause (inl (e, told)) is = cc
+  done_status_means_written command err err' answer.WriteFault s cause (inl (e, told)) is = cc
+  done_status_means_written command err err' answer.NoMemory s cause (inl (e, told)) is = cc
 
   -- the output was written whole
-  pub stuck : (command : Option Command) (err err' : SinkState) (a : Answer) (s : Status) → IsCause old new command a
+  pub stuck_status_means_written : (command : Option Command) (err err' : SinkState) (a : Answer) (s : Status) → IsCause old new command a
       → IsAnswered err err' a s → s ≡ status.Stuck
       → IsSomeAnd command (IsWritten old new ending.Stuck)
-  stuck command err err' a s cause (inr (e, part)) is = cc
-  stuck command err err' (answer.Written ending.Done) s cause (inl (e, told)) is = cc
-  stuck None err err' (answer.Written ending.Stuck) s cause (inl (e, told)) is = absurd cause
-  stuck (Some c) err err' (answer.Written ending.Stuck) s cause (inl (e, told)) is = cause
-  stuck command err err' (answer.Written ending.NotCertified) s cause (inl (e, told)) is = cc
-  stuck command err err' answer.BadLine s cause (inl (e, told)) is = cc
-  stuck command err err' (answer.Refused r) s cause (inl (e, told)) is = cc
-  stuck command err err' answer.ReadFault s cause (inl (e, told)) is = cc
-  stuck command err err' answer.WriteFault s cause (inl (e, told)) is = cc
-  stuck command err err' answer.NoMemory s cause (inl (e, told)) is = cc
+  stuck_status_means_written command err err' a s cause (inr (e, part)) is = cc
+  stuck_status_means_written command err err' (answer.Written ending.Done) s cause (inl (e, told)) is = cc
+  stuck_status_means_written None err err' (answer.Written ending.Stuck) s cause (inl (e, told)) is = absurd cause
+  stuck_status_means_written (Some c) err err' (answer.Written ending.Stuck) s cause (inl (e, told)) is = cause
+  stuck_status_means_written command err err' (answer.Written ending.NotCertified) s cause (inl (e, told)) is = cc
+  stuck_status_means_written command err err' answer.BadLine s cause (inl (e, told)) is = cc
+  stuck_status_means_written command err err' (answer.Refused r) s cause (inl (e, told)) is = cc
+  stuck_status_means_written command err err' answer.ReadFault s cause (inl (e, told)) is = cc
+  stuck_status_means_written command err err' answer.WriteFault s cause (inl (e, told)) is = cc
+  stuck_status_means_written command err err' answer.NoMemory s cause (inl (e, told)) is = cc
 
   -- the verdict was written whole
-  pub not_certified : (command : Option Command) (err err' : SinkState) (a : Answer) (s : Status) → IsCause old new command a
+  pub not_certified_status_means_written : (command : Option Command) (err err' : SinkState) (a : Answer) (s : Status) → IsCause old new command a
       → IsAnswered err err' a s → s ≡ status.NotCertified
       → IsSomeAnd command (IsWritten old new ending.NotCertified)
-  not_certified command err err' a s cause (inr (e, part)) is = cc
-  not_certified command err err' (answer.Written ending.Done) s cause (inl (e, told)) is = cc
-  not_certified None err err' (answer.Written ending.NotCertified) s cause (inl (e, told)) is = absurd cause
-  not_certified (Some c) err err' (answer.Written ending.NotCertified) s cause (inl (e, told)) is = cause
-  not_certified command err err' (answer.Written ending.Stuck) s cause (inl (e, told)) is = cc
-  not_certified command err err' answer.BadLine s cause (inl (e, told)) is = cc
-  not_certified command err err' (answer.Refused r) s cause (inl (e, told)) is = cc
-  not_certified command err err' answer.ReadFault s cause (inl (e, told)) is = cc
-  not_certified command err err' answer.WriteFault s cause (inl (e, told)) is = cc
-  not_certified command err err' answer.NoMemory s cause (inl (e, told)) is = cc
+  not_certified_status_means_written command err err' a s cause (inr (e, part)) is = cc
+  not_certified_status_means_written command err err' (answer.Written ending.Done) s cause (inl (e, told)) is = cc
+  not_certified_status_means_written None err err' (answer.Written ending.NotCertified) s cause (inl (e, told)) is = absurd cause
+  not_certified_status_means_written (Some c) err err' (answer.Written ending.NotCertified) s cause (inl (e, told)) is = cause
+  not_certified_status_means_written command err err' (answer.Written ending.Stuck) s cause (inl (e, told)) is = cc
+  not_certified_status_means_written command err err' answer.BadLine s cause (inl (e, told)) is = cc
+  not_certified_status_means_written command err err' (answer.Refused r) s cause (inl (e, told)) is = cc
+  not_certified_status_means_written command err err' answer.ReadFault s cause (inl (e, told)) is = cc
+  not_certified_status_means_written command err err' answer.WriteFault s cause (inl (e, told)) is = cc
+  not_certified_status_means_written command err err' answer.NoMemory s cause (inl (e, told)) is = cc
 
   -- only a verdict ends with NotCertified
   not_certified_view_is_verdict : (v : View) → EndsAs v ending.NotCertified → IsVerdict v
@@ -849,7 +849,7 @@ module _ (old new : Devices) where
       → IsAnswered err err' a s → s ≡ status.NotCertified
       → IsSomeAnd command IsCertify
   only_certify command err err' a s cause told is =
-      written_not_certified_is_certify command (not_certified command err err' a s cause told is)
+      written_not_certified_is_certify command (not_certified_status_means_written command err err' a s cause told is)
 
 -- the line of a status was written
 pub line_said : (err err' : SinkState) (a : Answer) (s : Status) → IsAnswered err err' a s

@@ -19,5 +19,5 @@ module _ (r : TextReader) (input : List ℕ) (f : TextFault) (now : (text : List
       let said : reads input ≡ faulty g = ap reads (sym (append-nil input)) ∙ at.1 [] in
       rw said (again g is)
 
-  pub failed : Follows r input → IsFaultOf (reads input) f
-  failed follows = fails_as (fault_met r) refl follows
+  pub fault_at_end_is_of_text : Follows r input → IsFaultOf (reads input) f
+  fault_at_end_is_of_text follows = fails_as (fault_met r) refl follows

@@ -11,9 +11,9 @@ use Rattle.goal_input.specs.InputFaults.{IsFaultIn, CountsReading}
 use Rattle.goal_input.specs.Intake.{Begins, Stands}
 
 -- an input that has a byte has a first one
-pub begins : (b : Bool) (input : List ℕ) → 0 < length input → is_compiled input ≡ b → Begins b input
-begins b [] some is = absurd (omega arith)
-begins b (x ∷ xs) some is = is
+pub nonempty_input_begins : (b : Bool) (input : List ℕ) → 0 < length input → is_compiled input ≡ b → Begins b input
+nonempty_input_begins b [] some is = absurd (omega arith)
+nonempty_input_begins b (x ∷ xs) some is = is
 
 -- an input that was read to its end had no fault of the host
 pub counts_at_end : {A : Type 0} (result : Result A InputFault) (a b : HostState) (faulted : Type 0) (kept : Intake) (input : List ℕ)

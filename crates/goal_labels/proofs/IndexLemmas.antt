@@ -124,24 +124,24 @@ module _ (es : Entries) (first ascending : ℕ) (numbers : LabelNumbers) (map : 
 
 -- a label is appended
 module _ (es : Entries) (label : List ℕ) (info : LabelInfo) (first ascending : ℕ) (numbers : LabelNumbers) (map : IsMap es first ascending numbers) (absent : IsAbsent es label) where
-  abbrev pub more : Entries
-  more = es ++ (label, info) ∷ []
+  abbrev pub entries_with_new_label : Entries
+  entries_with_new_label = es ++ (label, info) ∷ []
 
-  count : length more ≡ length es + 1
+  count : length entries_with_new_label ≡ length es + 1
   count = length-append es ((label, info) ∷ [])
 
-  unique : AreUnique more
+  unique : AreUnique entries_with_new_label
   unique = AreUnique-more es label info map.unique absent
 
   -- the label joins the run
-  pub IsMap-joined : ascending ≡ length es → AreBefore es first label → IsMap more first (ascending + 1) numbers
+  pub IsMap-joined : ascending ≡ length es → AreBefore es first label → IsMap entries_with_new_label first (ascending + 1) numbers
   IsMap-joined all before = record {
     begins = omega (arith, map.begins);
     within = omega (arith, count, all);
     ascend = ascending_more es label info first ascending map.ascend all before;
     numbered_before = λ i q below at.
         map.numbered_before i q below (IsAt-before es (label, info) q i (omega (arith, below, map.begins, map.within)) at);
-    numbered_after = λ i q past at. absurd (omega (arith, past, all, count, IsAt-within more q i at));
+    numbered_after = λ i q past at. absurd (omega (arith, past, all, count, IsAt-within entries_with_new_label q i at));
     there = λ i q is. IsAt-left es (label, info) q i (map.there i q is);
     apart = λ i q is from. absurd (omega (arith, all, map.apart i q is from, IsAt-within es q i (map.there i q is)));
     few = map.few;
@@ -150,25 +150,25 @@ module _ (es : Entries) (label : List ℕ) (info : LabelInfo) (first ascending :
 
   -- the label gets a number
   pub IsMap-numbered : (new : LabelNumbers) (n : ℕ) → n ≡ length es → AreFew new
-      → ((q : List ℕ) → number_of new q ≡ (if bytes_eq label q then Some n else number_of numbers q)) → IsMap more first ascending new
+      → ((q : List ℕ) → number_of new q ≡ (if bytes_eq label q then Some n else number_of numbers q)) → IsMap entries_with_new_label first ascending new
   IsMap-numbered new n last few gives = record {
     begins = map.begins;
     within = omega (arith, count, map.within);
     ascend = others_still_ascend es label info first ascending map.ascend map.within;
-    numbered_before = λ i q below is. numbered_after_insert more label n unique changed_entry numbers new gives i q is (λ other. map.numbered_before i q below (earlier i q is other));
-    numbered_after = λ i q past is. numbered_after_insert more label n unique changed_entry numbers new gives i q is (λ other. map.numbered_after i q past (earlier i q is other));
-    there = λ i q is. number_after_insert-cases more label n unique changed_entry numbers new gives i q (λ k l. IsAt more l k) changed_entry (λ label_was_there. IsAt-left es (label, info) q i (map.there i q label_was_there)) is;
+    numbered_before = λ i q below is. numbered_after_insert entries_with_new_label label n unique changed_entry numbers new gives i q is (λ other. map.numbered_before i q below (earlier i q is other));
+    numbered_after = λ i q past is. numbered_after_insert entries_with_new_label label n unique changed_entry numbers new gives i q is (λ other. map.numbered_after i q past (earlier i q is other));
+    there = λ i q is. number_after_insert-cases entries_with_new_label label n unique changed_entry numbers new gives i q (λ k l. IsAt entries_with_new_label l k) changed_entry (λ label_was_there. IsAt-left es (label, info) q i (map.there i q label_was_there)) is;
     apart = λ i q is from.
-        number_after_insert-cases more label n unique changed_entry numbers new gives i q (λ k l. first ≤ k → ascending ≤ k) (λ past. omega (arith, last, map.within)) (map.apart i q) is from;
+        number_after_insert-cases entries_with_new_label label n unique changed_entry numbers new gives i q (λ k l. first ≤ k → ascending ≤ k) (λ past. omega (arith, last, map.within)) (map.apart i q) is from;
     few = few;
     unique = unique;
   }
     where
-      changed_entry : IsAt more label n
-      changed_entry = subst (IsAt more label) (sym last) (IsAt-last es label info)
+      changed_entry : IsAt entries_with_new_label label n
+      changed_entry = subst (IsAt entries_with_new_label label) (sym last) (IsAt-last es label info)
 
-      earlier : (i : ℕ) (q : List ℕ) → IsAt more q i → i ≢ n → IsAt es q i
-      earlier i q is other = IsAt-before es (label, info) q i (omega (arith, other, last, count, IsAt-within more q i is)) is
+      earlier : (i : ℕ) (q : List ℕ) → IsAt entries_with_new_label q i → i ≢ n → IsAt es q i
+      earlier i q is other = IsAt-before es (label, info) q i (omega (arith, other, last, count, IsAt-within entries_with_new_label q i is)) is
 
 -- the info of an entry is replaced
 module _ (es : Entries) (i : ℕ) (label : List ℕ) (old info : LabelInfo) (at : slice_get es i ≡ Some (label, old)) where

@@ -94,8 +94,8 @@ lesser_label_has_lesser_number es one other first i j count ascending from withi
 
 -- a label is appended
 module _ (es : Entries) (label : List ℕ) (info : LabelInfo) (first count : ℕ) (ascending : AreAscending es first count) where
-  abbrev more : Entries
-  more = es ++ (label, info) ∷ []
+  abbrev entries_with_next_label : Entries
+  entries_with_next_label = es ++ (label, info) ∷ []
 
   -- the others still ascend
   pub others_still_ascend : count ≤ length es → AreAscending (es ++ (label, info) ∷ []) first count
@@ -113,5 +113,5 @@ module _ (es : Entries) (label : List ℕ) (info : LabelInfo) (first count : ℕ
           ascending i j one other from less (omega (arith, all, within)) earlier (IsAt-before es _ other j within b)
       by false p =
           let last : j ≡ length es = omega (arith, all, below, not_from_Decides false p refl) in
-          ap (label_cmp one) (label_at_place_is_unique more other label (length es) (subst (IsAt more other) last b) (IsAt-last es label info))
+          ap (label_cmp one) (label_at_place_is_unique entries_with_next_label other label (length es) (subst (IsAt entries_with_next_label other) last b) (IsAt-last es label info))
           ∙ before i one from (IsAt-before es _ one i (omega (arith, less, last)) a)

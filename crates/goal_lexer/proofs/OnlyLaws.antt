@@ -13,29 +13,29 @@ use Rattle.goal_lexer.proofs.NothingLaws.{run_in_front, bytes_with_form_are_run_
 use Rattle.goal_lexer.proofs.ReadingLaws.{in_line, reading_of}
 
 -- the first byte passes the test
-abbrev starts : (ℕ → Bool) → List ℕ → Bool
-starts test [] = false
-starts test (c ∷ cs) = test c
+abbrev first_byte_passes : (ℕ → Bool) → List ℕ → Bool
+first_byte_passes test [] = false
+first_byte_passes test (c ∷ cs) = test c
 
 -- the longest prefix of bytes that pass a test is unique
-longest_prefix_unique : (test : ℕ → Bool) (xs ys a b : List ℕ) → Each test xs → Each test ys → starts test a ≡ false → starts test b ≡ false →
+longest_prefix_unique : (test : ℕ → Bool) (xs ys a b : List ℕ) → Each test xs → Each test ys → first_byte_passes test a ≡ false → first_byte_passes test b ≡ false →
     xs ++ a ≡ ys ++ b → (xs ≡ ys) × (a ≡ b)
 longest_prefix_unique test [] [] a b each_x each_y stop_a stop_b same = (refl, same)
 longest_prefix_unique test [] (y ∷ ys) a b each_x each_y stop_a stop_b same =
-    absurd (false≢true (sym stop_a ∙ ap (starts test) same ∙ each_y.0))
+    absurd (false≢true (sym stop_a ∙ ap (first_byte_passes test) same ∙ each_y.0))
 longest_prefix_unique test (x ∷ xs) [] a b each_x each_y stop_a stop_b same =
-    absurd (false≢true (sym stop_b ∙ ap (starts test) (sym same) ∙ each_x.0))
+    absurd (false≢true (sym stop_b ∙ ap (first_byte_passes test) (sym same) ∙ each_x.0))
 longest_prefix_unique test (x ∷ xs) (y ∷ ys) a b each_x each_y stop_a stop_b same =
     let head : x ≡ y = cc in
     let tails : xs ++ a ≡ ys ++ b = cc in
     let known = longest_prefix_unique test xs ys a b each_x.1 each_y.1 stop_a stop_b tails in
     (ap (λ (c : ℕ). c ∷ xs) head ∙ ap (λ (t : List ℕ). y ∷ t) known.0, known.1)
 
-first_is_no_run_byte_where_no_run_begins : (after : List ℕ) → begins_run after ≡ false → starts is_run_byte after ≡ false
+first_is_no_run_byte_where_no_run_begins : (after : List ℕ) → begins_run after ≡ false → first_byte_passes is_run_byte after ≡ false
 first_is_no_run_byte_where_no_run_begins [] apart = refl
 first_is_no_run_byte_where_no_run_begins (c ∷ cs) apart = apart
 
-first_is_not_in_line_where_line_ends : (after : List ℕ) → EndsLine after → starts in_line after ≡ false
+first_is_not_in_line_where_line_ends : (after : List ℕ) → EndsLine after → first_byte_passes in_line after ≡ false
 first_is_not_in_line_where_line_ends [] ends = refl
 first_is_not_in_line_where_line_ends (c ∷ cs) ends = ap in_line ends
 

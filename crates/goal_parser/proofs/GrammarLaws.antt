@@ -165,7 +165,7 @@ record IsClear (kept : Kept) : Type 0 where
   notes : kept.notes ≡ []
 
 -- the tokens are whole blocks, followed by this part of the next block
-record Out (kept : Kept) (ks part : List TokenKind) : Type 0 where
+record IsOutsideBlock (kept : Kept) (ks part : List TokenKind) : Type 0 where
   written : Written
   spelled : ks ≡ text_tokens written ++ part
   right : AreRight written
@@ -186,7 +186,7 @@ record Opened (kept : Kept) (ks : List TokenKind) : Type 0 where
   clear : IsClear kept
 
 -- the tokens are whole blocks, then an open block: items and this part of an item, which defines this label
-record In (kept : Kept) (ks part : List TokenKind) (label : Option (List ℕ)) : Type 0 where
+record IsInsideBlock (kept : Kept) (ks part : List TokenKind) (label : Option (List ℕ)) : Type 0 where
   written : Written
   items : List Item
   spelled : ks ≡ text_tokens written ++ token.Rank ∷ token.Number kept.rank ∷ token.Open ∷ (flat_map item_tokens items ++ part)
@@ -204,9 +204,9 @@ record In (kept : Kept) (ks part : List TokenKind) (label : Option (List ℕ)) :
   once : (label : List ℕ) → count_by (is_label label) kept.defined ≤ 1
   options : All HasOptionsOnce items
 
-module _ (kept : Kept) (ks part : List TokenKind) (label : Option (List ℕ)) (inside : In kept ks part label) where
+module _ (kept : Kept) (ks part : List TokenKind) (label : Option (List ℕ)) (inside : IsInsideBlock kept ks part label) where
   -- another token of the item
-  item_with_token : (k : TokenKind) (longer : List TokenKind) → part ++ k ∷ [] ≡ longer → In kept (ks ++ k ∷ []) longer label
+  item_with_token : (k : TokenKind) (longer : List TokenKind) → part ++ k ∷ [] ≡ longer → IsInsideBlock kept (ks ++ k ∷ []) longer label
   item_with_token k longer same =
       let front = text_tokens inside.written in
       let items = flat_map item_tokens inside.items in
@@ -236,7 +236,7 @@ module _ (kept : Kept) (ks part : List TokenKind) (label : Option (List ℕ)) (i
   item_is_complete : (item : Item) (ops : List Op) (deps : List NamedDep) (notes : List NamedNote) (used : List Mention) → part ≡ item_tokens item →
       ops ≡ kept.ops ++ op_said item → deps ≡ kept.deps ++ dep_named item → notes ≡ kept.notes ++ note_named item →
       ((n : ℕ) → defined_before label n ≡ defined_by item n) → labels_in used ≡ labels_in kept.used ++ used_by item → HasOptionsOnce item →
-      In (record { ranks = kept.ranks; used = used; blocks = kept.blocks; rank = kept.rank; ops = ops; defined = kept.defined; deps = deps; notes = notes; plans = kept.plans }) ks [] None
+      IsInsideBlock (record { ranks = kept.ranks; used = used; blocks = kept.blocks; rank = kept.rank; ops = ops; defined = kept.defined; deps = deps; notes = notes; plans = kept.plans }) ks [] None
   item_is_complete item ops deps notes used whole same_ops same_deps same_notes same_label same_used once =
       let items = inside.items in
       let front = text_tokens inside.written in
@@ -276,14 +276,14 @@ number_setting option.Tag n = tag (Some n)
 number_setting option.Cpu n = cpu n
 number_setting option.Nic n = nic n
 
-abbrev is_of : OptionWord → Setting → Bool
-is_of option.Tag s = is_tag s
-is_of option.Cpu s = is_cpu s
-is_of option.Nic s = is_nic s
+abbrev is_setting_of_option : OptionWord → Setting → Bool
+is_setting_of_option option.Tag s = is_tag s
+is_setting_of_option option.Cpu s = is_cpu s
+is_setting_of_option option.Nic s = is_nic s
 
-abbrev gives : OptionWord → List Setting → Bool
-gives o [] = false
-gives o (s ∷ ss) = is_of o s || gives o ss
+abbrev is_option_given : OptionWord → List Setting → Bool
+is_option_given o [] = false
+is_option_given o (s ∷ ss) = is_setting_of_option o s || is_option_given o ss
 
 -- what the tokens of an action have given
 abbrev drafted : Action → ℕ → Option ℕ → List Setting → OptionWord → Draft
@@ -294,16 +294,16 @@ drafted a size peer ss o = record {
   tag = tag_of ss;
   cpu = cpu_of ss;
   nic = nic_of ss;
-  has_tag = gives option.Tag ss;
-  has_cpu = gives option.Cpu ss;
-  has_nic = gives option.Nic ss;
+  has_tag = is_option_given option.Tag ss;
+  has_cpu = is_option_given option.Cpu ss;
+  has_nic = is_option_given option.Nic ss;
   option = o;
 }
 
-abbrev mark : OptionWord → Draft → Draft
-mark option.Tag d = record d { has_tag = true; option = option.Tag }
-mark option.Cpu d = record d { has_cpu = true; option = option.Cpu }
-mark option.Nic d = record d { has_nic = true; option = option.Nic }
+abbrev mark_option_given : OptionWord → Draft → Draft
+mark_option_given option.Tag d = record d { has_tag = true; option = option.Tag }
+mark_option_given option.Cpu d = record d { has_cpu = true; option = option.Cpu }
+mark_option_given option.Nic d = record d { has_nic = true; option = option.Nic }
 
 -- the label that an item begins with
 abbrev IsSubject : ItemHead → List ℕ → Type 0
@@ -320,72 +320,72 @@ IsOrder verb.Requires = ⊤
 IsOrder verb.Irequires = ⊤
 IsOrder _ = ⊥
 
-abbrev IsNote : Verb → Type 0
-IsNote verb.Moves = ⊤
-IsNote verb.Adds = ⊤
-IsNote _ = ⊥
+abbrev IsNoteVerb : Verb → Type 0
+IsNoteVerb verb.Moves = ⊤
+IsNoteVerb verb.Adds = ⊤
+IsNoteVerb _ = ⊥
 
 abbrev cpu_settings : Option ℕ → List Setting
 cpu_settings None = []
 cpu_settings (Some n) = cpu n ∷ []
 
 -- what the tokens so far are, if they end in this state
-abbrev At : State → Kept → Draft → ItemHead → List TokenKind → Type 0
-At state.Start kept draft head ks = (ks ≡ []) × IsClear kept × (kept.blocks ≡ [])
-At state.Ranks kept draft head ks = (ks ≡ token.NumRanks ∷ []) × IsClear kept × (kept.blocks ≡ [])
-At state.Top kept draft head ks = Out kept ks []
-At state.Block kept draft head ks = Out kept ks (token.Rank ∷ [])
-At state.Open kept draft head ks = Opened kept ks
-At state.Item kept draft head ks = In kept ks [] None
-At state.Word kept draft head ks = (label : List ℕ) × IsSubject head label × In kept ks (token.Label label ∷ []) None
-At state.Label kept draft head ks =
-    (label : List ℕ) × IsSubject head label × IsOrder head.verb × In kept ks (token.Label label ∷ verb_token head.verb ∷ []) None
-At state.Note1 kept draft head ks =
-    (label : List ℕ) × IsSubject head label × IsNote head.verb × In kept ks (token.Label label ∷ verb_token head.verb ∷ []) None
-At state.Note2 kept draft head ks =
-    (label : List ℕ) × IsSubject head label × IsNote head.verb × In kept ks (token.Label label ∷ verb_token head.verb ∷ token.Number head.low ∷ []) None
-At state.Note3 kept draft head ks =
-    (label : List ℕ) × IsSubject head label × IsNote head.verb × In kept ks (token.Label label ∷ verb_token head.verb ∷ token.Number head.low ∷ token.To ∷ []) None
-At state.Action kept draft head ks = (label : List ℕ) × In kept ks (token.Label label ∷ token.Colon ∷ []) (Some label)
-At state.Calc1 kept draft head ks = (label : Option (List ℕ)) × (o : OptionWord) × In kept ks (label_tokens label ++ token.Calc ∷ []) label × (draft ≡ begun action.Calc o)
-At state.Calc2 kept draft head ks =
+abbrev AreTokensUpTo : State → Kept → Draft → ItemHead → List TokenKind → Type 0
+AreTokensUpTo state.Start kept draft head ks = (ks ≡ []) × IsClear kept × (kept.blocks ≡ [])
+AreTokensUpTo state.Ranks kept draft head ks = (ks ≡ token.NumRanks ∷ []) × IsClear kept × (kept.blocks ≡ [])
+AreTokensUpTo state.Top kept draft head ks = IsOutsideBlock kept ks []
+AreTokensUpTo state.Block kept draft head ks = IsOutsideBlock kept ks (token.Rank ∷ [])
+AreTokensUpTo state.Open kept draft head ks = Opened kept ks
+AreTokensUpTo state.Item kept draft head ks = IsInsideBlock kept ks [] None
+AreTokensUpTo state.Word kept draft head ks = (label : List ℕ) × IsSubject head label × IsInsideBlock kept ks (token.Label label ∷ []) None
+AreTokensUpTo state.Label kept draft head ks =
+    (label : List ℕ) × IsSubject head label × IsOrder head.verb × IsInsideBlock kept ks (token.Label label ∷ verb_token head.verb ∷ []) None
+AreTokensUpTo state.Note1 kept draft head ks =
+    (label : List ℕ) × IsSubject head label × IsNoteVerb head.verb × IsInsideBlock kept ks (token.Label label ∷ verb_token head.verb ∷ []) None
+AreTokensUpTo state.Note2 kept draft head ks =
+    (label : List ℕ) × IsSubject head label × IsNoteVerb head.verb × IsInsideBlock kept ks (token.Label label ∷ verb_token head.verb ∷ token.Number head.low ∷ []) None
+AreTokensUpTo state.Note3 kept draft head ks =
+    (label : List ℕ) × IsSubject head label × IsNoteVerb head.verb × IsInsideBlock kept ks (token.Label label ∷ verb_token head.verb ∷ token.Number head.low ∷ token.To ∷ []) None
+AreTokensUpTo state.Action kept draft head ks = (label : List ℕ) × IsInsideBlock kept ks (token.Label label ∷ token.Colon ∷ []) (Some label)
+AreTokensUpTo state.Calc1 kept draft head ks = (label : Option (List ℕ)) × (o : OptionWord) × IsInsideBlock kept ks (label_tokens label ++ token.Calc ∷ []) label × (draft ≡ begun action.Calc o)
+AreTokensUpTo state.Calc2 kept draft head ks =
     (label : Option (List ℕ)) × (o : OptionWord) × (nanos : ℕ) × (c : Option ℕ)
-    × In kept ks (item_tokens (calc label nanos c)) label × (draft ≡ drafted action.Calc nanos None (cpu_settings c) o)
-At state.Calc3 kept draft head ks =
+    × IsInsideBlock kept ks (item_tokens (calc label nanos c)) label × (draft ≡ drafted action.Calc nanos None (cpu_settings c) o)
+AreTokensUpTo state.Calc3 kept draft head ks =
     (label : Option (List ℕ)) × (o : OptionWord) × (nanos : ℕ)
-    × In kept ks (label_tokens label ++ token.Calc ∷ token.Number nanos ∷ token.Cpu ∷ []) label × (draft ≡ mark option.Cpu (drafted action.Calc nanos None [] o))
-At state.Send1 kept draft head ks = (label : Option (List ℕ)) × (o : OptionWord) × In kept ks (label_tokens label ++ token.Send ∷ []) label × (draft ≡ begun action.Send o)
-At state.Send2 kept draft head ks =
+    × IsInsideBlock kept ks (label_tokens label ++ token.Calc ∷ token.Number nanos ∷ token.Cpu ∷ []) label × (draft ≡ mark_option_given option.Cpu (drafted action.Calc nanos None [] o))
+AreTokensUpTo state.Send1 kept draft head ks = (label : Option (List ℕ)) × (o : OptionWord) × IsInsideBlock kept ks (label_tokens label ++ token.Send ∷ []) label × (draft ≡ begun action.Send o)
+AreTokensUpTo state.Send2 kept draft head ks =
     (label : Option (List ℕ)) × (o : OptionWord) × (size : Amount)
-    × In kept ks (label_tokens label ++ token.Send ∷ amount_token size ∷ []) label × (draft ≡ drafted action.Send (amount size) None [] o)
-At state.Send3 kept draft head ks =
+    × IsInsideBlock kept ks (label_tokens label ++ token.Send ∷ amount_token size ∷ []) label × (draft ≡ drafted action.Send (amount size) None [] o)
+AreTokensUpTo state.Send3 kept draft head ks =
     (label : Option (List ℕ)) × (o : OptionWord) × (size : Amount)
-    × In kept ks (label_tokens label ++ token.Send ∷ amount_token size ∷ token.To ∷ []) label × (draft ≡ drafted action.Send (amount size) None [] o)
-At state.Send4 kept draft head ks =
+    × IsInsideBlock kept ks (label_tokens label ++ token.Send ∷ amount_token size ∷ token.To ∷ []) label × (draft ≡ drafted action.Send (amount size) None [] o)
+AreTokensUpTo state.Send4 kept draft head ks =
     (label : Option (List ℕ)) × (o : OptionWord) × (size : Amount) × (to : ℕ) × (ss : List Setting)
-    × In kept ks (item_tokens (send label size to ss)) label × (draft ≡ drafted action.Send (amount size) (Some to) ss o) × AreGivenOnce ss
-At state.Send5 kept draft head ks =
+    × IsInsideBlock kept ks (item_tokens (send label size to ss)) label × (draft ≡ drafted action.Send (amount size) (Some to) ss o) × AreGivenOnce ss
+AreTokensUpTo state.Send5 kept draft head ks =
     (label : Option (List ℕ)) × (o : OptionWord) × (size : Amount) × (to : ℕ) × (ss : List Setting) × (w : OptionWord)
-    × In kept ks (item_tokens (send label size to ss) ++ option_token w ∷ []) label × (gives w ss ≡ false)
-    × (draft ≡ mark w (drafted action.Send (amount size) (Some to) ss o)) × AreGivenOnce ss
-At state.Recv1 kept draft head ks = (label : Option (List ℕ)) × (o : OptionWord) × In kept ks (label_tokens label ++ token.Recv ∷ []) label × (draft ≡ begun action.Recv o)
-At state.Recv2 kept draft head ks =
+    × IsInsideBlock kept ks (item_tokens (send label size to ss) ++ option_token w ∷ []) label × (is_option_given w ss ≡ false)
+    × (draft ≡ mark_option_given w (drafted action.Send (amount size) (Some to) ss o)) × AreGivenOnce ss
+AreTokensUpTo state.Recv1 kept draft head ks = (label : Option (List ℕ)) × (o : OptionWord) × IsInsideBlock kept ks (label_tokens label ++ token.Recv ∷ []) label × (draft ≡ begun action.Recv o)
+AreTokensUpTo state.Recv2 kept draft head ks =
     (label : Option (List ℕ)) × (o : OptionWord) × (size : Amount)
-    × In kept ks (label_tokens label ++ token.Recv ∷ amount_token size ∷ []) label × (draft ≡ drafted action.Recv (amount size) None [] o)
-At state.Recv3 kept draft head ks =
+    × IsInsideBlock kept ks (label_tokens label ++ token.Recv ∷ amount_token size ∷ []) label × (draft ≡ drafted action.Recv (amount size) None [] o)
+AreTokensUpTo state.Recv3 kept draft head ks =
     (label : Option (List ℕ)) × (o : OptionWord) × (size : Amount)
-    × In kept ks (label_tokens label ++ token.Recv ∷ amount_token size ∷ token.From ∷ []) label × (draft ≡ drafted action.Recv (amount size) None [] o)
-At state.Recv4 kept draft head ks =
+    × IsInsideBlock kept ks (label_tokens label ++ token.Recv ∷ amount_token size ∷ token.From ∷ []) label × (draft ≡ drafted action.Recv (amount size) None [] o)
+AreTokensUpTo state.Recv4 kept draft head ks =
     (label : Option (List ℕ)) × (o : OptionWord) × (size : Amount) × (from : Option ℕ) × (ss : List Setting)
-    × In kept ks (item_tokens (recv label size from ss)) label × (draft ≡ drafted action.Recv (amount size) from ss o) × AreGivenOnce ss
-At state.Recv5 kept draft head ks =
+    × IsInsideBlock kept ks (item_tokens (recv label size from ss)) label × (draft ≡ drafted action.Recv (amount size) from ss o) × AreGivenOnce ss
+AreTokensUpTo state.Recv5 kept draft head ks =
     (label : Option (List ℕ)) × (o : OptionWord) × (size : Amount) × (from : Option ℕ) × (ss : List Setting)
-    × In kept ks (item_tokens (recv label size from ss) ++ token.Tag ∷ []) label × (gives option.Tag ss ≡ false)
-    × (draft ≡ mark option.Tag (drafted action.Recv (amount size) from ss o)) × AreGivenOnce ss
-At state.Recv6 kept draft head ks =
+    × IsInsideBlock kept ks (item_tokens (recv label size from ss) ++ token.Tag ∷ []) label × (is_option_given option.Tag ss ≡ false)
+    × (draft ≡ mark_option_given option.Tag (drafted action.Recv (amount size) from ss o)) × AreGivenOnce ss
+AreTokensUpTo state.Recv6 kept draft head ks =
     (label : Option (List ℕ)) × (o : OptionWord) × (size : Amount) × (from : Option ℕ) × (ss : List Setting) × (w : OptionWord)
-    × In kept ks (item_tokens (recv label size from ss) ++ option_token w ∷ []) label × (gives w ss ≡ false)
-    × (draft ≡ mark w (drafted action.Recv (amount size) from ss o)) × AreGivenOnce ss
+    × IsInsideBlock kept ks (item_tokens (recv label size from ss) ++ option_token w ∷ []) label × (is_option_given w ss ≡ false)
+    × (draft ≡ mark_option_given w (drafted action.Recv (amount size) from ss o)) × AreGivenOnce ss
 
 -- the plan of a rank after another block
 or_false_parts : (a b : Bool) → (a || b) ≡ false → (a ≡ false) × (b ≡ false)
@@ -457,7 +457,7 @@ mapped_none None none = refl
 mapped_none (Some at) none = cc
 
 -- an item begins where no action is open, or a block ends
-module _ (kept : Kept) (draft : Draft) (head : ItemHead) (ks : List TokenKind) (inside : In kept ks [] None) where
+module _ (kept : Kept) (draft : Draft) (head : ItemHead) (ks : List TokenKind) (inside : IsInsideBlock kept ks [] None) where
   kept_plan_is_said : plan_with state.Item draft kept ≡ plan_said inside.items
   unfolding ends_action
   kept_plan_is_said =
@@ -483,7 +483,7 @@ module _ (kept : Kept) (draft : Draft) (head : ItemHead) (ks : List TokenKind) (
         options = inside.options;
       }
 
-  block_is_closed : (at : ℕ) → first_unknown kept.defined kept.used ≡ None → Out (kept_with state.Item token.Close at draft head kept) (ks ++ token.Close ∷ []) []
+  block_is_closed : (at : ℕ) → first_unknown kept.defined kept.used ≡ None → IsOutsideBlock (kept_with state.Item token.Close at draft head kept) (ks ++ token.Close ∷ []) []
   unfolding ranks_with used_with blocks_with rank_with ops_with ends_action defined_with deps_with notes_with plans_with
   block_is_closed at found =
       let w = inside.written in
@@ -505,7 +505,7 @@ module _ (kept : Kept) (draft : Draft) (head : ItemHead) (ks : List TokenKind) (
       }
 
   step_item : (k : TokenKind) (at : ℕ) → is_none (item_entry k) ≡ false → unknown_fault_of kept.defined kept.used k ≡ None →
-      At (unwrap_or (item_entry k) state.Item) (kept_with state.Item k at draft head kept) (draft_with state.Item k draft) (head_with state.Item k at head) (ks ++ k ∷ [])
+      AreTokensUpTo (unwrap_or (item_entry k) state.Item) (kept_with state.Item k at draft head kept) (draft_with state.Item k draft) (head_with state.Item k at head) (ks ++ k ∷ [])
   unfolding ranks_with used_with blocks_with rank_with draft_with head_with ops_with ends_action defined_with deps_with notes_with plans_with
   step_item token.Close at known found = block_is_closed at (mapped_none (first_unknown kept.defined kept.used) found)
   step_item (token.Label label) at known found = (label, (at, refl), item_with_token kept ks [] None inside (token.Label label) (token.Label label ∷ []) refl)
@@ -528,9 +528,9 @@ with_op draft kept = record {
   plans = kept.plans;
 }
 
-module _ (kept : Kept) (draft : Draft) (head : ItemHead) (ks : List TokenKind) (inside : In (with_op draft kept) ks [] None) where
+module _ (kept : Kept) (draft : Draft) (head : ItemHead) (ks : List TokenKind) (inside : IsInsideBlock (with_op draft kept) ks [] None) where
   step_calc : (k : TokenKind) (at : ℕ) → is_none (item_entry k) ≡ false → unknown_fault_of kept.defined kept.used k ≡ None →
-      At (unwrap_or (item_entry k) state.Calc2) (kept_with state.Calc2 k at draft head kept) (draft_with state.Calc2 k draft) (head_with state.Calc2 k at head) (ks ++ k ∷ [])
+      AreTokensUpTo (unwrap_or (item_entry k) state.Calc2) (kept_with state.Calc2 k at draft head kept) (draft_with state.Calc2 k draft) (head_with state.Calc2 k at head) (ks ++ k ∷ [])
   unfolding ranks_with used_with blocks_with rank_with draft_with head_with ops_with ends_action defined_with deps_with notes_with plans_with
   step_calc token.Close at known found = step_item (with_op draft kept) draft head ks inside token.Close at refl found
   step_calc (token.Label label) at known found = step_item (with_op draft kept) draft head ks inside (token.Label label) at refl found
@@ -540,7 +540,7 @@ module _ (kept : Kept) (draft : Draft) (head : ItemHead) (ks : List TokenKind) (
   step_calc _ at known found = absurd (true≢false known)
 
   step_send : (k : TokenKind) (at : ℕ) → is_none (item_entry k) ≡ false → unknown_fault_of kept.defined kept.used k ≡ None →
-      At (unwrap_or (item_entry k) state.Send4) (kept_with state.Send4 k at draft head kept) (draft_with state.Send4 k draft) (head_with state.Send4 k at head) (ks ++ k ∷ [])
+      AreTokensUpTo (unwrap_or (item_entry k) state.Send4) (kept_with state.Send4 k at draft head kept) (draft_with state.Send4 k draft) (head_with state.Send4 k at head) (ks ++ k ∷ [])
   unfolding ranks_with used_with blocks_with rank_with draft_with head_with ops_with ends_action defined_with deps_with notes_with plans_with
   step_send token.Close at known found = step_item (with_op draft kept) draft head ks inside token.Close at refl found
   step_send (token.Label label) at known found = step_item (with_op draft kept) draft head ks inside (token.Label label) at refl found
@@ -550,7 +550,7 @@ module _ (kept : Kept) (draft : Draft) (head : ItemHead) (ks : List TokenKind) (
   step_send _ at known found = absurd (true≢false known)
 
   step_recv : (k : TokenKind) (at : ℕ) → is_none (item_entry k) ≡ false → unknown_fault_of kept.defined kept.used k ≡ None →
-      At (unwrap_or (item_entry k) state.Recv4) (kept_with state.Recv4 k at draft head kept) (draft_with state.Recv4 k draft) (head_with state.Recv4 k at head) (ks ++ k ∷ [])
+      AreTokensUpTo (unwrap_or (item_entry k) state.Recv4) (kept_with state.Recv4 k at draft head kept) (draft_with state.Recv4 k draft) (head_with state.Recv4 k at head) (ks ++ k ∷ [])
   unfolding ranks_with used_with blocks_with rank_with draft_with head_with ops_with ends_action defined_with deps_with notes_with plans_with
   step_recv token.Close at known found = step_item (with_op draft kept) draft head ks inside token.Close at refl found
   step_recv (token.Label label) at known found = step_item (with_op draft kept) draft head ks inside (token.Label label) at refl found
@@ -560,26 +560,26 @@ module _ (kept : Kept) (draft : Draft) (head : ItemHead) (ks : List TokenKind) (
   step_recv _ at known found = absurd (true≢false known)
 
 -- an option that the action has not given before
-tag_of_appended_tag : (ss : List Setting) (n : Option ℕ) → gives option.Tag ss ≡ false → tag_of (ss ++ tag n ∷ []) ≡ n
+tag_of_appended_tag : (ss : List Setting) (n : Option ℕ) → is_option_given option.Tag ss ≡ false → tag_of (ss ++ tag n ∷ []) ≡ n
 tag_of_appended_tag [] n new = refl
 tag_of_appended_tag (tag m ∷ ss) n new = absurd (true≢false new)
 tag_of_appended_tag (cpu m ∷ ss) n new = tag_of_appended_tag ss n new
 tag_of_appended_tag (nic m ∷ ss) n new = tag_of_appended_tag ss n new
 
-cpu_of_appended_cpu : (ss : List Setting) (n : ℕ) → gives option.Cpu ss ≡ false → cpu_of (ss ++ cpu n ∷ []) ≡ n
+cpu_of_appended_cpu : (ss : List Setting) (n : ℕ) → is_option_given option.Cpu ss ≡ false → cpu_of (ss ++ cpu n ∷ []) ≡ n
 cpu_of_appended_cpu [] n new = refl
 cpu_of_appended_cpu (tag m ∷ ss) n new = cpu_of_appended_cpu ss n new
 cpu_of_appended_cpu (cpu m ∷ ss) n new = absurd (true≢false new)
 cpu_of_appended_cpu (nic m ∷ ss) n new = cpu_of_appended_cpu ss n new
 
-nic_of_appended_nic : (ss : List Setting) (n : ℕ) → gives option.Nic ss ≡ false → nic_of (ss ++ nic n ∷ []) ≡ n
+nic_of_appended_nic : (ss : List Setting) (n : ℕ) → is_option_given option.Nic ss ≡ false → nic_of (ss ++ nic n ∷ []) ≡ n
 nic_of_appended_nic [] n new = refl
 nic_of_appended_nic (tag m ∷ ss) n new = nic_of_appended_nic ss n new
 nic_of_appended_nic (cpu m ∷ ss) n new = nic_of_appended_nic ss n new
 nic_of_appended_nic (nic m ∷ ss) n new = absurd (true≢false new)
 
 -- the other options stay
-tag_stays : (ss : List Setting) (x : Setting) → is_of option.Tag x ≡ false → tag_of (ss ++ x ∷ []) ≡ tag_of ss
+tag_stays : (ss : List Setting) (x : Setting) → is_setting_of_option option.Tag x ≡ false → tag_of (ss ++ x ∷ []) ≡ tag_of ss
 tag_stays [] (tag m) other = absurd (true≢false other)
 tag_stays [] (cpu m) other = refl
 tag_stays [] (nic m) other = refl
@@ -587,7 +587,7 @@ tag_stays (tag m ∷ ss) x other = refl
 tag_stays (cpu m ∷ ss) x other = tag_stays ss x other
 tag_stays (nic m ∷ ss) x other = tag_stays ss x other
 
-cpu_stays : (ss : List Setting) (x : Setting) → is_of option.Cpu x ≡ false → cpu_of (ss ++ x ∷ []) ≡ cpu_of ss
+cpu_stays : (ss : List Setting) (x : Setting) → is_setting_of_option option.Cpu x ≡ false → cpu_of (ss ++ x ∷ []) ≡ cpu_of ss
 cpu_stays [] (tag m) other = refl
 cpu_stays [] (cpu m) other = absurd (true≢false other)
 cpu_stays [] (nic m) other = refl
@@ -595,7 +595,7 @@ cpu_stays (tag m ∷ ss) x other = cpu_stays ss x other
 cpu_stays (cpu m ∷ ss) x other = refl
 cpu_stays (nic m ∷ ss) x other = cpu_stays ss x other
 
-nic_stays : (ss : List Setting) (x : Setting) → is_of option.Nic x ≡ false → nic_of (ss ++ x ∷ []) ≡ nic_of ss
+nic_stays : (ss : List Setting) (x : Setting) → is_setting_of_option option.Nic x ≡ false → nic_of (ss ++ x ∷ []) ≡ nic_of ss
 nic_stays [] (tag m) other = refl
 nic_stays [] (cpu m) other = refl
 nic_stays [] (nic m) other = absurd (true≢false other)
@@ -603,21 +603,21 @@ nic_stays (tag m ∷ ss) x other = nic_stays ss x other
 nic_stays (cpu m ∷ ss) x other = nic_stays ss x other
 nic_stays (nic m ∷ ss) x other = refl
 
-gives_now : (w : OptionWord) (ss : List Setting) (x : Setting) → is_of w x ≡ true → gives w (ss ++ x ∷ []) ≡ true
+gives_now : (w : OptionWord) (ss : List Setting) (x : Setting) → is_setting_of_option w x ≡ true → is_option_given w (ss ++ x ∷ []) ≡ true
 gives_now w [] x is = ap (λ (b : Bool). b || false) is
-gives_now w (s ∷ ss) x is = by (is_of w s) (gives_now w ss x is)
+gives_now w (s ∷ ss) x is = by (is_setting_of_option w s) (gives_now w ss x is)
   where
-    by : (a : Bool) → gives w (ss ++ x ∷ []) ≡ true → (a || gives w (ss ++ x ∷ [])) ≡ true
+    by : (a : Bool) → is_option_given w (ss ++ x ∷ []) ≡ true → (a || is_option_given w (ss ++ x ∷ [])) ≡ true
     by true more = refl
     by false more = more
 
-gives_stays : (w : OptionWord) (ss : List Setting) (x : Setting) → is_of w x ≡ false → gives w (ss ++ x ∷ []) ≡ gives w ss
+gives_stays : (w : OptionWord) (ss : List Setting) (x : Setting) → is_setting_of_option w x ≡ false → is_option_given w (ss ++ x ∷ []) ≡ is_option_given w ss
 gives_stays w [] x other = ap (λ (b : Bool). b || false) other
-gives_stays w (s ∷ ss) x other = ap (λ (b : Bool). is_of w s || b) (gives_stays w ss x other)
+gives_stays w (s ∷ ss) x other = ap (λ (b : Bool). is_setting_of_option w s || b) (gives_stays w ss x other)
 
 module _ (a : Action) (size : ℕ) (peer : Option ℕ) (ss : List Setting) (o : OptionWord) where
-  with_tag : (n : Option ℕ) → gives option.Tag ss ≡ false →
-      ◌≡◌ {A = Draft} (record (mark option.Tag (drafted a size peer ss o)) { tag = n }) (drafted a size peer (ss ++ tag n ∷ []) option.Tag)
+  with_tag : (n : Option ℕ) → is_option_given option.Tag ss ≡ false →
+      ◌≡◌ {A = Draft} (record (mark_option_given option.Tag (drafted a size peer ss o)) { tag = n }) (drafted a size peer (ss ++ tag n ∷ []) option.Tag)
   with_tag n new = λ i. record {
     action = a;
     size = size;
@@ -631,8 +631,8 @@ module _ (a : Action) (size : ℕ) (peer : Option ℕ) (ss : List Setting) (o : 
     option = option.Tag;
   }
 
-  with_cpu : (n : ℕ) → gives option.Cpu ss ≡ false →
-      ◌≡◌ {A = Draft} (record (mark option.Cpu (drafted a size peer ss o)) { cpu = n }) (drafted a size peer (ss ++ cpu n ∷ []) option.Cpu)
+  with_cpu : (n : ℕ) → is_option_given option.Cpu ss ≡ false →
+      ◌≡◌ {A = Draft} (record (mark_option_given option.Cpu (drafted a size peer ss o)) { cpu = n }) (drafted a size peer (ss ++ cpu n ∷ []) option.Cpu)
   with_cpu n new = λ i. record {
     action = a;
     size = size;
@@ -646,8 +646,8 @@ module _ (a : Action) (size : ℕ) (peer : Option ℕ) (ss : List Setting) (o : 
     option = option.Cpu;
   }
 
-  with_nic : (n : ℕ) → gives option.Nic ss ≡ false →
-      ◌≡◌ {A = Draft} (record (mark option.Nic (drafted a size peer ss o)) { nic = n }) (drafted a size peer (ss ++ nic n ∷ []) option.Nic)
+  with_nic : (n : ℕ) → is_option_given option.Nic ss ≡ false →
+      ◌≡◌ {A = Draft} (record (mark_option_given option.Nic (drafted a size peer ss o)) { nic = n }) (drafted a size peer (ss ++ nic n ∷ []) option.Nic)
   with_nic n new = λ i. record {
     action = a;
     size = size;
@@ -661,8 +661,8 @@ module _ (a : Action) (size : ℕ) (peer : Option ℕ) (ss : List Setting) (o : 
     option = option.Nic;
   }
 
-  option_is_settled : (w : OptionWord) (n : ℕ) → gives w ss ≡ false →
-      option_with (mark w (drafted a size peer ss o)).option n (mark w (drafted a size peer ss o)) ≡ drafted a size peer (ss ++ number_setting w n ∷ []) w
+  option_is_settled : (w : OptionWord) (n : ℕ) → is_option_given w ss ≡ false →
+      option_with (mark_option_given w (drafted a size peer ss o)).option n (mark_option_given w (drafted a size peer ss o)) ≡ drafted a size peer (ss ++ number_setting w n ∷ []) w
   option_is_settled option.Tag n new = with_tag (Some n) new
   option_is_settled option.Cpu n new = with_cpu n new
   option_is_settled option.Nic n new = with_nic n new
@@ -671,11 +671,11 @@ module _ (a : Action) (size : ℕ) (peer : Option ℕ) (ss : List Setting) (o : 
 no_options_are_given_once : AreGivenOnce []
 no_options_are_given_once = record { tags = omega arith; cpus = omega arith; nics = omega arith }
 
-gives_none : (w : OptionWord) (ss : List Setting) → gives w ss ≡ false → count_by (is_of w) ss ≡ 0
+gives_none : (w : OptionWord) (ss : List Setting) → is_option_given w ss ≡ false → count_by (is_setting_of_option w) ss ≡ 0
 gives_none w [] new = refl
 gives_none w (s ∷ ss) new =
-    let parts = or_false_parts (is_of w s) (gives w ss) new in
-    count_cons_is_zero (is_of w) s ss parts.0 (gives_none w ss parts.1)
+    let parts = or_false_parts (is_setting_of_option w s) (is_option_given w ss) new in
+    count_cons_is_zero (is_setting_of_option w) s ss parts.0 (gives_none w ss parts.1)
 
 once_with_setting : (x : Setting) (ss : List Setting) → AreGivenOnce ss → (is_tag x ≡ true → count_by is_tag ss ≡ 0) → (is_cpu x ≡ true → count_by is_cpu ss ≡ 0) →
     (is_nic x ≡ true → count_by is_nic ss ≡ 0) → AreGivenOnce (ss ++ x ∷ [])
@@ -685,10 +685,10 @@ once_with_setting x ss given tags cpus nics = record {
   nics = count_push_at_most_one is_nic ss x nics given.nics;
 }
 
-given_tag : (n : Option ℕ) (ss : List Setting) → gives option.Tag ss ≡ false → AreGivenOnce ss → AreGivenOnce (ss ++ tag n ∷ [])
+given_tag : (n : Option ℕ) (ss : List Setting) → is_option_given option.Tag ss ≡ false → AreGivenOnce ss → AreGivenOnce (ss ++ tag n ∷ [])
 given_tag n ss new given = once_with_setting (tag n) ss given (λ is. gives_none option.Tag ss new) (λ is. absurd (true≢false (sym is))) (λ is. absurd (true≢false (sym is)))
 
-once_with_number : (w : OptionWord) (n : ℕ) (ss : List Setting) → gives w ss ≡ false → AreGivenOnce ss → AreGivenOnce (ss ++ number_setting w n ∷ [])
+once_with_number : (w : OptionWord) (n : ℕ) (ss : List Setting) → is_option_given w ss ≡ false → AreGivenOnce ss → AreGivenOnce (ss ++ number_setting w n ∷ [])
 once_with_number option.Tag n ss new given = given_tag (Some n) ss new given
 once_with_number option.Cpu n ss new given =
     once_with_setting (cpu n) ss given (λ is. absurd (true≢false (sym is))) (λ is. gives_none option.Cpu ss new) (λ is. absurd (true≢false (sym is)))
@@ -718,8 +718,8 @@ calc_op nanos (Some n) o = refl
 
 -- an action is complete
 module _ (kept : Kept) (draft : Draft) (ks : List TokenKind) (label : Option (List ℕ)) where
-  action_is_complete : (item : Item) → In kept ks (item_tokens item) label → op_of draft ∷ [] ≡ op_said item → [] ≡ dep_named item → [] ≡ note_named item →
-      ((n : ℕ) → defined_before label n ≡ defined_by item n) → [] ≡ used_by item → HasOptionsOnce item → In (with_op draft kept) ks [] None
+  action_is_complete : (item : Item) → IsInsideBlock kept ks (item_tokens item) label → op_of draft ∷ [] ≡ op_said item → [] ≡ dep_named item → [] ≡ note_named item →
+      ((n : ℕ) → defined_before label n ≡ defined_by item n) → [] ≡ used_by item → HasOptionsOnce item → IsInsideBlock (with_op draft kept) ks [] None
   action_is_complete item inside same no_dep no_note same_label no_use once =
       item_is_complete kept ks (item_tokens item) label inside item (kept.ops ++ op_of draft ∷ []) kept.deps kept.notes kept.used refl
       (ap (λ (os : List Op). kept.ops ++ os) same)
@@ -734,7 +734,7 @@ IsBelow state.Block ranks (token.Number n) = n < ranks
 IsBelow _ ranks _ = ⊤
 
 -- the tests of ranks and labels that a token passes
-record Fits (s : State) (kept : Kept) (head : ItemHead) (k : TokenKind) : Type 0 where
+record PassesRankAndLabelTests (s : State) (kept : Kept) (head : ItemHead) (k : TokenKind) : Type 0 where
   new : IsNewRank s kept.blocks k
   below : IsBelow s kept.ranks k
   fresh : label_fault_of kept.defined head.subject k ≡ None
@@ -743,8 +743,8 @@ record Fits (s : State) (kept : Kept) (head : ItemHead) (k : TokenKind) : Type 0
 -- how a token that passes these tests extends the sentences before it
 abbrev Steps : State → Type 0
 Steps s = (k : TokenKind) (at : ℕ) (kept : Kept) (draft : Draft) (head : ItemHead) (ks : List TokenKind) →
-    is_none (entry s k) ≡ false → has_option k draft ≡ false → Fits s kept head k → At s kept draft head ks →
-    At (state_after s k) (kept_with s k at draft head kept) (draft_with s k draft) (head_with s k at head) (ks ++ k ∷ [])
+    is_none (entry s k) ≡ false → has_option k draft ≡ false → PassesRankAndLabelTests s kept head k → AreTokensUpTo s kept draft head ks →
+    AreTokensUpTo (state_after s k) (kept_with s k at draft head kept) (draft_with s k draft) (head_with s k at head) (ks ++ k ∷ [])
 
 no_blocks_are_right : (n : ℕ) → AreRight (record { ranks = n; blocks = [] })
 no_blocks_are_right n = record {
@@ -846,10 +846,10 @@ defined_once ds label op once new other =
     (λ is. undefined_not_counted ds other (subst (λ (l : List ℕ). is_defined ds l ≡ false) (sym ((bytes_eq-Decides other label).0 is)) new))
     (once other)
 
-module _ (label : List ℕ) (kept : Kept) (ks : List TokenKind) (inside : In kept ks (token.Label label ∷ []) None) where
+module _ (label : List ℕ) (kept : Kept) (ks : List TokenKind) (inside : IsInsideBlock kept ks (token.Label label ∷ []) None) where
   -- a colon defines the label
   colon_defines : (subject : Option Mention) (at : ℕ) → subject ≡ Some (record { label = label; at = at }) → defined_fault kept.defined subject ≡ None →
-      In (record kept { defined = define subject (length kept.ops) kept.defined }) (ks ++ token.Colon ∷ []) (token.Label label ∷ token.Colon ∷ []) (Some label)
+      IsInsideBlock (record kept { defined = define subject (length kept.ops) kept.defined }) (ks ++ token.Colon ∷ []) (token.Label label ∷ token.Colon ∷ []) (Some label)
   colon_defines subject at is fresh =
       let stayed = item_with_token kept ks (token.Label label ∷ []) None inside token.Colon (token.Label label ∷ token.Colon ∷ []) refl in
       record {
@@ -897,8 +897,8 @@ module _ (kept : Kept) (ks : List TokenKind) (label : List ℕ) (subject : Optio
       ∙ ap (λ (ls : List (List ℕ)). ls ++ earlier ∷ []) (map-append (λ (u : Mention). u.label) kept.used (record { label = label; at = at } ∷ []))
       ∙ append_assoc (labels_in kept.used) (label ∷ []) (earlier ∷ [])
 
-  dependency_is_complete : (earlier : List ℕ) (place : ℕ) (v : Verb) → IsOrder v → In kept ks (token.Label label ∷ verb_token v ∷ token.Label earlier ∷ []) None →
-      In (record kept { used = dep_uses state.Label subject (record { label = earlier; at = place }) kept.used; deps = dep_ended state.Label subject v earlier kept.deps }) ks [] None
+  dependency_is_complete : (earlier : List ℕ) (place : ℕ) (v : Verb) → IsOrder v → IsInsideBlock kept ks (token.Label label ∷ verb_token v ∷ token.Label earlier ∷ []) None →
+      IsInsideBlock (record kept { used = dep_uses state.Label subject (record { label = earlier; at = place }) kept.used; deps = dep_ended state.Label subject v earlier kept.deps }) ks [] None
   dependency_is_complete earlier place verb.Requires order inside =
       item_is_complete kept ks (item_tokens (requires label earlier)) None inside (requires label earlier) kept.ops (dep_ended state.Label subject verb.Requires earlier kept.deps) kept.notes (dep_uses state.Label subject (record { label = earlier; at = place }) kept.used) refl
       (sym (append-nil kept.ops)) (ap (λ (s : Option Mention). dep_ended state.Label s verb.Requires earlier kept.deps) is) (sym (append-nil kept.notes)) (λ n. refl) (dep_uses_two_labels earlier place) tt
@@ -907,8 +907,8 @@ module _ (kept : Kept) (ks : List TokenKind) (label : List ℕ) (subject : Optio
       (sym (append-nil kept.ops)) (ap (λ (s : Option Mention). dep_ended state.Label s verb.Irequires earlier kept.deps) is) (sym (append-nil kept.notes)) (λ n. refl) (dep_uses_two_labels earlier place) tt
   dependency_is_complete earlier place _ order inside = absurd order
 
-  note_is_complete : (low n : ℕ) (v : Verb) → IsNote v → In kept ks (token.Label label ∷ verb_token v ∷ token.Number low ∷ token.To ∷ token.Number n ∷ []) None →
-      In (record kept { used = note_uses state.Note3 subject kept.used; notes = note_ended state.Note3 subject v low n kept.notes }) ks [] None
+  note_is_complete : (low n : ℕ) (v : Verb) → IsNoteVerb v → IsInsideBlock kept ks (token.Label label ∷ verb_token v ∷ token.Number low ∷ token.To ∷ token.Number n ∷ []) None →
+      IsInsideBlock (record kept { used = note_uses state.Note3 subject kept.used; notes = note_ended state.Note3 subject v low n kept.notes }) ks [] None
   note_is_complete low n verb.Moves note inside =
       item_is_complete kept ks (item_tokens (moves label low n)) None inside (moves label low n) kept.ops kept.deps (note_ended state.Note3 subject verb.Moves low n kept.notes) (note_uses state.Note3 subject kept.used) refl
       (sym (append-nil kept.ops)) (sym (append-nil kept.deps)) (ap (λ (s : Option Mention). note_ended state.Note3 s verb.Moves low n kept.notes) is) (λ n. refl) note_uses_one_label tt
@@ -957,15 +957,15 @@ step_calc2 : Steps state.Calc2
 unfolding entry ranks_with used_with blocks_with rank_with draft_with head_with ops_with ends_action defined_with deps_with notes_with plans_with
 step_calc2 token.Cpu at kept draft head ks known once fits here = by here.3 here.4 here.5
   where
-    by : (c : Option ℕ) → In kept ks (item_tokens (calc here.0 here.2 c)) here.0 → draft ≡ drafted action.Calc here.2 None (cpu_settings c) here.1 →
-        At state.Calc3 kept (record draft { has_cpu = true; option = option.Cpu }) head (ks ++ token.Cpu ∷ [])
+    by : (c : Option ℕ) → IsInsideBlock kept ks (item_tokens (calc here.0 here.2 c)) here.0 → draft ≡ drafted action.Calc here.2 None (cpu_settings c) here.1 →
+        AreTokensUpTo state.Calc3 kept (record draft { has_cpu = true; option = option.Cpu }) head (ks ++ token.Cpu ∷ [])
     by None inside is = (
       here.0,
       here.1,
       here.2,
       item_with_token kept ks (label_tokens here.0 ++ token.Calc ∷ token.Number here.2 ∷ []) here.0 inside token.Cpu (label_tokens here.0 ++ token.Calc ∷ token.Number here.2 ∷ token.Cpu ∷ [])
           (append_assoc (label_tokens here.0) (token.Calc ∷ token.Number here.2 ∷ []) (token.Cpu ∷ [])),
-      ap (mark option.Cpu) is,
+      ap (mark_option_given option.Cpu) is,
     )
     by (Some n) inside is = absurd (true≢false (sym (ap (λ (d : Draft). d.has_cpu) is) ∙ once))
 step_calc2 k at kept draft head ks known once fits here =
@@ -996,9 +996,9 @@ step_send3 _ at kept draft head ks known once fits here = absurd (true≢false k
 
 step_send4 : Steps state.Send4
 unfolding entry ranks_with used_with blocks_with rank_with draft_with head_with ops_with ends_action defined_with deps_with notes_with plans_with
-step_send4 token.Tag at kept draft head ks known once fits here = (here.0, here.1, here.2, here.3, here.4, option.Tag, item_with_token kept ks (item_tokens (send here.0 here.2 here.3 here.4)) here.0 here.5 token.Tag (item_tokens (send here.0 here.2 here.3 here.4) ++ token.Tag ∷ []) refl, sym (ap (λ (d : Draft). d.has_tag) here.6) ∙ once, ap (mark option.Tag) here.6, here.7)
-step_send4 token.Cpu at kept draft head ks known once fits here = (here.0, here.1, here.2, here.3, here.4, option.Cpu, item_with_token kept ks (item_tokens (send here.0 here.2 here.3 here.4)) here.0 here.5 token.Cpu (item_tokens (send here.0 here.2 here.3 here.4) ++ token.Cpu ∷ []) refl, sym (ap (λ (d : Draft). d.has_cpu) here.6) ∙ once, ap (mark option.Cpu) here.6, here.7)
-step_send4 token.Nic at kept draft head ks known once fits here = (here.0, here.1, here.2, here.3, here.4, option.Nic, item_with_token kept ks (item_tokens (send here.0 here.2 here.3 here.4)) here.0 here.5 token.Nic (item_tokens (send here.0 here.2 here.3 here.4) ++ token.Nic ∷ []) refl, sym (ap (λ (d : Draft). d.has_nic) here.6) ∙ once, ap (mark option.Nic) here.6, here.7)
+step_send4 token.Tag at kept draft head ks known once fits here = (here.0, here.1, here.2, here.3, here.4, option.Tag, item_with_token kept ks (item_tokens (send here.0 here.2 here.3 here.4)) here.0 here.5 token.Tag (item_tokens (send here.0 here.2 here.3 here.4) ++ token.Tag ∷ []) refl, sym (ap (λ (d : Draft). d.has_tag) here.6) ∙ once, ap (mark_option_given option.Tag) here.6, here.7)
+step_send4 token.Cpu at kept draft head ks known once fits here = (here.0, here.1, here.2, here.3, here.4, option.Cpu, item_with_token kept ks (item_tokens (send here.0 here.2 here.3 here.4)) here.0 here.5 token.Cpu (item_tokens (send here.0 here.2 here.3 here.4) ++ token.Cpu ∷ []) refl, sym (ap (λ (d : Draft). d.has_cpu) here.6) ∙ once, ap (mark_option_given option.Cpu) here.6, here.7)
+step_send4 token.Nic at kept draft head ks known once fits here = (here.0, here.1, here.2, here.3, here.4, option.Nic, item_with_token kept ks (item_tokens (send here.0 here.2 here.3 here.4)) here.0 here.5 token.Nic (item_tokens (send here.0 here.2 here.3 here.4) ++ token.Nic ∷ []) refl, sym (ap (λ (d : Draft). d.has_nic) here.6) ∙ once, ap (mark_option_given option.Nic) here.6, here.7)
 step_send4 k at kept draft head ks known once fits here =
     step_send kept draft head ks
     (action_is_complete kept draft ks here.0 (send here.0 here.2 here.3 here.4) here.5 (ap (λ (d : Draft). op_of d ∷ []) here.6) refl refl (λ n. refl) refl here.7)
@@ -1038,9 +1038,9 @@ step_recv3 _ at kept draft head ks known once fits here = absurd (true≢false k
 
 step_recv4 : Steps state.Recv4
 unfolding entry ranks_with used_with blocks_with rank_with draft_with head_with ops_with ends_action defined_with deps_with notes_with plans_with
-step_recv4 token.Tag at kept draft head ks known once fits here = (here.0, here.1, here.2, here.3, here.4, item_with_token kept ks (item_tokens (recv here.0 here.2 here.3 here.4)) here.0 here.5 token.Tag (item_tokens (recv here.0 here.2 here.3 here.4) ++ token.Tag ∷ []) refl, sym (ap (λ (d : Draft). d.has_tag) here.6) ∙ once, ap (mark option.Tag) here.6, here.7)
-step_recv4 token.Cpu at kept draft head ks known once fits here = (here.0, here.1, here.2, here.3, here.4, option.Cpu, item_with_token kept ks (item_tokens (recv here.0 here.2 here.3 here.4)) here.0 here.5 token.Cpu (item_tokens (recv here.0 here.2 here.3 here.4) ++ token.Cpu ∷ []) refl, sym (ap (λ (d : Draft). d.has_cpu) here.6) ∙ once, ap (mark option.Cpu) here.6, here.7)
-step_recv4 token.Nic at kept draft head ks known once fits here = (here.0, here.1, here.2, here.3, here.4, option.Nic, item_with_token kept ks (item_tokens (recv here.0 here.2 here.3 here.4)) here.0 here.5 token.Nic (item_tokens (recv here.0 here.2 here.3 here.4) ++ token.Nic ∷ []) refl, sym (ap (λ (d : Draft). d.has_nic) here.6) ∙ once, ap (mark option.Nic) here.6, here.7)
+step_recv4 token.Tag at kept draft head ks known once fits here = (here.0, here.1, here.2, here.3, here.4, item_with_token kept ks (item_tokens (recv here.0 here.2 here.3 here.4)) here.0 here.5 token.Tag (item_tokens (recv here.0 here.2 here.3 here.4) ++ token.Tag ∷ []) refl, sym (ap (λ (d : Draft). d.has_tag) here.6) ∙ once, ap (mark_option_given option.Tag) here.6, here.7)
+step_recv4 token.Cpu at kept draft head ks known once fits here = (here.0, here.1, here.2, here.3, here.4, option.Cpu, item_with_token kept ks (item_tokens (recv here.0 here.2 here.3 here.4)) here.0 here.5 token.Cpu (item_tokens (recv here.0 here.2 here.3 here.4) ++ token.Cpu ∷ []) refl, sym (ap (λ (d : Draft). d.has_cpu) here.6) ∙ once, ap (mark_option_given option.Cpu) here.6, here.7)
+step_recv4 token.Nic at kept draft head ks known once fits here = (here.0, here.1, here.2, here.3, here.4, option.Nic, item_with_token kept ks (item_tokens (recv here.0 here.2 here.3 here.4)) here.0 here.5 token.Nic (item_tokens (recv here.0 here.2 here.3 here.4) ++ token.Nic ∷ []) refl, sym (ap (λ (d : Draft). d.has_nic) here.6) ∙ once, ap (mark_option_given option.Nic) here.6, here.7)
 step_recv4 k at kept draft head ks known once fits here =
     step_recv kept draft head ks
     (action_is_complete kept draft ks here.0 (recv here.0 here.2 here.3 here.4) here.5 (ap (λ (d : Draft). op_of d ∷ []) here.6) refl refl (λ n. refl) refl here.7)
@@ -1087,37 +1087,37 @@ step_recv6 (token.Number n) at kept draft head ks known once fits here = (
 )
 step_recv6 _ at kept draft head ks known once fits here = absurd (true≢false known)
 
-step : (s : State) → Steps s
+passing_token_extends_text : (s : State) → Steps s
 unfolding entry
-step state.Start = step_start
-step state.Ranks = step_ranks
-step state.Top = step_top
-step state.Block = step_block
-step state.Open = step_open
-step state.Item = λ k at kept draft head ks known once fits here. step_item kept draft head ks here k at known fits.found
-step state.Word = step_word
-step state.Label = step_label
-step state.Note1 = step_note1
-step state.Note2 = step_note2
-step state.Note3 = step_note3
-step state.Action = step_action
-step state.Calc1 = step_calc1
-step state.Calc2 = step_calc2
-step state.Calc3 = step_calc3
-step state.Send1 = step_send1
-step state.Send2 = step_send2
-step state.Send3 = step_send3
-step state.Send4 = step_send4
-step state.Send5 = step_send5
-step state.Recv1 = step_recv1
-step state.Recv2 = step_recv2
-step state.Recv3 = step_recv3
-step state.Recv4 = step_recv4
-step state.Recv5 = step_recv5
-step state.Recv6 = step_recv6
+passing_token_extends_text state.Start = step_start
+passing_token_extends_text state.Ranks = step_ranks
+passing_token_extends_text state.Top = step_top
+passing_token_extends_text state.Block = step_block
+passing_token_extends_text state.Open = step_open
+passing_token_extends_text state.Item = λ k at kept draft head ks known once fits here. step_item kept draft head ks here k at known fits.found
+passing_token_extends_text state.Word = step_word
+passing_token_extends_text state.Label = step_label
+passing_token_extends_text state.Note1 = step_note1
+passing_token_extends_text state.Note2 = step_note2
+passing_token_extends_text state.Note3 = step_note3
+passing_token_extends_text state.Action = step_action
+passing_token_extends_text state.Calc1 = step_calc1
+passing_token_extends_text state.Calc2 = step_calc2
+passing_token_extends_text state.Calc3 = step_calc3
+passing_token_extends_text state.Send1 = step_send1
+passing_token_extends_text state.Send2 = step_send2
+passing_token_extends_text state.Send3 = step_send3
+passing_token_extends_text state.Send4 = step_send4
+passing_token_extends_text state.Send5 = step_send5
+passing_token_extends_text state.Recv1 = step_recv1
+passing_token_extends_text state.Recv2 = step_recv2
+passing_token_extends_text state.Recv3 = step_recv3
+passing_token_extends_text state.Recv4 = step_recv4
+passing_token_extends_text state.Recv5 = step_recv5
+passing_token_extends_text state.Recv6 = step_recv6
 
 -- the tests that a token passes
-record Passes (s : State) (draft : Draft) (ranks : ℕ) (blocks : List ℕ) (ds : List Definition) (subject : Option Mention) (us : List Mention) (k : TokenKind) : Type 0 where
+record PassesGrammarTests (s : State) (draft : Draft) (ranks : ℕ) (blocks : List ℕ) (ds : List Definition) (subject : Option Mention) (us : List Mention) (k : TokenKind) : Type 0 where
   known : is_none (entry s k) ≡ false
   once : has_option k draft ≡ false
   new_rank : IsNewRank s blocks k
@@ -1132,7 +1132,7 @@ below_passes state.Block ranks blocks (token.Number n) at h =
 below_passes _ ranks blocks _ at h = tt
 
 module _ (s : State) (draft : Draft) (ranks : ℕ) (blocks : List ℕ) (ds : List Definition) (subject : Option Mention) (counts : Counts) (us : List Mention) (t : Token) where
-  faultless_token_passes : fault_by s draft ranks blocks ds subject counts us t ≡ None → Passes s draft ranks blocks ds subject us t.kind
+  faultless_token_passes : fault_by s draft ranks blocks ds subject counts us t ≡ None → PassesGrammarTests s draft ranks blocks ds subject us t.kind
   unfolding fault_by syntax_fault rank_fault option_fault label_fault unknown_fault
   faultless_token_passes h =
       let last = option_or (count_fault counts t) (unknown_fault ds us t) in
@@ -1156,14 +1156,14 @@ module _ (s : State) (draft : Draft) (ranks : ℕ) (blocks : List ℕ) (ds : Lis
 
 -- the sentences of tokens that fail no test
 abbrev AtEnd : List Token → List TokenKind → Type 0
-AtEnd before ks = At (state_of before) (kept_of before) (draft_of before) (head_of before) ks
+AtEnd before ks = AreTokensUpTo (state_of before) (kept_of before) (draft_of before) (head_of before) ks
 
 sentences_with_token : (before : List Token) (t : Token) (ks : List TokenKind) → token_fault before t ≡ None → AtEnd before ks → AtEnd (t ∷ before) (ks ++ t.kind ∷ [])
 unfolding token_fault state_of draft_of head_of ranks_of used_of blocks_of rank_of ops_of defined_of deps_of notes_of plans_of
 sentences_with_token before t ks passed here =
     let passes = faultless_token_passes (state_of before) (draft_of before) (ranks_of before) (blocks_of before) (defined_of before) (head_of before).subject (counts_of before) (used_of before) t passed in
-    let fits : Fits (state_of before) (kept_of before) (head_of before) t.kind = record { new = passes.new_rank; below = passes.below; fresh = passes.fresh; found = passes.found } in
-    step (state_of before) t.kind t.start (kept_of before) (draft_of before) (head_of before) ks passes.known passes.once fits here
+    let fits : PassesRankAndLabelTests (state_of before) (kept_of before) (head_of before) t.kind = record { new = passes.new_rank; below = passes.below; fresh = passes.fresh; found = passes.found } in
+    passing_token_extends_text (state_of before) t.kind t.start (kept_of before) (draft_of before) (head_of before) ks passes.known passes.once fits here
 
 sentences_with_tokens : (before tokens : List Token) (ks : List TokenKind) → first_fault before tokens ≡ None → AtEnd before ks →
     AtEnd (reverse tokens ++ before) (ks ++ map (λ (t : Token). t.kind) tokens)
@@ -1184,7 +1184,7 @@ at_start = (refl, record { ops = refl; defined = refl; used = refl; deps = refl;
 
 -- where the text may end
 text_may_end : (o : Option ℕ) (s : State) (place : ℕ) (kept : Kept) (draft : Draft) (head : ItemHead) (ks : List TokenKind) → last_fault o s place ≡ None →
-    At s kept draft head ks → Out kept ks []
+    AreTokensUpTo s kept draft head ks → IsOutsideBlock kept ks []
 text_may_end None state.Top place kept draft head ks h here = here
 text_may_end None _ place kept draft head ks h here = cc
 text_may_end (Some at) s place kept draft head ks h here = cc

@@ -211,9 +211,9 @@ gives_keeps_taken old new t next enters gives before taken =
           }) (taken.plans i));
     }
 
-pub takes : (old new : Parser) (t : Token) (next : State) → entry old.state t.kind ≡ Some next
+pub takes_if_rest_has_no_fault : (old new : Parser) (t : Token) (next : State) → entry old.state t.kind ≡ Some next
     → ((before : List Token) → HasTaken old before → rest_fault old before t ≡ None) → Gives old new old.state t.kind t.start → Takes old t new
-takes old new t next enters rest gives = λ before taken. (rest_fault_is_token_fault old before t next None taken enters (rest before taken), gives_keeps_taken old new t next enters gives before taken)
+takes_if_rest_has_no_fault old new t next enters rest gives = λ before taken. (rest_fault_is_token_fault old before t next None taken enters (rest before taken), gives_keeps_taken old new t next enters gives before taken)
 
 -- What a token leaves unchanged.
 
@@ -469,15 +469,15 @@ action_begins_item _ is = absurd is
 pub takes_any : (old : Parser) (t : Token) (next : State) (draft : Draft) → entry old.state t.kind ≡ Some next → t.kind ≡ token.Any → draft ≡ draft_with old.state t.kind old.draft
     → Takes old t (record old { state = next; draft = draft })
 takes_any old t next draft enters is drafted =
-    takes old (record old { state = next; draft = draft }) t next enters (λ before taken. rest_fault_of_any old before t is) (gives_any old next draft t.kind t.start is enters drafted)
+    takes_if_rest_has_no_fault old (record old { state = next; draft = draft }) t next enters (λ before taken. rest_fault_of_any old before t is) (gives_any old next draft t.kind t.start is enters drafted)
 
 pub takes_plain : (old : Parser) (t : Token) (next : State) → entry old.state t.kind ≡ Some next → IsPlain t.kind → Takes old t (record old { state = next })
-takes_plain old t next enters is = takes old (record old { state = next }) t next enters (λ before taken. rest_fault_of_plain old before t is) (gives_plain old next t.kind t.start enters is)
+takes_plain old t next enters is = takes_if_rest_has_no_fault old (record old { state = next }) t next enters (λ before taken. rest_fault_of_plain old before t is) (gives_plain old next t.kind t.start enters is)
 
 pub takes_option : (old : Parser) (t : Token) (next : State) (draft : Draft) → entry old.state t.kind ≡ Some next → IsOption t.kind → has_option t.kind old.draft ≡ false
     → draft ≡ draft_with old.state t.kind old.draft → Takes old t (record old { state = next; draft = draft })
 takes_option old t next draft enters is new drafted =
-    takes old (record old { state = next; draft = draft }) t next enters (λ before taken. rest_fault_of_option old before t is ∙ ap (λ (b : Bool). fault_if b (Repeat t.start)) new)
+    takes_if_rest_has_no_fault old (record old { state = next; draft = draft }) t next enters (λ before taken. rest_fault_of_option old before t is ∙ ap (λ (b : Bool). fault_if b (Repeat t.start)) new)
     (gives_option old next draft t.kind t.start enters is drafted)
 
 pub refuses_option : (old : Parser) (t : Token) (next : State) → entry old.state t.kind ≡ Some next → IsOption t.kind → has_option t.kind old.draft ≡ true → Refuses old t (refused.Repeat t.start)
@@ -487,7 +487,7 @@ refuses_option old t next enters is again =
 pub takes_size : (old : Parser) (t : Token) (next : State) (draft : Draft) (n : ℕ) → entry old.state t.kind ≡ Some next → t.kind ≡ token.Size n → number_within old.state old.draft.option n ≡ true
     → draft ≡ draft_with old.state t.kind old.draft → Takes old t (record old { state = next; draft = draft })
 takes_size old t next draft n enters is within drafted =
-    takes old (record old { state = next; draft = draft }) t next enters (λ before taken. rest_fault_of_size old before t n is ∙ ap (λ (b : Bool). fault_if (not b) (Number t.start)) within)
+    takes_if_rest_has_no_fault old (record old { state = next; draft = draft }) t next enters (λ before taken. rest_fault_of_size old before t n is ∙ ap (λ (b : Bool). fault_if (not b) (Number t.start)) within)
     (gives_size old next draft n t.kind t.start is enters drafted)
 
 pub refuses_size : (old : Parser) (t : Token) (next : State) (n : ℕ) → entry old.state t.kind ≡ Some next → t.kind ≡ token.Size n → number_within old.state old.draft.option n ≡ false → Refuses old t (refused.Number t.start)
@@ -499,7 +499,7 @@ pub takes_action : (old new : Parser) (t : Token) (next : State) → entry old.s
     → new.block.ops.items ≡ ended_ops old.state t.kind (op_of old.draft) old.block.ops.items → new.block.names ≡ old.block.names → new.plans ≡ old.plans
     → Takes old t new
 takes_action old new t next enters is few stated ranked counted drafted headed opened named planned =
-    takes old new t next enters (λ before taken. rest_fault_of_action old before t is ∙ ap (λ (b : Bool). fault_if b (TooMany t.start)) few)
+    takes_if_rest_has_no_fault old new t next enters (λ before taken. rest_fault_of_action old before t is ∙ ap (λ (b : Bool). fault_if b (TooMany t.start)) few)
     (gives_action old new next t.kind t.start enters is stated ranked counted drafted headed opened named planned)
 
 pub refuses_action : (old : Parser) (t : Token) (next : State) → entry old.state t.kind ≡ Some next → IsAction t.kind → is_too_many t.kind old.counts ≡ true → Refuses old t (refused.TooMany t.start)
@@ -509,7 +509,7 @@ refuses_action old t next enters is many =
 pub takes_verb : (old : Parser) (t : Token) (next : State) (counts : Counts) (head : ItemHead) → entry old.state t.kind ≡ Some next → IsVerb t.kind → is_too_many t.kind old.counts ≡ false
     → counts ≡ counts_with t.kind old.counts → head ≡ verb_head t.kind old.head → Takes old t (record old { state = next; counts = counts; head = head })
 takes_verb old t next counts head enters is few counted headed =
-    takes old (record old { state = next; counts = counts; head = head }) t next enters (λ before taken. rest_fault_of_verb old before t is ∙ ap (λ (b : Bool). fault_if b (TooMany t.start)) few)
+    takes_if_rest_has_no_fault old (record old { state = next; counts = counts; head = head }) t next enters (λ before taken. rest_fault_of_verb old before t is ∙ ap (λ (b : Bool). fault_if b (TooMany t.start)) few)
     (gives_verb old next counts head t.kind t.start enters is counted headed)
 
 pub refuses_verb : (old : Parser) (t : Token) (next : State) → entry old.state t.kind ≡ Some next → IsVerb t.kind → is_too_many t.kind old.counts ≡ true → Refuses old t (refused.TooMany t.start)
@@ -527,7 +527,7 @@ pub takes_colon : (old new : Parser) (t : Token) (next : State) (op : ℕ) → e
     → Takes old t new
 unfolding counts_with draft_with head_with defined_with used_with deps_with notes_with plans_with
 takes_colon old new t next op enters is counted stated ranked same drafted headed opened planned names =
-    takes old new t next enters
+    takes_if_rest_has_no_fault old new t next enters
     (λ before taken. rest_fault_of_colon old before t is ∙ (names (defined_of before) (used_of before) (deps_of before) (notes_of before) taken.names).0)
     (subst (λ (k : TokenKind). entry old.state k ≡ Some next → Gives old new old.state k t.start) (sym is) (λ enters_here. record {
       state = stated ∙ state_after_token old.state next token.Colon enters_here;
@@ -556,7 +556,7 @@ pub takes_close : (old new : Parser) (t : Token) (next : State) (plan : Plan) �
     → new.plans.items ≡ slice_set old.plans.items old.ranks.present plan → Takes old t new
 unfolding counts_with draft_with head_with ops_with defined_with used_with deps_with notes_with plans_with
 takes_close old new t next plan enters is known stated ranked same drafted headed opened names planned put =
-    takes old new t next enters (λ before taken. rest_fault_of_close old before t is ∙ ap (option_map UnknownLabel) (known before taken))
+    takes_if_rest_has_no_fault old new t next enters (λ before taken. rest_fault_of_close old before t is ∙ ap (option_map UnknownLabel) (known before taken))
     (subst (λ (k : TokenKind). entry old.state k ≡ Some next → Gives old new old.state k t.start) (sym is) (λ enters_here. record {
       state = stated ∙ state_after_token old.state next token.Close enters_here;
       ranks = (λ i. (ranked i).count) ∙ ranks_stay_without_number old.state token.Close old.ranks.count tt;
@@ -578,7 +578,7 @@ pub takes_earlier : (old new : Parser) (t : Token) (next : State) (label : List 
     → Takes old t new
 unfolding ranks_with rank_with blocks_with counts_with draft_with head_with ops_with ends_action defined_with used_with deps_with notes_with plans_with
 takes_earlier old new t next label enters is here stated ranked same drafted headed opened planned names =
-    takes old new t next enters (λ before taken. rest_fault_of_label old before t label is)
+    takes_if_rest_has_no_fault old new t next enters (λ before taken. rest_fault_of_label old before t label is)
     (subst (λ (z : State × TokenKind). entry z.0 z.1 ≡ Some next → Gives old new z.0 z.1 t.start) (λ i. (sym here i, sym is i)) (λ enters_here. record {
       state = stated ∙ state_after_token state.Label next (token.Label label) enters_here;
       ranks = λ i. (ranked i).count;
@@ -597,7 +597,7 @@ pub takes_label : (old new : Parser) (t : Token) (next : State) (label : List �
     → new.block.ops.items ≡ ended_ops old.state t.kind (op_of old.draft) old.block.ops.items → new.block.names ≡ old.block.names → new.plans ≡ old.plans
     → Takes old t new
 takes_label old new t next label enters is other stated ranked same drafted headed opened named planned =
-    takes old new t next enters (λ before taken. rest_fault_of_label old before t label is)
+    takes_if_rest_has_no_fault old new t next enters (λ before taken. rest_fault_of_label old before t label is)
     (subst (λ (k : TokenKind). entry old.state k ≡ Some next → new.block.ops.items ≡ ended_ops old.state k (op_of old.draft) old.block.ops.items → Gives old new old.state k t.start) (sym is)
     (λ enters_here opened_here. gives_label old new next label t.start other enters_here stated ranked same drafted headed opened_here named planned) enters opened)
 
@@ -631,7 +631,7 @@ module _ (old : Parser) (t : Token) (next : State) (n : ℕ) (enters : entry old
     no_rank_fault_outside_block _ other = refl
 
     takes_number_outside_block : (new : Parser) → (old.state ≡ state.Block → ⊥) → Gives old new old.state (token.Number n) t.start → Takes old t new
-    takes_number_outside_block new other gives = takes old new t next enters (λ before taken. number_within_fails_only_rank_test within before ∙ no_rank_fault_outside_block old.state other)
+    takes_number_outside_block new other gives = takes_if_rest_has_no_fault old new t next enters (λ before taken. number_within_fails_only_rank_test within before ∙ no_rank_fault_outside_block old.state other)
         (subst (λ (k : TokenKind). Gives old new old.state k t.start) (sym is) gives)
 
     enters_number : entry old.state (token.Number n) ≡ Some next
@@ -704,7 +704,7 @@ module _ (old : Parser) (t : Token) (next : State) (n : ℕ) (enters : entry old
         → new.counts ≡ old.counts → new.draft ≡ old.draft → new.head ≡ old.head → new.block ≡ old.block → new.plans ≡ old.plans → Takes old t new
     unfolding ranks_with rank_with blocks_with counts_with draft_with head_with ops_with ends_action defined_with used_with deps_with notes_with plans_with
     takes_rank new here passes stated counted present blocks same drafted headed blocked planned =
-        takes old new t next enters (λ before taken. number_within_fails_only_rank_test within before ∙ sym rank_fault_of_number ∙ sym passes)
+        takes_if_rest_has_no_fault old new t next enters (λ before taken. number_within_fails_only_rank_test within before ∙ sym rank_fault_of_number ∙ sym passes)
         (subst (λ (z : State × TokenKind). entry z.0 z.1 ≡ Some next → Gives old new z.0 z.1 t.start) (λ i. (sym here i, sym is i)) (λ enters_here. record {
           state = stated ∙ state_after_token state.Block next (token.Number n) enters_here;
           ranks = counted;

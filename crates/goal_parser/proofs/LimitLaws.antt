@@ -219,8 +219,8 @@ RanksFit state.Start ps = ⊤
 RanksFit state.Ranks ps = ⊤
 RanksFit _ ps = (0 < length ps) × (length ps ≤ MAX_RANKS)
 
-between : (low n high : ℕ) → (nat_le low n && nat_le n high) ≡ true → (low ≤ n) × (n ≤ high)
-between low n high h = let parts = and_parts (nat_le low n) (nat_le n high) h in (leb-true low n parts.0, leb-true n high parts.1)
+bounds_from_passed_tests : (low n high : ℕ) → (nat_le low n && nat_le n high) ≡ true → (low ≤ n) × (n ≤ high)
+bounds_from_passed_tests low n high h = let parts = and_parts (nat_le low n) (nat_le n high) h in (leb-true low n parts.0, leb-true n high parts.1)
 
 replicated_ranks_fit : (n : ℕ) → 1 ≤ n → n ≤ MAX_RANKS → (0 < length (replicate n empty_plan)) × (length (replicate n empty_plan) ≤ MAX_RANKS)
 replicated_ranks_fit n some few = let e = length-replicate n empty_plan in (omega arith, omega arith)
@@ -233,7 +233,7 @@ ranks_fit : (s : State) (k : TokenKind) (option : OptionWord) (rank : ℕ) (plan
 unfolding entry is_within plans_with
 ranks_fit state.Start token.NumRanks option rank plan ps w h = tt
 ranks_fit state.Start _ option rank plan ps w h = tt
-ranks_fit state.Ranks (token.Number n) option rank plan ps w h = let b = between 1 n MAX_RANKS w in replicated_ranks_fit n b.0 b.1
+ranks_fit state.Ranks (token.Number n) option rank plan ps w h = let b = bounds_from_passed_tests 1 n MAX_RANKS w in replicated_ranks_fit n b.0 b.1
 ranks_fit state.Ranks _ option rank plan ps w h = tt
 ranks_fit _ token.Close option rank plan ps w h = set_fits ps rank plan h
 ranks_fit _ _ option rank plan ps w h = h
@@ -285,7 +285,7 @@ draft_fits state.Action token.Calc d e w h = (refl, refl)
 draft_fits state.Action token.Send d e w h = refl
 draft_fits state.Action token.Recv d e w h = refl
 draft_fits state.Action _ d e w h = tt
-draft_fits state.Calc1 (token.Number n) d e w h = (h.0, h.1, (between 0 n MAX_NANOS w).1)
+draft_fits state.Calc1 (token.Number n) d e w h = (h.0, h.1, (bounds_from_passed_tests 0 n MAX_NANOS w).1)
 draft_fits state.Calc1 _ d e w h = absurd (true≢false e)
 draft_fits state.Calc2 token.Cpu d e w h = (h, refl)
 draft_fits state.Calc2 token.Calc d e w h = (refl, refl)
@@ -296,8 +296,8 @@ draft_fits state.Calc2 (token.Label label) d e w h = tt
 draft_fits state.Calc2 _ d e w h = absurd (true≢false e)
 draft_fits state.Calc3 (token.Number n) d e w h = subst (λ (o : OptionWord). CalcFits (option_with o n d)) (sym h.1) h.0
 draft_fits state.Calc3 _ d e w h = absurd (true≢false e)
-draft_fits state.Send1 (token.Number n) d e w h = (h, (between 0 n MAX_BYTES w).1)
-draft_fits state.Send1 (token.Size n) d e w h = (h, (between 0 n MAX_BYTES w).1)
+draft_fits state.Send1 (token.Number n) d e w h = (h, (bounds_from_passed_tests 0 n MAX_BYTES w).1)
+draft_fits state.Send1 (token.Size n) d e w h = (h, (bounds_from_passed_tests 0 n MAX_BYTES w).1)
 draft_fits state.Send1 _ d e w h = absurd (true≢false e)
 draft_fits state.Send2 token.To d e w h = h
 draft_fits state.Send2 _ d e w h = absurd (true≢false e)
@@ -314,8 +314,8 @@ draft_fits state.Send4 token.Nic d e w h = h
 draft_fits state.Send4 _ d e w h = absurd (true≢false e)
 draft_fits state.Send5 (token.Number n) d e w h = send_option d.option n d h
 draft_fits state.Send5 _ d e w h = absurd (true≢false e)
-draft_fits state.Recv1 (token.Number n) d e w h = (h, (between 0 n MAX_BYTES w).1)
-draft_fits state.Recv1 (token.Size n) d e w h = (h, (between 0 n MAX_BYTES w).1)
+draft_fits state.Recv1 (token.Number n) d e w h = (h, (bounds_from_passed_tests 0 n MAX_BYTES w).1)
+draft_fits state.Recv1 (token.Size n) d e w h = (h, (bounds_from_passed_tests 0 n MAX_BYTES w).1)
 draft_fits state.Recv1 _ d e w h = absurd (true≢false e)
 draft_fits state.Recv2 token.From d e w h = h
 draft_fits state.Recv2 _ d e w h = absurd (true≢false e)
@@ -372,7 +372,7 @@ plans_with_token_have_values s (token.Number n) rank plan ps p all = first_plans
 plans_with_token_have_values s _ rank plan ps p all = all
 
 -- what holds after tokens that fail no test
-record Keeps (before : List Token) : Type 0 where
+record KeepsLimits (before : List Token) : Type 0 where
   ops : op_count (plans_of before) + length (ops_of before) + unfinished_ops (state_of before) ≤ (counts_of before).ops
   deps : dep_count (plans_of before) + length (deps_of before) + unfinished_deps (state_of before) ≤ (counts_of before).deps
   notes : note_count (plans_of before) + length (notes_of before) + unfinished_notes (state_of before) ≤ (counts_of before).notes
@@ -382,7 +382,7 @@ record Keeps (before : List Token) : Type 0 where
   values : AllByRecursion HasValue (ops_of before)
   plans : AllByRecursion KeptValues (plans_of before)
 
-keeps_before_all : Keeps []
+keeps_before_all : KeepsLimits []
 unfolding op_count dep_count note_count state_of draft_of ops_of deps_of notes_of counts_of plans_of
 keeps_before_all = record {
   ops = omega arith;
@@ -396,7 +396,7 @@ keeps_before_all = record {
 }
 
 -- the tests that a token passes
-record Passes (s : State) (o : OptionWord) (counts : Counts) (t : Token) : Type 0 where
+record PassesLimitTests (s : State) (o : OptionWord) (counts : Counts) (t : Token) : Type 0 where
   known : is_none (entry s t.kind) ≡ false
   within : is_within s o t.kind ≡ true
   few : is_too_many t.kind counts ≡ false
@@ -406,7 +406,7 @@ unfolding syntax_fault
 known_passes s t h = no_fault_if_false (is_none (entry s t.kind)) (Syntax t.start) h
 
 faultless_token_passes_limits : (s : State) (draft : Draft) (ranks : ℕ) (blocks : List ℕ) (ds : List Definition) (subject : Option Mention) (counts : Counts) (us : List Mention) (t : Token)
-    → fault_by s draft ranks blocks ds subject counts us t ≡ None → Passes s draft.option counts t
+    → fault_by s draft ranks blocks ds subject counts us t ≡ None → PassesLimitTests s draft.option counts t
 unfolding fault_by
 faultless_token_passes_limits s draft ranks blocks ds subject counts us t h =
     let last = option_or (count_fault counts t) (unknown_fault ds us t) in
@@ -425,7 +425,7 @@ faultless_token_passes_limits s draft ranks blocks ds subject counts us t h =
       few = count_passes counts t (first_is_none (count_fault counts t) (unknown_fault ds us t) behind_label);
     }
 
-token_passes : (before : List Token) (t : Token) → token_fault before t ≡ None → Passes (state_of before) (draft_of before).option (counts_of before) t
+token_passes : (before : List Token) (t : Token) → token_fault before t ≡ None → PassesLimitTests (state_of before) (draft_of before).option (counts_of before) t
 unfolding token_fault
 token_passes before t h = faultless_token_passes_limits (state_of before) (draft_of before) (ranks_of before) (blocks_of before) (defined_of before) (head_of before).subject (counts_of before) (used_of before) t h
 
@@ -438,7 +438,7 @@ sum_stays_within_count new old length_new length_old closed kept_one acting_new 
 same_le : (a b : ℕ) → a ≡ b → a ≤ b
 same_le a b e = omega arith
 
-module _ (before : List Token) (t : Token) (passes : Passes (state_of before) (draft_of before).option (counts_of before) t) (keeps : Keeps before) where
+module _ (before : List Token) (t : Token) (passes : PassesLimitTests (state_of before) (draft_of before).option (counts_of before) t) (keeps : KeepsLimits before) where
   ops_with_token : op_count (plans_of (t ∷ before)) + length (ops_of (t ∷ before)) + unfinished_ops (state_of (t ∷ before)) ≤ (counts_of (t ∷ before)).ops
   unfolding op_count plans_of ops_of state_of counts_of
   ops_with_token =
@@ -476,7 +476,7 @@ module _ (before : List Token) (t : Token) (passes : Passes (state_of before) (d
       (notes_counted (counts_of before) k)
       keeps.notes
 
-  keeps_with_token : Keeps (t ∷ before)
+  keeps_with_token : KeepsLimits (t ∷ before)
   unfolding state_of draft_of ops_of counts_of plans_of
   keeps_with_token =
       let s = state_of before in let k = t.kind in let op = op_of (draft_of before) in
@@ -493,7 +493,7 @@ module _ (before : List Token) (t : Token) (passes : Passes (state_of before) (d
       }
 
 -- all tokens of a text without a fault
-keeps_all : (before tokens : List Token) → first_fault before tokens ≡ None → Keeps before → Keeps (reverse tokens ++ before)
+keeps_all : (before tokens : List Token) → first_fault before tokens ≡ None → KeepsLimits before → KeepsLimits (reverse tokens ++ before)
 unfolding first_fault
 keeps_all before [] passed keeps = keeps
 keeps_all before (t ∷ tokens) passed keeps =
@@ -501,7 +501,7 @@ keeps_all before (t ∷ tokens) passed keeps =
     let rest = second_is_none (token_fault before t) (first_fault (t ∷ before) tokens) passed in
     let turned : reverse (t ∷ tokens) ++ before ≡ reverse tokens ++ t ∷ before =
     ap (λ l. l ++ before) (reverse-append (t ∷ []) tokens) ∙ append_assoc (reverse tokens) (t ∷ []) before in
-    subst Keeps (sym turned) (keeps_all (t ∷ before) tokens rest (keeps_with_token before t here keeps))
+    subst KeepsLimits (sym turned) (keeps_all (t ∷ before) tokens rest (keeps_with_token before t here keeps))
 
 -- where the text may end
 last_fits : (o : Option ℕ) (s : State) (place : ℕ) (ps : List Plan) → last_fault o s place ≡ None → RanksFit s ps → (0 < length ps) × (length ps ≤ MAX_RANKS)
@@ -509,7 +509,7 @@ last_fits None state.Top place ps h fits = fits
 last_fits None _ place ps h fits = cc
 last_fits (Some at) _ place ps h fits = cc
 
-within_limits : (before : List Token) → Keeps before → (0 < length (plans_of before)) × (length (plans_of before) ≤ MAX_RANKS) → AreWithinLimits (plans_of before)
+within_limits : (before : List Token) → KeepsLimits before → (0 < length (plans_of before)) × (length (plans_of before) ≤ MAX_RANKS) → AreWithinLimits (plans_of before)
 within_limits before keeps fits =
     let k = keeps in let few = k.few in
     let ops = k.ops in let deps = k.deps in let notes = k.notes in
@@ -524,7 +524,7 @@ unfolding text_fault text_plans
 text_within_limits text passed =
     let tokens = (lexed text).0 in
     let last = last_fault (lexed text).1 (state_of (reverse tokens)) (length text) in
-    let keeps = subst Keeps (append-nil (reverse tokens)) (keeps_all [] tokens (first_is_none (first_fault [] tokens) last passed) keeps_before_all) in
+    let keeps = subst KeepsLimits (append-nil (reverse tokens)) (keeps_all [] tokens (first_is_none (first_fault [] tokens) last passed) keeps_before_all) in
     within_limits (reverse tokens) keeps (last_fits (lexed text).1 (state_of (reverse tokens)) (length text) (plans_of (reverse tokens)) (second_is_none (first_fault [] tokens) last passed) keeps.ranks)
 
 reading_within_limits : (fault : Option TextFault) (said ps : List Plan) → (fault ≡ None → AreWithinLimits said) → reading fault said ≡ plans ps → AreWithinLimits ps

@@ -98,9 +98,9 @@ labelled_sort (token.Moves ∷ ks) = 5
 labelled_sort (token.Adds ∷ ks) = 6
 labelled_sort _ = 7
 
-abbrev sort : List TokenKind → ℕ
-sort (token.Label l ∷ ks) = labelled_sort ks
-sort ks = action_sort ks
+abbrev sort_of_tokens : List TokenKind → ℕ
+sort_of_tokens (token.Label l ∷ ks) = labelled_sort ks
+sort_of_tokens ks = action_sort ks
 
 abbrev sort_of : Item → ℕ
 sort_of (calc l n c) = 0
@@ -111,7 +111,7 @@ sort_of (irequires x y) = 4
 sort_of (moves x n m) = 5
 sort_of (adds x n m) = 6
 
-sort_by_tokens : (i : Item) (a : List TokenKind) → sort (item_tokens i ++ a) ≡ sort_of i
+sort_by_tokens : (i : Item) (a : List TokenKind) → sort_of_tokens (item_tokens i ++ a) ≡ sort_of i
 sort_by_tokens (calc None n c) a = refl
 sort_by_tokens (calc (Some l) n c) a = refl
 sort_by_tokens (send None s n ss) a = refl
@@ -121,7 +121,7 @@ sort_by_tokens (recv (Some l) s n ss) a = refl
 sort_by_tokens _ a = refl
 
 same_sort : (i j : Item) (a b : List TokenKind) → item_tokens i ++ a ≡ item_tokens j ++ b → sort_of i ≡ sort_of j
-same_sort i j a b same = sym (sort_by_tokens i a) ∙ ap sort same ∙ sort_by_tokens j b
+same_sort i j a b same = sym (sort_by_tokens i a) ∙ ap sort_of_tokens same ∙ sort_by_tokens j b
 
 -- one item at the front
 item_unique : (i j : Item) (a b : List TokenKind) → NoOption a → NoOption b → item_tokens i ++ a ≡ item_tokens j ++ b → (i ≡ j) × (a ≡ b)

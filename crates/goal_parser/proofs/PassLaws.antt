@@ -39,9 +39,9 @@ token_in_first_or_second_list (b ∷ bs) later (h ∷ hs) cs t e =
     ⊎_elim (λ found. inl (found.0, ap (λ (x : Token). x ∷ hs) (sym same) ∙ ap (λ (l : List Token). b ∷ l) found.1)) (λ stood. inr stood) (token_in_first_or_second_list bs later hs cs t rest)
 
 -- a token among tokens that pass
-passes : (before more : List Token) (t : Token) → first_fault [] (before ++ t ∷ more) ≡ None → token_fault (reverse before) t ≡ None
+token_among_faultless_has_no_fault : (before more : List Token) (t : Token) → first_fault [] (before ++ t ∷ more) ≡ None → token_fault (reverse before) t ≡ None
 unfolding first_fault
-passes before more t passed =
+token_among_faultless_has_no_fault before more t passed =
     let behind = second_is_none (first_fault [] before) _ (sym (first_fault-append [] before (t ∷ more)) ∙ passed) in
     ap (λ (l : List Token). token_fault l t) (sym (append-nil (reverse before))) ∙ first_is_none (token_fault (reverse before ++ []) t) _ behind
 
@@ -67,13 +67,13 @@ abbrev NoSigns : List (List ℕ × TokenKind) → Type 0
 NoSigns [] = ⊤
 NoSigns (e ∷ es) = (IsSign e.1 → ⊥) × NoSigns es
 
-either : (b : Bool) (x y : TokenKind) → (IsSign x → ⊥) → (IsSign y → ⊥) → IsSign (if b then x else y) → ⊥
-either true x y f g h = f h
-either false x y f g h = g h
+conditional_kind_is_no_sign : (b : Bool) (x y : TokenKind) → (IsSign x → ⊥) → (IsSign y → ⊥) → IsSign (if b then x else y) → ⊥
+conditional_kind_is_no_sign true x y f g h = f h
+conditional_kind_is_no_sign false x y f g h = g h
 
 no_sign_among : (entries : List (List ℕ × TokenKind)) (word : List ℕ) → NoSigns entries → IsSign (kind_among entries word) → ⊥
 no_sign_among [] word none h = h
-no_sign_among (e ∷ es) word none h = either (bytes_eq word e.0) e.1 (kind_among es word) none.0 (no_sign_among es word none.1) h
+no_sign_among (e ∷ es) word none h = conditional_kind_is_no_sign (bytes_eq word e.0) e.1 (kind_among es word) none.0 (no_sign_among es word none.1) h
 
 no_reserved_sign : NoSigns reserved_words
 no_reserved_sign =
@@ -101,7 +101,7 @@ closing_token_is_no_sign place (Failed at) t (xs, ys, e) h = no_token_among_none
 pub passes_so_far : (r : TextReader) (text : List ℕ) → HasRead r text → PassesSoFar text
 passes_so_far r text read = record {
   tokens = λ before later t e inside.
-      ⊎_elim (λ found. passes before found.0 t (sym (ap (first_fault []) found.1) ∙ read.stands.passed))
+      ⊎_elim (λ found. token_among_faultless_has_no_fault before found.0 t (sym (ap (first_fault []) found.1) ∙ read.stands.passed))
       (λ stood. absurd (⊎_elim (λ early. let last = closed_token_ends_at_place lexer.place lexer.mode t stood in let long = stands.place in omega (arith, last, long, early)) (λ sign. closing_token_is_no_sign lexer.place lexer.mode t stood sign) inside))
       (token_in_first_or_second_list before later (handed lexer text) (closing lexer.place lexer.mode) t (sym e ∙ ap (λ (p : List Token × Option ℕ). p.0) (lexed_at_end lexer.mode lexer.place lexer.ends_run text stands)));
   bytes = λ at e. fault_at_end_is_cut_off lexer text at stands e;

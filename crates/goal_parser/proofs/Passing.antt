@@ -36,22 +36,22 @@ use Rattle.goal_parser.proofs.GrammarLaws.{labels_in}
 use Rattle.goal_parser.proofs.Seen.{Seen, seen_of, ops_now, step, fault_in, kinds_of, passes_if_false, passes_rank, limit_not_reached, passes_number, passes_upto, passes_u32, BeginsItem, at_word, at_close}
 
 -- Tokens of these kinds fail no test, at whatever places, and the text may end after them.
-pub data Passes : Seen → List TokenKind → Type 0 where
-  ends : {s : Seen} → s.state ≡ state.Top → Passes s []
+pub data AreFaultlessFrom : Seen → List TokenKind → Type 0 where
+  ends : {s : Seen} → s.state ≡ state.Top → AreFaultlessFrom s []
   next : {s : Seen} {kind : TokenKind} {kinds : List TokenKind}
       → ((start end : ℕ) → fault_in s (record { kind = kind; start = start; end = end }) ≡ None)
-      → ((start end : ℕ) → Passes (step (record { kind = kind; start = start; end = end }) s) kinds)
-      → Passes s (kind ∷ kinds)
+      → ((start end : ℕ) → AreFaultlessFrom (step (record { kind = kind; start = start; end = end }) s) kinds)
+      → AreFaultlessFrom s (kind ∷ kinds)
 
-passes_end_in_top_state : {s : Seen} → Passes s [] → s.state ≡ state.Top
+passes_end_in_top_state : {s : Seen} → AreFaultlessFrom s [] → s.state ≡ state.Top
 passes_end_in_top_state (ends here) = here
 
-first_token_passes : {s : Seen} {kind : TokenKind} {kinds : List TokenKind} → Passes s (kind ∷ kinds) → (start end : ℕ)
-    → (fault_in s (record { kind = kind; start = start; end = end }) ≡ None) × Passes (step (record { kind = kind; start = start; end = end }) s) kinds
+first_token_passes : {s : Seen} {kind : TokenKind} {kinds : List TokenKind} → AreFaultlessFrom s (kind ∷ kinds) → (start end : ℕ)
+    → (fault_in s (record { kind = kind; start = start; end = end }) ≡ None) × AreFaultlessFrom (step (record { kind = kind; start = start; end = end }) s) kinds
 first_token_passes (next passes more) start end = (passes start end, more start end)
 
 -- so tokens of these kinds have no fault
-pub passing_tokens : (before tokens : List Token) → Passes (seen_of before) (kinds_of tokens)
+pub passing_tokens : (before tokens : List Token) → AreFaultlessFrom (seen_of before) (kinds_of tokens)
     → (first_fault before tokens ≡ None) × (state_of (reverse tokens ++ before) ≡ state.Top)
 unfolding step fault_in first_fault token_fault state_of draft_of ranks_of blocks_of rank_of head_of ops_of defined_of deps_of notes_of used_of counts_of plans_of
 passing_tokens before [] good = (refl, passes_end_in_top_state good)
@@ -66,11 +66,11 @@ passing_tokens before (t ∷ tokens) good =
 
 -- the label that an item begins with
 label_passes : (s : Seen) (label : List ℕ) (kinds : List TokenKind) → BeginsItem s.state
-    → ((at : ℕ) → Passes (at_word s label at) kinds) → Passes s (token.Label label ∷ kinds)
+    → ((at : ℕ) → AreFaultlessFrom (at_word s label at) kinds) → AreFaultlessFrom s (token.Label label ∷ kinds)
 unfolding step fault_in
 label_passes s label kinds begins good = by s.state begins good
   where
-    by : (st : State) → BeginsItem st → ((at : ℕ) → Passes (at_word (record s { state = st }) label at) kinds) → Passes (record s { state = st }) (token.Label label ∷ kinds)
+    by : (st : State) → BeginsItem st → ((at : ℕ) → AreFaultlessFrom (at_word (record s { state = st }) label at) kinds) → AreFaultlessFrom (record s { state = st }) (token.Label label ∷ kinds)
     by state.Item begins good = next (λ start end. refl) (λ start end. good start)
     by state.Calc2 begins good = next (λ start end. refl) (λ start end. good start)
     by state.Send4 begins good = next (λ start end. refl) (λ start end. good start)
@@ -78,10 +78,10 @@ label_passes s label kinds begins good = by s.state begins good
     by _ begins good = absurd begins
 
 -- the word of an action, and the state after it
-abbrev word : Action → TokenKind
-word action.Calc = token.Calc
-word action.Send = token.Send
-word action.Recv = token.Recv
+abbrev action_token : Action → TokenKind
+action_token action.Calc = token.Calc
+action_token action.Send = token.Send
+action_token action.Recv = token.Recv
 
 abbrev first_state : Action → State
 first_state action.Calc = state.Calc1
@@ -104,14 +104,14 @@ IsNew s None = ⊤
 IsNew s (Some label) = is_defined s.defined label ≡ false
 
 word_passes : (a : Action) (s : Seen) (label : Option (List ℕ)) (kinds : List TokenKind) → BeginsItem s.state → IsNew s label → s.counts.ops < MAX_OPS
-    → ((head : ItemHead) → Passes (begun_at s label head a) kinds) → Passes s (label_tokens label ++ word a ∷ kinds)
+    → ((head : ItemHead) → AreFaultlessFrom (begun_at s label head a) kinds) → AreFaultlessFrom s (label_tokens label ++ action_token a ∷ kinds)
 unfolding step fault_in
 word_passes a s None kinds begins new few good =
-    by a s.state begins (subst (λ (ds : List Definition). Passes (record (begun_at s None s.head a) { defined = ds }) kinds) (append-nil s.defined) (good s.head))
+    by a s.state begins (subst (λ (ds : List Definition). AreFaultlessFrom (record (begun_at s None s.head a) { defined = ds }) kinds) (append-nil s.defined) (good s.head))
   where
     by : (a : Action) (st : State) → BeginsItem st
-        → Passes (record (begun_at (record s { state = st }) None s.head a) { defined = s.defined }) kinds
-        → Passes (record s { state = st }) (word a ∷ kinds)
+        → AreFaultlessFrom (record (begun_at (record s { state = st }) None s.head a) { defined = s.defined }) kinds
+        → AreFaultlessFrom (record s { state = st }) (action_token a ∷ kinds)
     by action.Calc state.Item begins good = next (λ x y. passes_if_false (nat_le MAX_OPS s.counts.ops) (fault.TooMany x) (limit_not_reached MAX_OPS s.counts.ops few)) (λ x y. good)
     by action.Calc state.Calc2 begins good = next (λ x y. passes_if_false (nat_le MAX_OPS s.counts.ops) (fault.TooMany x) (limit_not_reached MAX_OPS s.counts.ops few)) (λ x y. good)
     by action.Calc state.Send4 begins good = next (λ x y. passes_if_false (nat_le MAX_OPS s.counts.ops) (fault.TooMany x) (limit_not_reached MAX_OPS s.counts.ops few)) (λ x y. good)
@@ -128,11 +128,11 @@ word_passes a s None kinds begins new few good =
     by action.Recv state.Recv4 begins good = next (λ x y. passes_if_false (nat_le MAX_OPS s.counts.ops) (fault.TooMany x) (limit_not_reached MAX_OPS s.counts.ops few)) (λ x y. good)
     by action.Recv _ begins good = absurd begins
 word_passes a s (Some label) kinds begins new few good =
-    label_passes s label (token.Colon ∷ word a ∷ kinds) begins (λ at.
+    label_passes s label (token.Colon ∷ action_token a ∷ kinds) begins (λ at.
     next (λ x y. passes_if_false (is_defined s.defined label) (fault.Repeat at) new) (λ x y. behind a at (good (record s.head { subject = Some (record { label = label; at = at }) }))))
   where
-    behind : (a : Action) (at : ℕ) → Passes (begun_at s (Some label) (record s.head { subject = Some (record { label = label; at = at }) }) a) kinds
-        → Passes (record (at_word s label at) { state = state.Action; defined = s.defined ++ record { label = label; op = length (ops_now s) } ∷ [] }) (word a ∷ kinds)
+    behind : (a : Action) (at : ℕ) → AreFaultlessFrom (begun_at s (Some label) (record s.head { subject = Some (record { label = label; at = at }) }) a) kinds
+        → AreFaultlessFrom (record (at_word s label at) { state = state.Action; defined = s.defined ++ record { label = label; op = length (ops_now s) } ∷ [] }) (action_token a ∷ kinds)
     behind action.Calc at good = next (λ x y. passes_if_false (nat_le MAX_OPS s.counts.ops) (fault.TooMany x) (limit_not_reached MAX_OPS s.counts.ops few)) (λ x y. good)
     behind action.Send at good = next (λ x y. passes_if_false (nat_le MAX_OPS s.counts.ops) (fault.TooMany x) (limit_not_reached MAX_OPS s.counts.ops few)) (λ x y. good)
     behind action.Recv at good = next (λ x y. passes_if_false (nat_le MAX_OPS s.counts.ops) (fault.TooMany x) (limit_not_reached MAX_OPS s.counts.ops few)) (λ x y. good)
@@ -170,8 +170,8 @@ once_fresh settings once =
 -- the options of a send
 send_settings : (settings : List Setting) (s : Seen) (kinds : List TokenKind) → AllByRecursion IsSettingWithin settings → AllByRecursion IsOfSend settings
     → Fresh s.draft.has_tag s.draft.has_cpu s.draft.has_nic settings
-    → ((d : Draft) → Passes (record s { state = state.Send4; draft = d }) kinds)
-    → Passes (record s { state = state.Send4 }) (flat_map setting_tokens settings ++ kinds)
+    → ((d : Draft) → AreFaultlessFrom (record s { state = state.Send4; draft = d }) kinds)
+    → AreFaultlessFrom (record s { state = state.Send4 }) (flat_map setting_tokens settings ++ kinds)
 unfolding step fault_in
 send_settings [] s kinds within sends new good = good s.draft
 send_settings (tag None ∷ settings) s kinds within sends new good = absurd (let h = sends.0 in cc)
@@ -191,8 +191,8 @@ send_settings (nic n ∷ settings) s kinds within sends new good =
 -- those of a receive
 recv_settings : (settings : List Setting) (s : Seen) (kinds : List TokenKind) → AllByRecursion IsSettingWithin settings
     → Fresh s.draft.has_tag s.draft.has_cpu s.draft.has_nic settings
-    → ((d : Draft) → Passes (record s { state = state.Recv4; draft = d }) kinds)
-    → Passes (record s { state = state.Recv4 }) (flat_map setting_tokens settings ++ kinds)
+    → ((d : Draft) → AreFaultlessFrom (record s { state = state.Recv4; draft = d }) kinds)
+    → AreFaultlessFrom (record s { state = state.Recv4 }) (flat_map setting_tokens settings ++ kinds)
 unfolding step fault_in
 recv_settings [] s kinds within new good = good s.draft
 recv_settings (tag None ∷ settings) s kinds within new good =
@@ -264,7 +264,7 @@ module _ (s : Seen) (label : Option (List ℕ)) (head : ItemHead) (a : Action) (
   }
 
 -- what an item needs of what is given before it
-record Fits (s : Seen) (item : Item) : Type 0 where
+record AllowsItem (s : Seen) (item : Item) : Type 0 where
   begins : BeginsItem s.state
   new : (label : List ℕ) → defined_by item (length (ops_now s)) ≡ record { label = label; op = length (ops_now s) } ∷ [] → is_defined s.defined label ≡ false
   ops : s.counts.ops + length (op_said item) ≤ MAX_OPS
@@ -276,16 +276,16 @@ fitting_label_is_new s None n h = tt
 fitting_label_is_new s (Some l) n h = h l refl
 
 -- a calc
-calc_passes : (label : Option (List ℕ)) (nanos : ℕ) (on : Option ℕ) (s : Seen) (kinds : List TokenKind) → Fits s (calc label nanos on) → IsItemWithin (calc label nanos on)
-    → ((t : Seen) → IsAfterItem s t (calc label nanos on) → Passes t kinds) → Passes s (item_tokens (calc label nanos on) ++ kinds)
+calc_passes : (label : Option (List ℕ)) (nanos : ℕ) (on : Option ℕ) (s : Seen) (kinds : List TokenKind) → AllowsItem s (calc label nanos on) → IsItemWithin (calc label nanos on)
+    → ((t : Seen) → IsAfterItem s t (calc label nanos on) → AreFaultlessFrom t kinds) → AreFaultlessFrom s (item_tokens (calc label nanos on) ++ kinds)
 unfolding step fault_in
 calc_passes label nanos on s kinds fits within good =
-    subst (Passes s) (sym (append_assoc (label_tokens label) (token.Calc ∷ token.Number nanos ∷ cpu_tokens on) kinds))
+    subst (AreFaultlessFrom s) (sym (append_assoc (label_tokens label) (token.Calc ∷ token.Number nanos ∷ cpu_tokens on) kinds))
     (word_passes action.Calc s label (token.Number nanos ∷ cpu_tokens on ++ kinds) fits.begins (fitting_label_is_new s label (length (ops_now s)) fits.new) (let few = fits.ops in omega arith) (λ head.
     next (λ a b. passes_upto nanos MAX_NANOS (fault.Number a) within.0) (λ a b. rest on within.1 head (λ t h. good t h))))
   where
-    rest : (on : Option ℕ) → unwrap_or on 0 ≤ 255 → (head : ItemHead) → ((t : Seen) → IsAfterItem s t (calc label nanos on) → Passes t kinds)
-        → Passes (record (begun_at s label head action.Calc) { state = state.Calc2; draft = record (begun action.Calc s.draft.option) { size = nanos } }) (cpu_tokens on ++ kinds)
+    rest : (on : Option ℕ) → unwrap_or on 0 ≤ 255 → (head : ItemHead) → ((t : Seen) → IsAfterItem s t (calc label nanos on) → AreFaultlessFrom t kinds)
+        → AreFaultlessFrom (record (begun_at s label head action.Calc) { state = state.Calc2; draft = record (begun action.Calc s.draft.option) { size = nanos } }) (cpu_tokens on ++ kinds)
     rest None few head good =
         good _ (seen_after_action_is_after_item s label head action.Calc state.Calc2 (record (begun action.Calc s.draft.option) { size = nanos }) tt (calc label nanos None) refl (λ n. refl) refl refl refl)
     rest (Some n) few head good =
@@ -294,17 +294,17 @@ calc_passes label nanos on s kinds fits within good =
         good _ (seen_after_action_is_after_item s label head action.Calc state.Calc2 (record (begun action.Calc s.draft.option) { size = nanos; has_cpu = true; option = option.Cpu; cpu = n }) tt (calc label nanos (Some n)) refl (λ n. refl) refl refl refl)))
 
 -- a send
-send_passes : (label : Option (List ℕ)) (size : Amount) (to : ℕ) (settings : List Setting) (s : Seen) (kinds : List TokenKind) → Fits s (send label size to settings)
+send_passes : (label : Option (List ℕ)) (size : Amount) (to : ℕ) (settings : List Setting) (s : Seen) (kinds : List TokenKind) → AllowsItem s (send label size to settings)
     → IsItemWithin (send label size to settings) → AreGivenOnce settings
-    → ((t : Seen) → IsAfterItem s t (send label size to settings) → Passes t kinds) → Passes s (item_tokens (send label size to settings) ++ kinds)
+    → ((t : Seen) → IsAfterItem s t (send label size to settings) → AreFaultlessFrom t kinds) → AreFaultlessFrom s (item_tokens (send label size to settings) ++ kinds)
 unfolding step fault_in
 send_passes label size to settings s kinds fits within once good =
-    subst (Passes s) (sym (append_assoc (label_tokens label) (token.Send ∷ amount_token size ∷ token.To ∷ token.Number to ∷ flat_map setting_tokens settings) kinds))
+    subst (AreFaultlessFrom s) (sym (append_assoc (label_tokens label) (token.Send ∷ amount_token size ∷ token.To ∷ token.Number to ∷ flat_map setting_tokens settings) kinds))
     (word_passes action.Send s label (amount_token size ∷ token.To ∷ token.Number to ∷ flat_map setting_tokens settings ++ kinds) fits.begins (fitting_label_is_new s label (length (ops_now s)) fits.new) (let few = fits.ops in omega arith) (λ head.
     sized size within.0 head))
   where
     rest : (n : ℕ) (head : ItemHead)
-        → Passes (record (begun_at s label head action.Send) { state = state.Send2; draft = record (begun action.Send s.draft.option) { size = n } }) (token.To ∷ token.Number to ∷ flat_map setting_tokens settings ++ kinds)
+        → AreFaultlessFrom (record (begun_at s label head action.Send) { state = state.Send2; draft = record (begun action.Send s.draft.option) { size = n } }) (token.To ∷ token.Number to ∷ flat_map setting_tokens settings ++ kinds)
     rest n head =
         next (λ a b. refl) (λ a b.
         next (λ c d. passes_u32 to (fault.Number c) within.1) (λ c d.
@@ -313,34 +313,34 @@ send_passes label size to settings s kinds fits within once good =
         good _ (seen_after_action_is_after_item s label head action.Send state.Send4 draft tt (send label size to settings) refl (λ n. refl) refl refl refl))))
 
     sized : (z : Amount) → amount z ≤ MAX_BYTES → (head : ItemHead)
-        → Passes (begun_at s label head action.Send) (amount_token z ∷ token.To ∷ token.Number to ∷ flat_map setting_tokens settings ++ kinds)
+        → AreFaultlessFrom (begun_at s label head action.Send) (amount_token z ∷ token.To ∷ token.Number to ∷ flat_map setting_tokens settings ++ kinds)
     sized (plain n) few head = next (λ a b. passes_upto n MAX_BYTES (fault.Number a) few) (λ a b. rest n head)
     sized (marked n) few head = next (λ a b. passes_upto n MAX_BYTES (fault.Number a) few) (λ a b. rest n head)
 
 -- a receive
-recv_passes : (label : Option (List ℕ)) (size : Amount) (from : Option ℕ) (settings : List Setting) (s : Seen) (kinds : List TokenKind) → Fits s (recv label size from settings)
+recv_passes : (label : Option (List ℕ)) (size : Amount) (from : Option ℕ) (settings : List Setting) (s : Seen) (kinds : List TokenKind) → AllowsItem s (recv label size from settings)
     → IsItemWithin (recv label size from settings) → AreGivenOnce settings
-    → ((t : Seen) → IsAfterItem s t (recv label size from settings) → Passes t kinds) → Passes s (item_tokens (recv label size from settings) ++ kinds)
+    → ((t : Seen) → IsAfterItem s t (recv label size from settings) → AreFaultlessFrom t kinds) → AreFaultlessFrom s (item_tokens (recv label size from settings) ++ kinds)
 unfolding step fault_in
 recv_passes label size from settings s kinds fits within once good =
-    subst (Passes s) (sym (append_assoc (label_tokens label) (token.Recv ∷ amount_token size ∷ token.From ∷ number_or_any from ∷ flat_map setting_tokens settings) kinds))
+    subst (AreFaultlessFrom s) (sym (append_assoc (label_tokens label) (token.Recv ∷ amount_token size ∷ token.From ∷ number_or_any from ∷ flat_map setting_tokens settings) kinds))
     (word_passes action.Recv s label (amount_token size ∷ token.From ∷ number_or_any from ∷ flat_map setting_tokens settings ++ kinds) fits.begins (fitting_label_is_new s label (length (ops_now s)) fits.new) (let few = fits.ops in omega arith) (λ head.
     sized size within.0 head))
   where
     behind : (n : ℕ) (source : Option ℕ) (head : ItemHead)
-        → Passes (record (begun_at s label head action.Recv) { state = state.Recv4; draft = record (begun action.Recv s.draft.option) { size = n; peer = source } }) (flat_map setting_tokens settings ++ kinds)
+        → AreFaultlessFrom (record (begun_at s label head action.Recv) { state = state.Recv4; draft = record (begun action.Recv s.draft.option) { size = n; peer = source } }) (flat_map setting_tokens settings ++ kinds)
     behind n source head =
         recv_settings settings (record (begun_at s label head action.Recv) { state = state.Recv4; draft = record (begun action.Recv s.draft.option) { size = n; peer = source } }) kinds
         (recursion_from_All IsSettingWithin settings within.2) (once_fresh settings once) (λ draft.
         good _ (seen_after_action_is_after_item s label head action.Recv state.Recv4 draft tt (recv label size from settings) refl (λ n. refl) refl refl refl))
 
     rest : (n : ℕ) (source : Option ℕ) → unwrap_or source 0 < 2 ^ 32 → (head : ItemHead)
-        → Passes (record (begun_at s label head action.Recv) { state = state.Recv2; draft = record (begun action.Recv s.draft.option) { size = n } }) (token.From ∷ number_or_any source ∷ flat_map setting_tokens settings ++ kinds)
+        → AreFaultlessFrom (record (begun_at s label head action.Recv) { state = state.Recv2; draft = record (begun action.Recv s.draft.option) { size = n } }) (token.From ∷ number_or_any source ∷ flat_map setting_tokens settings ++ kinds)
     rest n None few head = next (λ a b. refl) (λ a b. next (λ c d. refl) (λ c d. behind n None head))
     rest n (Some m) few head = next (λ a b. refl) (λ a b. next (λ c d. passes_u32 m (fault.Number c) few) (λ c d. behind n (Some m) head))
 
     sized : (z : Amount) → amount z ≤ MAX_BYTES → (head : ItemHead)
-        → Passes (begun_at s label head action.Recv) (amount_token z ∷ token.From ∷ number_or_any from ∷ flat_map setting_tokens settings ++ kinds)
+        → AreFaultlessFrom (begun_at s label head action.Recv) (amount_token z ∷ token.From ∷ number_or_any from ∷ flat_map setting_tokens settings ++ kinds)
     sized (plain n) few head = next (λ a b. passes_upto n MAX_BYTES (fault.Number a) few) (λ a b. rest n from within.1 head)
     sized (marked n) few head = next (λ a b. passes_upto n MAX_BYTES (fault.Number a) few) (λ a b. rest n from within.1 head)
 
@@ -409,7 +409,7 @@ after_note_is_after_item s label at verb first second item ops defines uses deps
 }
 
 requires_passes : (later earlier : List ℕ) (s : Seen) (kinds : List TokenKind) → BeginsItem s.state → s.counts.deps < MAX_DEPS
-    → ((at there : ℕ) → Passes (after_dep s later earlier at there verb.Requires) kinds) → Passes s (token.Label later ∷ token.Requires ∷ token.Label earlier ∷ kinds)
+    → ((at there : ℕ) → AreFaultlessFrom (after_dep s later earlier at there verb.Requires) kinds) → AreFaultlessFrom s (token.Label later ∷ token.Requires ∷ token.Label earlier ∷ kinds)
 unfolding step fault_in
 requires_passes later earlier s kinds begins few good =
     label_passes s later (token.Requires ∷ token.Label earlier ∷ kinds) begins (λ at.
@@ -417,7 +417,7 @@ requires_passes later earlier s kinds begins few good =
     next (λ c d. refl) (λ c d. good at c)))
 
 irequires_passes : (later earlier : List ℕ) (s : Seen) (kinds : List TokenKind) → BeginsItem s.state → s.counts.deps < MAX_DEPS
-    → ((at there : ℕ) → Passes (after_dep s later earlier at there verb.Irequires) kinds) → Passes s (token.Label later ∷ token.Irequires ∷ token.Label earlier ∷ kinds)
+    → ((at there : ℕ) → AreFaultlessFrom (after_dep s later earlier at there verb.Irequires) kinds) → AreFaultlessFrom s (token.Label later ∷ token.Irequires ∷ token.Label earlier ∷ kinds)
 unfolding step fault_in
 irequires_passes later earlier s kinds begins few good =
     label_passes s later (token.Irequires ∷ token.Label earlier ∷ kinds) begins (λ at.
@@ -425,7 +425,7 @@ irequires_passes later earlier s kinds begins few good =
     next (λ c d. refl) (λ c d. good at c)))
 
 moves_passes : (label : List ℕ) (first last : ℕ) (s : Seen) (kinds : List TokenKind) → BeginsItem s.state → s.counts.notes < MAX_NOTES → first < 2 ^ 32 → last < 2 ^ 32
-    → ((at : ℕ) → Passes (after_note s label at verb.Moves first last) kinds) → Passes s (token.Label label ∷ token.Moves ∷ token.Number first ∷ token.To ∷ token.Number last ∷ kinds)
+    → ((at : ℕ) → AreFaultlessFrom (after_note s label at verb.Moves first last) kinds) → AreFaultlessFrom s (token.Label label ∷ token.Moves ∷ token.Number first ∷ token.To ∷ token.Number last ∷ kinds)
 unfolding step fault_in
 moves_passes label first last s kinds begins few first_fits last_fits good =
     label_passes s label (token.Moves ∷ token.Number first ∷ token.To ∷ token.Number last ∷ kinds) begins (λ at.
@@ -435,7 +435,7 @@ moves_passes label first last s kinds begins few first_fits last_fits good =
     next (λ g h. passes_u32 last (fault.Number g) last_fits) (λ g h. good at)))))
 
 adds_passes : (label : List ℕ) (from to : ℕ) (s : Seen) (kinds : List TokenKind) → BeginsItem s.state → s.counts.notes < MAX_NOTES → from < 2 ^ 32 → to < 2 ^ 32
-    → ((at : ℕ) → Passes (after_note s label at verb.Adds from to) kinds) → Passes s (token.Label label ∷ token.Adds ∷ token.Number from ∷ token.To ∷ token.Number to ∷ kinds)
+    → ((at : ℕ) → AreFaultlessFrom (after_note s label at verb.Adds from to) kinds) → AreFaultlessFrom s (token.Label label ∷ token.Adds ∷ token.Number from ∷ token.To ∷ token.Number to ∷ kinds)
 unfolding step fault_in
 adds_passes label from to s kinds begins few from_fits to_fits good =
     label_passes s label (token.Adds ∷ token.Number from ∷ token.To ∷ token.Number to ∷ kinds) begins (λ at.
@@ -447,8 +447,8 @@ adds_passes label from to s kinds begins few from_fits to_fits good =
 less_if_successor_fits : (n limit : ℕ) → n + 1 ≤ limit → n < limit
 less_if_successor_fits n limit h = omega arith
 
-item_passes : (item : Item) (s : Seen) (kinds : List TokenKind) → Fits s item → IsItemWithin item → HasOptionsOnce item
-    → ((t : Seen) → IsAfterItem s t item → Passes t kinds) → Passes s (item_tokens item ++ kinds)
+item_passes : (item : Item) (s : Seen) (kinds : List TokenKind) → AllowsItem s item → IsItemWithin item → HasOptionsOnce item
+    → ((t : Seen) → IsAfterItem s t item → AreFaultlessFrom t kinds) → AreFaultlessFrom s (item_tokens item ++ kinds)
 item_passes (calc label nanos on) s kinds fits within once good = calc_passes label nanos on s kinds fits within good
 item_passes (send label size to settings) s kinds fits within once good = send_passes label size to settings s kinds fits within once good
 item_passes (recv label size from settings) s kinds fits within once good = recv_passes label size from settings s kinds fits within once good
@@ -524,7 +524,7 @@ module _ (item : Item) (items : List Item) (s : Seen) (fits : FitAll s (item ∷
       let same : ◌≡◌ {A = ℕ} (cond (bytes_eq label label) 1 0) 1 = ap (λ (b : Bool). cond b 1 0) ((bytes_eq-Decides label label).1 refl) in
       uncounted_label_is_undefined s.defined label (omega (arith, whole, one, same, fits.once label))
 
-  first_fits : Fits s item
+  first_fits : AllowsItem s item
   first_fits = record {
     begins = fits.begins;
     new = first_item_defines_new_label;
@@ -562,7 +562,7 @@ module _ (item : Item) (items : List Item) (s : Seen) (fits : FitAll s (item ∷
     }
 
 items_pass : (items : List Item) (s : Seen) (kinds : List TokenKind) → FitAll s items → AllByRecursion IsItemWithin items → AllByRecursion HasOptionsOnce items
-    → ((t : Seen) → IsAfterItems s t items → Passes t kinds) → Passes s (flat_map item_tokens items ++ kinds)
+    → ((t : Seen) → IsAfterItems s t items → AreFaultlessFrom t kinds) → AreFaultlessFrom s (flat_map item_tokens items ++ kinds)
 items_pass [] s kinds fits within once good =
     good s (record {
       begins = fits.begins;
@@ -575,16 +575,16 @@ items_pass [] s kinds fits within once good =
       note_count = equals_plus_zero s.counts.notes;
     })
 items_pass (item ∷ items) s kinds fits within once good =
-    subst (Passes s) (sym (append_assoc (item_tokens item) (flat_map item_tokens items) kinds))
+    subst (AreFaultlessFrom s) (sym (append_assoc (item_tokens item) (flat_map item_tokens items) kinds))
     (item_passes item s (flat_map item_tokens items ++ kinds) (first_fits item items s fits) within.0 once.0 (λ t behind.
     items_pass items t kinds (rest_fits item items s fits t behind) within.1 once.1 (λ u rest. good u (all_behind item items s fits t behind u rest))))
 
 -- the end of a block
-close_passes : (s : Seen) (kinds : List TokenKind) → BeginsItem s.state → first_unknown s.defined s.used ≡ None → Passes (at_close s) kinds → Passes s (token.Close ∷ kinds)
+close_passes : (s : Seen) (kinds : List TokenKind) → BeginsItem s.state → first_unknown s.defined s.used ≡ None → AreFaultlessFrom (at_close s) kinds → AreFaultlessFrom s (token.Close ∷ kinds)
 unfolding step fault_in
 close_passes s kinds begins known good = by s.state begins good
   where
-    by : (st : State) → BeginsItem st → Passes (at_close (record s { state = st })) kinds → Passes (record s { state = st }) (token.Close ∷ kinds)
+    by : (st : State) → BeginsItem st → AreFaultlessFrom (at_close (record s { state = st })) kinds → AreFaultlessFrom (record s { state = st }) (token.Close ∷ kinds)
     by state.Item begins good = next (λ start end. ap (option_map fault.UnknownLabel) known) (λ start end. good)
     by state.Calc2 begins good = next (λ start end. ap (option_map fault.UnknownLabel) known) (λ start end. good)
     by state.Send4 begins good = next (λ start end. ap (option_map fault.UnknownLabel) known) (λ start end. good)
@@ -608,11 +608,11 @@ abbrev at_open : Seen → ℕ → Seen
 at_open s rank = record s { state = state.Item; blocks = s.blocks ++ rank ∷ []; rank = rank }
 
 open_passes : (s : Seen) (rank : ℕ) (kinds : List TokenKind) → s.state ≡ state.Top → rank < s.ranks → rank < 2 ^ 32
-    → list_any (nat_eq rank) s.blocks ≡ false → Passes (at_open s rank) kinds
-    → Passes s (token.Rank ∷ token.Number rank ∷ token.Open ∷ kinds)
+    → list_any (nat_eq rank) s.blocks ≡ false → AreFaultlessFrom (at_open s rank) kinds
+    → AreFaultlessFrom s (token.Rank ∷ token.Number rank ∷ token.Open ∷ kinds)
 unfolding step fault_in
 open_passes s rank kinds top below fits fresh good =
-    subst (λ (st : State). Passes (record s { state = st }) (token.Rank ∷ token.Number rank ∷ token.Open ∷ kinds)) (sym top) (
+    subst (λ (st : State). AreFaultlessFrom (record s { state = st }) (token.Rank ∷ token.Number rank ∷ token.Open ∷ kinds)) (sym top) (
     next (λ a b. refl) (λ a b.
     next (λ a b. passes_rank rank s.ranks s.blocks a below fits fresh) (λ a b.
     next (λ a b. refl) (λ a b. good))))
@@ -656,9 +656,9 @@ module _ (s : Seen) (b : Block) (is_top : IsTop s) (rules : KeepsRules b)
       (recursion_from_All (λ (l : List ℕ). is_defined (definitions 0 b.items) l ≡ true) (flat_map used_by b.items) rules.defined)))
 
   block_passes : (kinds : List TokenKind) → b.rank < s.ranks → b.rank < 2 ^ 32 → list_any (nat_eq b.rank) s.blocks ≡ false → All IsItemWithin b.items
-      → ((t : Seen) → IsAfterBlock s t b → Passes t kinds) → Passes s (block_tokens b ++ kinds)
+      → ((t : Seen) → IsAfterBlock s t b → AreFaultlessFrom t kinds) → AreFaultlessFrom s (block_tokens b ++ kinds)
   block_passes kinds below fits fresh within good =
-      subst (λ (ks : List TokenKind). Passes s (token.Rank ∷ token.Number b.rank ∷ token.Open ∷ ks)) (sym (append_assoc (flat_map item_tokens b.items) (token.Close ∷ []) kinds))
+      subst (λ (ks : List TokenKind). AreFaultlessFrom s (token.Rank ∷ token.Number b.rank ∷ token.Open ∷ ks)) (sym (append_assoc (flat_map item_tokens b.items) (token.Close ∷ []) kinds))
       (open_passes s b.rank (flat_map item_tokens b.items ++ token.Close ∷ kinds) is_top.top below fits fresh
       (items_pass b.items (at_open s b.rank) (token.Close ∷ kinds) opened_fits (recursion_from_All IsItemWithin b.items within) (recursion_from_All HasOptionsOnce b.items rules.options) (λ t behind.
       close_passes t kinds behind.begins (block_known t behind) (good (at_close t) (record {
@@ -745,7 +745,7 @@ module _ (b : Block) (bs : List Block) where
     }
 
 blocks_pass : (bs : List Block) (s : Seen) (ranks : ℕ) → FitBlocks s ranks bs → AllByRecursion (λ (b : Block). b.rank < ranks) bs → AllByRecursion KeepsRules bs
-    → AllByRecursion (λ (b : Block). All IsItemWithin b.items) bs → Passes s (flat_map block_tokens bs)
+    → AllByRecursion (λ (b : Block). All IsItemWithin b.items) bs → AreFaultlessFrom s (flat_map block_tokens bs)
 blocks_pass [] s ranks fits below rules within = ends fits.top.top
 blocks_pass (b ∷ bs) s ranks fits below rules within =
     let low = below.0 in
@@ -756,7 +756,7 @@ blocks_pass (b ∷ bs) s ranks fits below rules within =
     blocks_pass bs t ranks (blocks_behind b bs s ranks fits t behind) below.1 rules.1 within.1)
 
 -- the whole text
-pub text_passes : (w : Written) → AreRight w → AreWithin w → Passes (seen_of []) (text_tokens w)
+pub text_passes : (w : Written) → AreRight w → AreWithin w → AreFaultlessFrom (seen_of []) (text_tokens w)
 unfolding step fault_in state_of draft_of ranks_of blocks_of rank_of head_of ops_of defined_of deps_of notes_of used_of counts_of plans_of
 text_passes w right within =
     next (λ a b. refl) (λ a b.

@@ -14,7 +14,7 @@ use Rattle.goal_parser.specs.Plans.{empty_plan}
 use Rattle.goal_parser.specs.Reads.{last_fault, text_fault, text_plans, reads, plans}
 use Rattle.goal_parser.specs.Grammar.{Written, text_tokens, AreSaid, AreRight, AreWithin, IsWritten}
 use Rattle.goal_parser.proofs.Seen.{seen_of, kinds_of}
-use Rattle.goal_parser.proofs.Passing.{Passes, passing_tokens, text_passes}
+use Rattle.goal_parser.proofs.Passing.{AreFaultlessFrom, passing_tokens, text_passes}
 use Rattle.goal_parser.proofs.ReaderLaws.{reads_plans}
 use Rattle.goal_parser.proofs.GrammarLaws.{plans_are_said}
 use Rattle.goal_parser.proofs.OneReading.{text_tokens_injective}
@@ -24,7 +24,7 @@ written_has_no_fault : (text : List ℕ) (w : Written) → (lexed text).1 ≡ No
 unfolding text_fault
 written_has_no_fault text w whole spelled right within =
     let tokens : List Token = (lexed text).0 in
-    let passed = passing_tokens [] tokens (subst (λ (ks : List TokenKind). Passes (seen_of []) ks) (sym spelled) (text_passes w right within)) in
+    let passed = passing_tokens [] tokens (subst (λ (ks : List TokenKind). AreFaultlessFrom (seen_of []) ks) (sym spelled) (text_passes w right within)) in
     let top : state_of (reverse tokens) ≡ state.Top = subst (λ (l : List Token). state_of l ≡ state.Top) (append-nil (reverse tokens)) passed.1 in
     ap (λ (o : Option TextFault). option_or o (last_fault (lexed text).1 (state_of (reverse tokens)) (length text))) passed.0
     ∙ ap (λ (o : Option ℕ). last_fault o (state_of (reverse tokens)) (length text)) whole

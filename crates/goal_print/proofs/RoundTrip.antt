@@ -18,7 +18,7 @@ use Rattle.goal_parser.specs.Plans.{plans_of}
 use Rattle.goal_parser.specs.Reads.{last_fault, text_fault, text_plans, reads, reading, plans}
 use Rattle.goal_print.specs.Canonical.{canonical}
 use Rattle.goal_print.proofs.Lexes.{Lexes, lexed_has_kinds}
-use Rattle.goal_print.proofs.Seen.{seen_of, Ends, Good, good_tokens}
+use Rattle.goal_print.proofs.Seen.{seen_of, EndsWithPlans, Good, good_tokens}
 use Rattle.goal_print.proofs.TextKinds.{canonical_kinds, lexes_canonical}
 use Rattle.goal_print.proofs.TextRead.{canonical_read}
 use Rattle.goal_print.proofs.Accepted.{plans_fit}
@@ -30,7 +30,7 @@ reads_good text kinds ps lexes good =
     let tokens : List Token = (lexed text).0 in
     let known = lexed_has_kinds text kinds lexes in
     let read = good_tokens [] tokens ps (subst (λ (ks : List TokenKind). Good (seen_of []) ks ps) (sym known.0) good) in
-    let ends : Ends (seen_of (reverse tokens)) ps = subst (λ (l : List Token). Ends (seen_of l) ps) (append-nil (reverse tokens)) read.1 in
+    let ends : EndsWithPlans (seen_of (reverse tokens)) ps = subst (λ (l : List Token). EndsWithPlans (seen_of l) ps) (append-nil (reverse tokens)) read.1 in
     ap (λ (o : Option TextFault). reading (option_or o (last_fault (lexed text).1 (state_of (reverse tokens)) (length text))) (plans_of (reverse tokens))) read.0
     ∙ ap (λ (o : Option ℕ). reading (last_fault o (state_of (reverse tokens)) (length text)) (plans_of (reverse tokens))) known.1
     ∙ ap (λ (s : State). reading (last_fault None s (length text)) (plans_of (reverse tokens))) ends.0

@@ -22,18 +22,18 @@ unfoldable pub use Rattle.goal_parser.proofs.ForCallers.{step, fault_in}
 use Rattle.goal_parser.proofs.ForCallers.{kinds_of}
 
 -- the text may end, and these are its plans
-abbrev pub Ends : Seen → List Plan → Type 0
-Ends s plans = (s.state ≡ state.Top) × (s.plans ≡ plans)
+abbrev pub EndsWithPlans : Seen → List Plan → Type 0
+EndsWithPlans s plans = (s.state ≡ state.Top) × (s.plans ≡ plans)
 
 -- Tokens of these kinds, wherever they are, pass all tests, and the text may then end with these plans.
 pub data Good : Seen → List TokenKind → List Plan → Type 0 where
-  ends : {s : Seen} {plans : List Plan} → Ends s plans → Good s [] plans
+  ends : {s : Seen} {plans : List Plan} → EndsWithPlans s plans → Good s [] plans
   next : {s : Seen} {kind : TokenKind} {kinds : List TokenKind} {plans : List Plan}
       → ((start end : ℕ) → fault_in s (record { kind = kind; start = start; end = end }) ≡ None)
       → ((start end : ℕ) → Good (step (record { kind = kind; start = start; end = end }) s) kinds plans)
       → Good s (kind ∷ kinds) plans
 
-good_end : {s : Seen} {plans : List Plan} → Good s [] plans → Ends s plans
+good_end : {s : Seen} {plans : List Plan} → Good s [] plans → EndsWithPlans s plans
 good_end (ends here) = here
 
 good_token : {s : Seen} {kind : TokenKind} {kinds : List TokenKind} {plans : List Plan} → Good s (kind ∷ kinds) plans → (start end : ℕ)
@@ -43,7 +43,7 @@ good_token (next passes more) start end = (passes start end, more start end)
 
 -- so tokens of these kinds have no fault
 pub good_tokens : (before tokens : List Token) (plans : List Plan) → Good (seen_of before) (kinds_of tokens) plans
-    → (first_fault before tokens ≡ None) × Ends (seen_of (reverse tokens ++ before)) plans
+    → (first_fault before tokens ≡ None) × EndsWithPlans (seen_of (reverse tokens ++ before)) plans
 unfolding step fault_in first_fault token_fault state_of draft_of ranks_of blocks_of rank_of head_of ops_of defined_of deps_of notes_of used_of counts_of plans_of
 good_tokens before [] plans good = (refl, good_end good)
 good_tokens before (t ∷ tokens) plans good =
@@ -52,7 +52,7 @@ good_tokens before (t ∷ tokens) plans good =
     let turned : reverse (t ∷ tokens) ++ before ≡ reverse tokens ++ t ∷ before =
     ap (λ l. l ++ before) (reverse-append (t ∷ []) tokens) ∙ append_assoc (reverse tokens) (t ∷ []) before in (
       ap (λ o. option_or o (first_fault (t ∷ before) tokens)) here.0 ∙ rest.0,
-      subst (λ (l : List Token). Ends (seen_of l) plans) (sym turned) rest.1,
+      subst (λ (l : List Token). EndsWithPlans (seen_of l) plans) (sym turned) rest.1,
     )
 
 pub label_read : (s : Seen) (label : List ℕ) (kinds : List TokenKind) (plans : List Plan) → BeginsItem s.state

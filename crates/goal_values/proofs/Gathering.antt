@@ -22,12 +22,12 @@ abbrev pub weight : List Value → Term → ℕ
 weight sums t = 2 * length (meaning sums t) - 1 + (1 - length (meaning sums t))
 
 -- what is read if there is no sum
-abbrev none : Sum
-none = record { left = Nothing; right = Nothing; size = 0 }
+abbrev default_sum : Sum
+default_sum = record { left = Nothing; right = Nothing; size = 0 }
 
 -- the left part of a sum
 abbrev pub left_of : List Sum → ℕ → Term
-left_of sums n = (get_or sums n none).left
+left_of sums n = (get_or sums n default_sum).left
 
 -- the sum of f over the contributions of the left parts of these sums
 abbrev pub shares : List Sum → (Contribution → ℕ) → List ℕ → ℕ
@@ -63,21 +63,21 @@ module _ (sums : List Sum) (are : AreSums sums) (i : ℕ) (inside : i < length (
   known = values_of_sums [] sums
 
   abbrev s : Sum
-  s = get_or sums i none
+  s = get_or sums i default_sum
 
-  is : IsSum known i s
-  is = are.each i s (slice_get-get_or sums i none (omega (arith, inside, are.many)))
+  sum_at_number_is_sum : IsSum known i s
+  sum_at_number_is_sum = are.each i s (slice_get-get_or sums i default_sum (omega (arith, inside, are.many)))
 
   pub left_below : IsBelow (length known) s.left
-  left_below = is_below_larger_bound i (length known) s.left (omega (arith, inside)) is.left
+  left_below = is_below_larger_bound i (length known) s.left (omega (arith, inside)) sum_at_number_is_sum.left
 
   pub right_below : IsBelow (length known) s.right
-  right_below = is_below_larger_bound i (length known) s.right (omega (arith, inside)) is.right
+  right_below = is_below_larger_bound i (length known) s.right (omega (arith, inside)) sum_at_number_is_sum.right
 
   -- the value of a sum has each contribution as often as the values of its two parts together
   pub opened_parts : (f : Contribution → ℕ) (part : Term) → part ≡ Made i → sum_by f (meaning known part) ≡ sum_by f (meaning known s.left) + sum_by f (meaning known s.right)
   opened_parts f part e =
-      ap (λ t. sum_by f (meaning known t)) e ∙ ap (sum_by f) is.value ∙ merge_sum f (meaning known s.left) (meaning known s.right)
+      ap (λ t. sum_by f (meaning known t)) e ∙ ap (sum_by f) sum_at_number_is_sum.value ∙ merge_sum f (meaning known s.left) (meaning known s.right)
 
   pub opened_shares : (f : Contribution → ℕ) (numbers new : List ℕ) (part : Term) → part ≡ Made i → new ≡ numbers ++ i ∷ [] → shares sums f new + sum_by f (meaning known s.right) ≡ shares sums f numbers + sum_by f (meaning known part)
   opened_shares f numbers new part e g =
@@ -87,12 +87,12 @@ module _ (sums : List Sum) (are : AreSums sums) (i : ℕ) (inside : i < length (
   -- if its right part is listed at once, its left part is next
   pub left_weight : (part : Term) → part ≡ Made i → weight known s.left < weight known part
   left_weight part e =
-      omega (arith, is.some_left, is.some_right, ap length is.value, length_merge (meaning known s.left) (meaning known s.right), ap (weight known) e)
+      omega (arith, sum_at_number_is_sum.some_left, sum_at_number_is_sum.some_right, ap length sum_at_number_is_sum.value, length_merge (meaning known s.left) (meaning known s.right), ap (weight known) e)
 
   pub opened_weight : (numbers new : List ℕ) (part : Term) → part ≡ Made i → new ≡ numbers ++ i ∷ [] → weights sums new + weight known s.right < weights sums numbers + weight known part
   opened_weight numbers new part e g =
       let h : ℕ → ℕ = λ n. weight known (left_of sums n) in
-      omega (arith, ap (weights sums) g, sum_by-append h numbers (i ∷ []), sum_by-cons h i [], is.some_left, is.some_right, ap length is.value, length_merge (meaning known s.left) (meaning known s.right), ap (weight known) e)
+      omega (arith, ap (weights sums) g, sum_by-append h numbers (i ∷ []), sum_by-cons h i [], sum_at_number_is_sum.some_left, sum_at_number_is_sum.some_right, ap length sum_at_number_is_sum.value, length_merge (meaning known s.left) (meaning known s.right), ap (weight known) e)
 
   pub opened_numbers : (numbers new : List ℕ) → new ≡ numbers ++ i ∷ [] → All (λ n. n < length known) numbers → All (λ n. n < length known) new
   opened_numbers numbers new g all =

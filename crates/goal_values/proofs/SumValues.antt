@@ -52,17 +52,17 @@ module _ (sums : List Sum) (are : AreSums sums) (s : Sum) where
   abbrev values : List Value
   values = values_of_sums [] sums
 
-  abbrev after : List Value
-  after = values ++ sum_in values s ∷ []
+  abbrev values_with_sum : List Value
+  values_with_sum = values ++ sum_in values s ∷ []
 
   -- an existing sum is unchanged
-  earlier_sum_stays : (i : ℕ) (t : Sum) → slice_get sums i ≡ Some t → IsSum after i t
+  earlier_sum_stays : (i : ℕ) (t : Sum) → slice_get sums i ≡ Some t → IsSum values_with_sum i t
   earlier_sum_stays i t at =
       let is = are.each i t at in
       let inside : i < length values = omega (arith, slice_get_within sums i t at, are.many) in
-      let left : meaning after t.left ≡ meaning values t.left = meaning_stays values _ t.left (is_below_larger_bound i (length values) t.left (omega arith) is.left) in
-      let right : meaning after t.right ≡ meaning values t.right = meaning_stays values _ t.right (is_below_larger_bound i (length values) t.right (omega arith) is.right) in
-      let here : get_or after i [] ≡ get_or values i [] = get_or-append values (sum_in values s ∷ []) [] i inside in
+      let left : meaning values_with_sum t.left ≡ meaning values t.left = meaning_stays values _ t.left (is_below_larger_bound i (length values) t.left (omega arith) is.left) in
+      let right : meaning values_with_sum t.right ≡ meaning values t.right = meaning_stays values _ t.right (is_below_larger_bound i (length values) t.right (omega arith) is.right) in
+      let here : get_or values_with_sum i [] ≡ get_or values i [] = get_or-append values (sum_in values s ∷ []) [] i inside in
       record {
         left = is.left;
         right = is.right;
@@ -73,11 +73,11 @@ module _ (sums : List Sum) (are : AreSums sums) (s : Sum) where
       }
 
   module _ (left : IsBelow (length values) s.left) (right : IsBelow (length values) s.right) (some_left : 0 < length (meaning values s.left)) (some_right : 0 < length (meaning values s.right)) (size : s.size ≡ length (meaning values s.left) + length (meaning values s.right)) where
-    new : IsSum after (length values) s
+    new : IsSum values_with_sum (length values) s
     new =
-        let here : get_or after (length values) [] ≡ sum_in values s = get_or-append_seam values (sum_in values s) [] [] in
-        let e : meaning after s.left ≡ meaning values s.left = meaning_stays values _ s.left left in
-        let f : meaning after s.right ≡ meaning values s.right = meaning_stays values _ s.right right in
+        let here : get_or values_with_sum (length values) [] ≡ sum_in values s = get_or-append_seam values (sum_in values s) [] [] in
+        let e : meaning values_with_sum s.left ≡ meaning values s.left = meaning_stays values _ s.left left in
+        let f : meaning values_with_sum s.right ≡ meaning values s.right = meaning_stays values _ s.right right in
         record {
           left = left;
           right = right;
@@ -87,7 +87,7 @@ module _ (sums : List Sum) (are : AreSums sums) (s : Sum) where
           size = omega (arith, size, ap length here, length_merge (meaning values s.left) (meaning values s.right));
         }
 
-    each_after : (i : ℕ) (t : Sum) → slice_get (sums ++ s ∷ []) i ≡ Some t → IsSum after i t
+    each_after : (i : ℕ) (t : Sum) → slice_get (sums ++ s ∷ []) i ≡ Some t → IsSum values_with_sum i t
     each_after i t at =
         let inside : i < length (sums ++ s ∷ []) = slice_get_within (sums ++ s ∷ []) i t at in
         let here : get_or (sums ++ s ∷ []) i t ≡ t = get_or_from_slice_get (sums ++ s ∷ []) i t t at in
@@ -98,10 +98,10 @@ module _ (sums : List Sum) (are : AreSums sums) (s : Sum) where
               let last : i ≡ length sums = omega (arith, inside, past, length-append sums (s ∷ [])) in
               let same : s ≡ t = sym (get_or-append_seam sums s [] t) ∙ ap (λ (k : ℕ). get_or (sums ++ s ∷ []) k t) (sym last) ∙ here in
               let place : length values ≡ i = omega (arith, last, are.many) in
-              subst (λ (u : Sum). IsSum after i u) same (subst (λ (k : ℕ). IsSum after k s) place new)
+              subst (λ (u : Sum). IsSum values_with_sum i u) same (subst (λ (k : ℕ). IsSum values_with_sum k s) place new)
         ]
 
-    sorted_after : (i : ℕ) → IsSorted (get_or after i [])
+    sorted_after : (i : ℕ) → IsSorted (get_or values_with_sum i [])
     sorted_after i =
         elim (cases_lt i (length values)) [
           | inl inside ↦ subst IsSorted (sym (get_or-append values (sum_in values s ∷ []) [] i inside)) (are.sorted i)

@@ -32,41 +32,41 @@ step_by : (b : Bool) (w x : List ℕ) (key : OptionKey) (others : Option OptionK
 step_by true w x key others test same e h = (refl, (bytes_eq-Decides w x).0 same ∙ e)
 step_by false w x key others test same e h = h
 
-step : (w x : List ℕ) (key : OptionKey) (others : Option OptionKey) (test : Bool) → x ≡ word_of_key key → IsKeyOf others test w
+is_key_of_with_added_word : (w x : List ℕ) (key : OptionKey) (others : Option OptionKey) (test : Bool) → x ≡ word_of_key key → IsKeyOf others test w
     → IsKeyOf (named_or w x key others) (bytes_eq w x || test) w
-step w x key others test e h = step_by (bytes_eq w x) w x key others test refl e h
+is_key_of_with_added_word w x key others test e h = step_by (bytes_eq w x) w x key others test refl e h
 
 run_known : (w : List ℕ) → IsKeyOf (run_key_of w) (is_option run_options w) w
 run_known w =
-    step w (codes "--L") Latency _ _ refl
-    (step w (codes "--o") Overhead _ _ refl
-    (step w (codes "--g") Gap _ _ refl
-    (step w (codes "--G") GapPerByte _ _ refl
-    (step w (codes "--Gp") GapPicos _ _ refl
-    (step w (codes "--O") OverheadPerByte _ _ refl
-    (step w (codes "--Op") OverheadPicos _ _ refl
-    (step w (codes "--S") Sync None false refl refl)))))))
+    is_key_of_with_added_word w (codes "--L") Latency _ _ refl
+    (is_key_of_with_added_word w (codes "--o") Overhead _ _ refl
+    (is_key_of_with_added_word w (codes "--g") Gap _ _ refl
+    (is_key_of_with_added_word w (codes "--G") GapPerByte _ _ refl
+    (is_key_of_with_added_word w (codes "--Gp") GapPicos _ _ refl
+    (is_key_of_with_added_word w (codes "--O") OverheadPerByte _ _ refl
+    (is_key_of_with_added_word w (codes "--Op") OverheadPicos _ _ refl
+    (is_key_of_with_added_word w (codes "--S") Sync None false refl refl)))))))
 
-known : (taken : AllowedOptions) (w : List ℕ) → IsKeyOf (key_of taken w) (is_option (words_of taken) w) w
-known taken_by.Run w = run_known w
-known taken_by.Root w = step w (codes "--root") Root None false refl refl
-known taken_by.Nothing w = refl
+key_of_agrees_with_option_test : (taken : AllowedOptions) (w : List ℕ) → IsKeyOf (key_of taken w) (is_option (words_of taken) w) w
+key_of_agrees_with_option_test taken_by.Run w = run_known w
+key_of_agrees_with_option_test taken_by.Root w = is_key_of_with_added_word w (codes "--root") Root None false refl refl
+key_of_agrees_with_option_test taken_by.Nothing w = refl
 
 pub named_known : (w : List ℕ) → IsKeyOf (key_named w) (is_option all_options w) w
-named_known w = step w (codes "--root") Root (run_key_of w) (is_option run_options w) refl (run_known w)
+named_known w = is_key_of_with_added_word w (codes "--root") Root (run_key_of w) (is_option run_options w) refl (run_known w)
 
 pub key_found : (taken : AllowedOptions) (w : List ℕ) (key : OptionKey) → key_of taken w ≡ Some key → (is_option (words_of taken) w ≡ true) × (w ≡ word_of_key key)
-key_found taken w key h = subst (λ o. IsKeyOf o (is_option (words_of taken) w) w) h (known taken w)
+key_found taken w key h = subst (λ o. IsKeyOf o (is_option (words_of taken) w) w) h (key_of_agrees_with_option_test taken w)
 
 pub key_none : (taken : AllowedOptions) (w : List ℕ) → key_of taken w ≡ None → is_option (words_of taken) w ≡ false
-key_none taken w h = subst (λ o. IsKeyOf o (is_option (words_of taken) w) w) h (known taken w)
+key_none taken w h = subst (λ o. IsKeyOf o (is_option (words_of taken) w) w) h (key_of_agrees_with_option_test taken w)
 
 passed_test_finds_key : (o : Option OptionKey) (test : Bool) (w : List ℕ) → IsKeyOf o test w → test ≡ true → (key : OptionKey) × (w ≡ word_of_key key)
 passed_test_finds_key None test w k t = absurd (both_ways test k t)
 passed_test_finds_key (Some key) test w k t = (key, k.1)
 
 pub option_word_has_key : (taken : AllowedOptions) (w : List ℕ) → is_option (words_of taken) w ≡ true → (key : OptionKey) × (w ≡ word_of_key key)
-option_word_has_key taken w h = passed_test_finds_key (key_of taken w) (is_option (words_of taken) w) w (known taken w) h
+option_word_has_key taken w h = passed_test_finds_key (key_of taken w) (is_option (words_of taken) w) w (key_of_agrees_with_option_test taken w) h
 
 pub false_unless_true : (test : Bool) → (test ≡ true → ⊥) → test ≡ false
 false_unless_true true h = absurd (h refl)

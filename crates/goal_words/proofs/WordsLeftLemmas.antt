@@ -15,12 +15,12 @@ use Rattle.goal_words.specs.Reading.{Parts, key_of, with_plain, parts_in, left, 
 use Rattle.goal_words.proofs.RoleLemmas.{parts_in_no_words, parts_in_after_plain_word, parts_in_option_without_value, parts_in_joined_option, parts_in_unknown_option}
 
 -- an option with its value, if there is one
-pub past : (r : Option WordsLeft) (o : Option OptionValues) (taken : AllowedOptions) (words : List (String Global)) (p : Option Parts)
+pub parts_after_option_with_value : (r : Option WordsLeft) (o : Option OptionValues) (taken : AllowedOptions) (words : List (String Global)) (p : Option Parts)
     → p ≡ option_and_then (λ h. parts_in taken h (map string_bytes words)) o
     → MatchOption r (o ≡ None) (λ rest. (o ≡ Some rest.given) × (rest.taken ≡ taken) × (rest.words.now ≡ words))
     → MatchOption r (p ≡ None) (λ rest. p ≡ left rest)
-past None o taken words p e h = rw h at e
-past (Some rest) o taken words p e h = e ∙ rw (h.0, h.1, h.2) refl
+parts_after_option_with_value None o taken words p e h = rw h at e
+parts_after_option_with_value (Some rest) o taken words p e h = e ∙ rw (h.0, h.1, h.2) refl
 
 -- an option word at the end
 pub option_without_value : (taken : AllowedOptions) (g : OptionValues) (w : List ℕ) (key : OptionKey) (words : List (String Global)) → key_of taken w ≡ Some key → length words ≡ 0
@@ -29,9 +29,9 @@ option_without_value taken g w key [] h none = parts_in_option_without_value tak
 option_without_value taken g w key (x ∷ words) h none = absurd (omega arith)
 
 -- a word that begins with `-` and has no `=`
-pub unequal : (taken : AllowedOptions) (g : OptionValues) (w : List ℕ) (words : List (List ℕ)) → begins_dash w ≡ true → key_of taken w ≡ None
+pub unknown_option_without_equals_sign_fails : (taken : AllowedOptions) (g : OptionValues) (w : List ℕ) (words : List (List ℕ)) → begins_dash w ≡ true → key_of taken w ≡ None
     → position_or_len (λ b. b == 61) w ≡ length w → parts_in taken g (w ∷ words) ≡ None
-unequal taken g w words dash none last = by (key_of taken (before_first (λ b. b == 61) w)) refl
+unknown_option_without_equals_sign_fails taken g w words dash none last = by (key_of taken (before_first (λ b. b == 61) w)) refl
   where
     nothing : after_first (λ b. b == 61) w ≡ []
     nothing = drop_all _ w (omega (arith, last))
@@ -47,9 +47,9 @@ no_words_left taken g [] none = parts_in_no_words taken g
 no_words_left taken g (x ∷ words) none = absurd (omega arith)
 
 -- a plain word is next
-pub begun : (taken : AllowedOptions) (g : OptionValues) (x : String Global) (words : List (String Global)) → begins_plain (map string_bytes (x ∷ words)) ≡ true
+pub plain_word_is_first_of_parts : (taken : AllowedOptions) (g : OptionValues) (x : String Global) (words : List (String Global)) → begins_plain (map string_bytes (x ∷ words)) ≡ true
     → parts_in taken g (map string_bytes (x ∷ words)) ≡ option_map (with_plain (string_bytes x)) (parts_in taken g (map string_bytes words))
-begun taken g x words plain = parts_in_after_plain_word taken g (string_bytes x) (map string_bytes words) (not-true (begins_dash (string_bytes x)) plain)
+plain_word_is_first_of_parts taken g x words plain = parts_in_after_plain_word taken g (string_bytes x) (map string_bytes words) (not-true (begins_dash (string_bytes x)) plain)
 
 some_plain : (w : List ℕ) (o : Option Parts) → IfSome (option_map (with_plain w) o) (λ parts. parts.plain ≢ [])
 some_plain w None = tt
@@ -59,7 +59,7 @@ pub parts_begun_by_plain_word_not_empty : (taken : AllowedOptions) (g : OptionVa
     → IfSome (parts_in taken g (map string_bytes words)) (λ parts. parts.plain ≢ [])
 parts_begun_by_plain_word_not_empty taken g [] plain some = absurd (omega arith)
 parts_begun_by_plain_word_not_empty taken g (x ∷ words) plain some =
-    rw (begun taken g x words plain) (some_plain (string_bytes x) (parts_in taken g (map string_bytes words)))
+    rw (plain_word_is_first_of_parts taken g x words plain) (some_plain (string_bytes x) (parts_in taken g (map string_bytes words)))
 
 -- more than three
 pub four_plain_words_are_too_many : (a b c : List ℕ) (o : Option Parts) → IfSome o (λ parts. parts.plain ≢ [])

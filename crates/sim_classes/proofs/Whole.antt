@@ -13,10 +13,10 @@ use Rattle.sim_classes.specs.Parts.{IsWhole}
 use Rattle.sim_classes.specs.Form.{Form, Fixed, Value, End, read_by_form, or_fault, words, class_number, with_pair_class, triples, nodes_part, classes_part, machine_form, machine}
 
 -- a property of each machine that words of a form may give
-abbrev Ends : (MachineModel → Type 0) → Form → Type 0
-Ends P (Fixed word rest) = Ends P rest
-Ends P (Value test rest) = (n : ℕ) → test n ≡ None → Ends P (rest n)
-Ends P (End m) = P m
+abbrev HoldsOfEachMachine : (MachineModel → Type 0) → Form → Type 0
+HoldsOfEachMachine P (Fixed word rest) = HoldsOfEachMachine P rest
+HoldsOfEachMachine P (Value test rest) = (n : ℕ) → test n ≡ None → HoldsOfEachMachine P (rest n)
+HoldsOfEachMachine P (End m) = P m
 
 module _ (P : MachineModel → Type 0) (m : MachineModel) where
   fixed_step : (b : Bool) (next : Result MachineModel MachineFault) (fault : MachineFault) → (next ≡ Ok m → P m)
@@ -30,7 +30,7 @@ module _ (P : MachineModel → Type 0) (m : MachineModel) where
   value_step true (Some fault) place next step is = cc
   value_step false o place next step is = cc
 
-  read_machine_has_property : (form : Form) (place : ℕ) (ws : List (List ℕ)) → Ends P form → read_by_form form place ws ≡ Ok m → P m
+  read_machine_has_property : (form : Form) (place : ℕ) (ws : List (List ℕ)) → HoldsOfEachMachine P form → read_by_form form place ws ≡ Ok m → P m
   unfolding read_by_form
   read_machine_has_property (Fixed word rest) place [] ends is = cc
   read_machine_has_property (Fixed word rest) place (w ∷ ws) ends is =
@@ -64,7 +64,7 @@ one_pair_class m a b class whole there = record {
     by true x y c is = let same : class ≡ c = cc in subst (λ (k : ℕ). k < length m.classes) same there
     by false x y c is = whole.pair_classes x y c is
 
-triples_whole : (k : ℕ) (m : MachineModel) → IsWhole m → Ends IsWhole (triples k m)
+triples_whole : (k : ℕ) (m : MachineModel) → IsWhole m → HoldsOfEachMachine IsWhole (triples k m)
 unfolding triples
 triples_whole zero m whole = whole
 triples_whole (suc k) m whole =
@@ -73,7 +73,7 @@ triples_whole (suc k) m whole =
     (one_pair_class m a b class whole (class_exists m.classes class there))
 
 nodes_whole : (k : ℕ) (classes : List Numbers) (inside usual : ℕ) (nodes : List ℕ) → inside < length classes → usual < length classes
-    → Ends IsWhole (nodes_part k classes inside usual nodes)
+    → HoldsOfEachMachine IsWhole (nodes_part k classes inside usual nodes)
 unfolding nodes_part
 nodes_whole zero classes inside usual nodes first second =
     λ k pairs.
@@ -82,7 +82,7 @@ nodes_whole zero classes inside usual nodes first second =
 nodes_whole (suc k) classes inside usual nodes first second =
     λ node within. nodes_whole k classes inside usual (nodes ++ node ∷ []) first second
 
-classes_whole : (k : ℕ) (classes : List Numbers) → Ends IsWhole (classes_part k classes)
+classes_whole : (k : ℕ) (classes : List Numbers) → HoldsOfEachMachine IsWhole (classes_part k classes)
 unfolding classes_part
 classes_whole zero classes =
     λ inside first usual second ranks many.

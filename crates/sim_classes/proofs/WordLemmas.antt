@@ -11,8 +11,8 @@ one_plus : (n : ℕ) → 1 + n ≡ suc n
 one_plus n = omega arith ∙ add-one n
 
 -- a part that is a word
-abbrev full : List ℕ → Bool
-full w = nat_lt 0 (length w)
+abbrev is_nonempty_part : List ℕ → Bool
+is_nonempty_part w = nat_lt 0 (length w)
 
 -- the parts after the first one, by what follows it
 rest_of : List ℕ → List (List ℕ)
@@ -35,12 +35,12 @@ split_is_first_and_rest (x ∷ xs) = go (is_blank x) (split_is_first_and_rest xs
     go true e = refl
     go false e = rw (one_plus (first_len xs)) (ap (onto_first x) e)
 
-rest_words : (xs : List ℕ) → filter full (rest_of (drop (first_len xs) xs)) ≡ filter full (slice_split is_blank (drop (first_len xs) xs))
+rest_words : (xs : List ℕ) → filter is_nonempty_part (rest_of (drop (first_len xs) xs)) ≡ filter is_nonempty_part (slice_split is_blank (drop (first_len xs) xs))
 unfolding rest_of
 rest_words [] = refl
 rest_words (x ∷ xs) = go (is_blank x) refl (rest_words xs)
   where
-    go : (b : Bool) → is_blank x ≡ b → filter full (rest_of (drop (first_len xs) xs)) ≡ filter full (slice_split is_blank (drop (first_len xs) xs)) → filter full (rest_of (drop (cond (not b) (1 + first_len xs) 0) (x ∷ xs))) ≡ filter full (slice_split is_blank (drop (cond (not b) (1 + first_len xs) 0) (x ∷ xs)))
+    go : (b : Bool) → is_blank x ≡ b → filter is_nonempty_part (rest_of (drop (first_len xs) xs)) ≡ filter is_nonempty_part (slice_split is_blank (drop (first_len xs) xs)) → filter is_nonempty_part (rest_of (drop (cond (not b) (1 + first_len xs) 0) (x ∷ xs))) ≡ filter is_nonempty_part (slice_split is_blank (drop (cond (not b) (1 + first_len xs) 0) (x ∷ xs)))
     go true e h = rw e refl
     go false e h = rw (one_plus (first_len xs)) h
 
@@ -50,7 +50,7 @@ unfolding words
 words_after_blanks [] = refl
 words_after_blanks (x ∷ xs) = skip_by x xs (is_blank x) refl (words_after_blanks xs)
   where
-    skip_by : (x : ℕ) (xs : List ℕ) (b : Bool) → is_blank x ≡ b → filter full (slice_split is_blank xs) ≡ filter full (slice_split is_blank (drop (prefix_len is_blank xs) xs)) → filter full (cond b ([] ∷ slice_split is_blank xs) (onto_first x (slice_split is_blank xs))) ≡ filter full (slice_split is_blank (drop (cond b (1 + prefix_len is_blank xs) 0) (x ∷ xs)))
+    skip_by : (x : ℕ) (xs : List ℕ) (b : Bool) → is_blank x ≡ b → filter is_nonempty_part (slice_split is_blank xs) ≡ filter is_nonempty_part (slice_split is_blank (drop (prefix_len is_blank xs) xs)) → filter is_nonempty_part (cond b ([] ∷ slice_split is_blank xs) (onto_first x (slice_split is_blank xs))) ≡ filter is_nonempty_part (slice_split is_blank (drop (cond b (1 + prefix_len is_blank xs) 0) (x ∷ xs)))
     skip_by x xs true e h = rw (one_plus (prefix_len is_blank xs)) h
     skip_by x xs false e h = rw e refl
 
@@ -71,9 +71,9 @@ word_after_blanks_is_nonempty (x ∷ xs) some = go (is_blank x) refl some (word_
 pub first_word : (xs : List ℕ) → 0 < first_len xs → words xs ≡ take (first_len xs) xs ∷ words (drop (first_len xs) xs)
 unfolding words
 first_word xs some =
-    ap (filter full) (split_is_first_and_rest xs) ∙ kept (take (first_len xs) xs) (rest_of (drop (first_len xs) xs)) (lt-ltb 0 _ (omega (arith, length-prefix_len no_blank xs, some))) ∙ ap (λ (ws : List (List ℕ)). take (first_len xs) xs ∷ ws) (rest_words xs)
+    ap (filter is_nonempty_part) (split_is_first_and_rest xs) ∙ kept (take (first_len xs) xs) (rest_of (drop (first_len xs) xs)) (lt-ltb 0 _ (omega (arith, length-prefix_len no_blank xs, some))) ∙ ap (λ (ws : List (List ℕ)). take (first_len xs) xs ∷ ws) (rest_words xs)
   where
-    kept : (w : List ℕ) (ws : List (List ℕ)) → full w ≡ true → filter full (w ∷ ws) ≡ w ∷ filter full ws
+    kept : (w : List ℕ) (ws : List (List ℕ)) → is_nonempty_part w ≡ true → filter is_nonempty_part (w ∷ ws) ≡ w ∷ filter is_nonempty_part ws
     kept w ws e = rw e refl
 
 module _ (xs : List ℕ) (n : ℕ) (front : n ≡ prefix_len is_blank xs) where

@@ -246,12 +246,12 @@ module _ (plans : List Plan) where
     pub at : slice_get ops slot ≡ Some op
     pub is : t ≡ station_as op (op_at plans op)
 
-  abbrev pub more : List Station → OpId → List Station
-  more stations x = with_station stations (station_as x (op_at plans x))
+  abbrev pub with_station_of_op : List Station → OpId → List Station
+  with_station_of_op stations x = with_station stations (station_as x (op_at plans x))
 
-  folded_station_is_of_op : (ops : List OpId) (stations : List Station) (t : Station) (n : ℕ) → slice_get (fold more stations ops) n ≡ Some t → ((m : ℕ) × (slice_get stations m ≡ Some t)) ⊎ IsOfOne ops t
+  folded_station_is_of_op : (ops : List OpId) (stations : List Station) (t : Station) (n : ℕ) → slice_get (fold with_station_of_op stations ops) n ≡ Some t → ((m : ℕ) × (slice_get stations m ≡ Some t)) ⊎ IsOfOne ops t
   folded_station_is_of_op [] stations t n e = inl (n, e)
-  folded_station_is_of_op (x ∷ ops) stations t n e = elim (folded_station_is_of_op ops (more stations x) t n e) [
+  folded_station_is_of_op (x ∷ ops) stations t n e = elim (folded_station_is_of_op ops (with_station_of_op stations x) t n e) [
     | inl was ↦ first was.0 (station_earlier_or_added stations (station_as x (op_at plans x)) t was.0 was.1)
     | inr one ↦ inr (record { slot = suc one.slot; op = one.op; at = one.at; is = one.is })
   ]

@@ -23,7 +23,7 @@ use Rattle.sim_resources.specs.declared.station.Station.{Station}
 use Rattle.sim_resources.specs.Numbering.{AreOnce}
 use Rattle.sim_events.specs.Cost.{station_by, station_of, station_as, cpu_alone, side_by, side_alone, same_station, with_station, stations_among, holds_as, times_held, most_moves, cost_of_start, cost_of_run}
 use Rattle.sim_events.specs.Laws.{HasOneCpu, HasOneNic, IsOneWide, MovesAreFew, RunsAreCheap}
-use Rattle.sim_events.proofs.Changes.{listed_station_is_of_op, more}
+use Rattle.sim_events.proofs.Changes.{listed_station_is_of_op, with_station_of_op}
 
 -- each station is listed once
 with_station_stays_once : (stations : List Station) (s : Station) → AreOnce stations → AreOnce (with_station stations s)
@@ -43,9 +43,9 @@ with_station_stays_once stations s once i j t = go (list_any (same_station s) st
         both (inr f) (inr g) = f.0 ∙ sym g.0
 
 module _ (plans : List Plan) where
-  folded_stations_are_once : (ops : List OpId) (stations : List Station) → AreOnce stations → AreOnce (fold (more plans) stations ops)
+  folded_stations_are_once : (ops : List OpId) (stations : List Station) → AreOnce stations → AreOnce (fold (with_station_of_op plans) stations ops)
   folded_stations_are_once [] stations once = once
-  folded_stations_are_once (x ∷ ops) stations once = folded_stations_are_once ops (more plans stations x) (with_station_stays_once stations (station_as x (op_at plans x)) once)
+  folded_stations_are_once (x ∷ ops) stations once = folded_stations_are_once ops (with_station_of_op plans stations x) (with_station_stays_once stations (station_as x (op_at plans x)) once)
 
   with_station_adds_at_most_one : (stations : List Station) (s : Station) → length (with_station stations s) ≤ length stations + 1
   with_station_adds_at_most_one stations s = go (list_any (same_station s) stations)
@@ -54,9 +54,9 @@ module _ (plans : List Plan) where
       go true = omega arith
       go false = omega (arith, length-append stations (s ∷ []))
 
-  fold_adds_one_per_op_at_most : (ops : List OpId) (stations : List Station) → length (fold (more plans) stations ops) ≤ length stations + length ops
+  fold_adds_one_per_op_at_most : (ops : List OpId) (stations : List Station) → length (fold (with_station_of_op plans) stations ops) ≤ length stations + length ops
   fold_adds_one_per_op_at_most [] stations = omega arith
-  fold_adds_one_per_op_at_most (x ∷ ops) stations = omega (arith, fold_adds_one_per_op_at_most ops (more plans stations x), with_station_adds_at_most_one stations (station_as x (op_at plans x)))
+  fold_adds_one_per_op_at_most (x ∷ ops) stations = omega (arith, fold_adds_one_per_op_at_most ops (with_station_of_op plans stations x), with_station_adds_at_most_one stations (station_as x (op_at plans x)))
 
   stations_once : AreOnce (stations_among plans (operations plans))
   stations_once = folded_stations_are_once (operations plans) [] (λ i j s e f. absurd (omega (arith, slice_get_within [] i s e)))

@@ -20,7 +20,7 @@ use Rattle.sim_match.specs.declared.pattern.Wild.{Wild}
 use Rattle.sim_match.specs.Patterns.{same_pattern, own_pattern, number, list_number, own_list, wild_pattern, wild_number, wild_list, IsListed, AreListed}
 use Rattle.sim_match.specs.ListNumbers.{coded, IsCodable}
 use Rattle.sim_match.specs.ListOrder.{AreGiven, Grows, HaveNumbers}
-use Rattle.sim_match.proofs.PatternLemmas.{same_pattern_true, same_pattern_itself, position_at, position_none_if_all_fail, position_or_len_if_none, number_within, number_at, listed_pattern_has_number}
+use Rattle.sim_match.proofs.PatternLemmas.{same_pattern_true, same_pattern_itself, position_at, position_none_if_all_fail, position_or_len_if_none, number_within, pattern_at_its_number, listed_pattern_has_number}
 use Rattle.sim_match.proofs.Numbering.{number_is_codable, own_of_receive, own_list_within_keys}
 use Rattle.sim_match.proofs.Written.{slice_get_written_place, slice_get_elsewhere}
 
@@ -78,7 +78,7 @@ module _ (patterns : List Pattern) (old : ListOrder) (given : AreGiven patterns 
 
     pattern_at_place : (p : Pattern) → number patterns p ≡ Some place → p ≡ q
     pattern_at_place p at =
-        number_at patterns p place at ∙ get_or_default patterns place p q (number_within patterns q place its) ∙ sym (number_at patterns q place its)
+        pattern_at_its_number patterns p place at ∙ get_or_default patterns place p q (number_within patterns q place its) ∙ sym (pattern_at_its_number patterns q place its)
 
     module _ (keys : List Pattern) (keys_are : keys ≡ old.keys.items ++ q ∷ []) where
       pub number_of_new_pattern : (p : Pattern) → number patterns p ≡ Some place → number keys p ≡ Some old.count
@@ -204,7 +204,7 @@ none_given_passes patterns order given f none =
     there : (q : Pattern) → f q ≡ true → (o : Option ℕ) → number patterns q ≡ o → (j : ℕ) × (number order.keys.items q ≡ Some j) → ⊥
     there q passes None e at = none-some at.0 (sym (given.among q e) ∙ at.1)
     there q passes (Some i) e at =
-        both_ways (list_any f patterns) none (list_any_at f patterns i q (number_within patterns q i e) (ap f (sym (number_at patterns q i e)) ∙ passes))
+        both_ways (list_any f patterns) none (list_any_at f patterns i q (number_within patterns q i e) (ap f (sym (pattern_at_its_number patterns q i e)) ∙ passes))
 
 -- the place of an operation's own pattern is an index of the patterns
 pub own_list_within_patterns : (plans : List Plan) (patterns : List Pattern) (x : OpId) (place : Option ℕ) → place ≡ own_list plans patterns x → IfSome place (λ (at : ℕ). at < length patterns)

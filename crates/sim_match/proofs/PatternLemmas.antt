@@ -84,8 +84,8 @@ pub number_within : (keys : List Pattern) (p : Pattern) (i : ℕ) → number key
 number_within keys p i e = (position-Some (same_pattern p) keys i p e).0
 
 -- the pattern is at that place
-pub number_at : (keys : List Pattern) (p : Pattern) (i : ℕ) → number keys p ≡ Some i → p ≡ get_or keys i p
-number_at keys p i e = same_pattern_true p (get_or keys i p) (position-Some (same_pattern p) keys i p e).1
+pub pattern_at_its_number : (keys : List Pattern) (p : Pattern) (i : ℕ) → number keys p ≡ Some i → p ≡ get_or keys i p
+pattern_at_its_number keys p i e = same_pattern_true p (get_or keys i p) (position-Some (same_pattern p) keys i p e).1
 
 -- a pattern that is there has a number
 pub listed_pattern_has_number : (keys : List Pattern) (p : Pattern) (k : ℕ) (q : Pattern) → slice_get keys k ≡ Some q → same_pattern p q ≡ true → (i : ℕ) × (number keys p ≡ Some i)

@@ -126,34 +126,34 @@ module _ (plans : List Plan) where
           let there = ap (λ (es : List MatchEntry). length (filter p es)) (entries_after_its_class Arrive a h e) ∙ ap length (filter-append p (entries_of Arrive h) (last a h ∷ [])) ∙ length-append (filter p (entries_of Arrive h)) (filter p (last a h ∷ [])) in
           omega (arith, fewer, here, there)
 
-  abbrev waits : List Act → MatchEntry → Bool
-  waits h e = not (is_paired (pairs plans h) e.op)
+  abbrev entry_is_unpaired : List Act → MatchEntry → Bool
+  entry_is_unpaired h e = not (is_paired (pairs plans h) e.op)
 
   -- what waits later has waited before
-  waited_before : (a : Act) (h : List Act) (e : MatchEntry) → waits (a ∷ h) e ≡ true → waits h e ≡ true
+  waited_before : (a : Act) (h : List Act) (e : MatchEntry) → entry_is_unpaired (a ∷ h) e ≡ true → entry_is_unpaired h e ≡ true
   waited_before a h e now = go (is_paired (pairs plans h) e.op) refl
     where
       go : (b : Bool) → is_paired (pairs plans h) e.op ≡ b → not b ≡ true
       go false f = refl
-      go true f = absurd (both_ways (waits (a ∷ h) e) (ap not (paired_stays plans a h e.op f)) now)
+      go true f = absurd (both_ways (entry_is_unpaired (a ∷ h) e) (ap not (paired_stays plans a h e.op f)) now)
 
-  pub waiting_unmet_are_waiting_arrivals : (h : List Act) → filter (waits h) (unmet_of plans h) ≡ filter (waits h) (entries_of Arrive h)
-  waiting_unmet_are_waiting_arrivals [] = ap (filter (waits [])) (unmet_none ∙ sym (entries_none Arrive))
+  pub waiting_unmet_are_waiting_arrivals : (h : List Act) → filter (entry_is_unpaired h) (unmet_of plans h) ≡ filter (entry_is_unpaired h) (entries_of Arrive h)
+  waiting_unmet_are_waiting_arrivals [] = ap (filter (entry_is_unpaired [])) (unmet_none ∙ sym (entries_none Arrive))
   waiting_unmet_are_waiting_arrivals (a ∷ h) = go (is_of Arrive a) (is_none (makes a h)) refl refl (before (waiting_unmet_are_waiting_arrivals h))
     where
-      before : filter (waits h) (unmet_of plans h) ≡ filter (waits h) (entries_of Arrive h) → filter (waits (a ∷ h)) (unmet_of plans h) ≡ filter (waits (a ∷ h)) (entries_of Arrive h)
+      before : filter (entry_is_unpaired h) (unmet_of plans h) ≡ filter (entry_is_unpaired h) (entries_of Arrive h) → filter (entry_is_unpaired (a ∷ h)) (unmet_of plans h) ≡ filter (entry_is_unpaired (a ∷ h)) (entries_of Arrive h)
       before rest =
-          sym (filter_of_weaker_filter (waits (a ∷ h)) (waits h) (unmet_of plans h) (waited_before a h)) ∙ ap (filter (waits (a ∷ h))) rest ∙ filter_of_weaker_filter (waits (a ∷ h)) (waits h) (entries_of Arrive h) (waited_before a h)
+          sym (filter_of_weaker_filter (entry_is_unpaired (a ∷ h)) (entry_is_unpaired h) (unmet_of plans h) (waited_before a h)) ∙ ap (filter (entry_is_unpaired (a ∷ h))) rest ∙ filter_of_weaker_filter (entry_is_unpaired (a ∷ h)) (entry_is_unpaired h) (entries_of Arrive h) (waited_before a h)
 
-      go : (s n : Bool) → is_of Arrive a ≡ s → is_none (makes a h) ≡ n → filter (waits (a ∷ h)) (unmet_of plans h) ≡ filter (waits (a ∷ h)) (entries_of Arrive h) → filter (waits (a ∷ h)) (unmet_of plans (a ∷ h)) ≡ filter (waits (a ∷ h)) (entries_of Arrive (a ∷ h))
+      go : (s n : Bool) → is_of Arrive a ≡ s → is_none (makes a h) ≡ n → filter (entry_is_unpaired (a ∷ h)) (unmet_of plans h) ≡ filter (entry_is_unpaired (a ∷ h)) (entries_of Arrive h) → filter (entry_is_unpaired (a ∷ h)) (unmet_of plans (a ∷ h)) ≡ filter (entry_is_unpaired (a ∷ h)) (entries_of Arrive (a ∷ h))
       go false n e f same =
-          ap (filter (waits (a ∷ h))) (unmet_other a h e) ∙ same ∙ ap (filter (waits (a ∷ h))) (sym (entries_after_other_class Arrive a h e))
+          ap (filter (entry_is_unpaired (a ∷ h))) (unmet_other a h e) ∙ same ∙ ap (filter (entry_is_unpaired (a ∷ h))) (sym (entries_after_other_class Arrive a h e))
       go true true e f same =
-          ap (filter (waits (a ∷ h))) (unmet_arrival a h e ∙ ap (λ (b : Bool). unmet_of plans h ++ (if b then last a h ∷ [] else [])) f) ∙ filter-append (waits (a ∷ h)) (unmet_of plans h) (last a h ∷ []) ∙ ap (λ (es : List MatchEntry). es ++ filter (waits (a ∷ h)) (last a h ∷ [])) same ∙ sym (filter-append (waits (a ∷ h)) (entries_of Arrive h) (last a h ∷ [])) ∙ ap (filter (waits (a ∷ h))) (sym (entries_after_its_class Arrive a h e))
+          ap (filter (entry_is_unpaired (a ∷ h))) (unmet_arrival a h e ∙ ap (λ (b : Bool). unmet_of plans h ++ (if b then last a h ∷ [] else [])) f) ∙ filter-append (entry_is_unpaired (a ∷ h)) (unmet_of plans h) (last a h ∷ []) ∙ ap (λ (es : List MatchEntry). es ++ filter (entry_is_unpaired (a ∷ h)) (last a h ∷ [])) same ∙ sym (filter-append (entry_is_unpaired (a ∷ h)) (entries_of Arrive h) (last a h ∷ [])) ∙ ap (filter (entry_is_unpaired (a ∷ h))) (sym (entries_after_its_class Arrive a h e))
       go true false e f same =
-          ap (filter (waits (a ∷ h))) (unmet_arrival a h e ∙ ap (λ (b : Bool). unmet_of plans h ++ (if b then last a h ∷ [] else [])) f ∙ append-nil (unmet_of plans h)) ∙ same ∙ sym (filter_last_fails (waits (a ∷ h)) (entries_of Arrive h) (last a h) (ap not (arrival_paired a h e f))) ∙ ap (filter (waits (a ∷ h))) (sym (entries_after_its_class Arrive a h e))
+          ap (filter (entry_is_unpaired (a ∷ h))) (unmet_arrival a h e ∙ ap (λ (b : Bool). unmet_of plans h ++ (if b then last a h ∷ [] else [])) f ∙ append-nil (unmet_of plans h)) ∙ same ∙ sym (filter_last_fails (entry_is_unpaired (a ∷ h)) (entries_of Arrive h) (last a h) (ap not (arrival_paired a h e f))) ∙ ap (filter (entry_is_unpaired (a ∷ h))) (sym (entries_after_its_class Arrive a h e))
 
   -- the first of them that waits and passes a test is the first such arrival
-  pub unmet_found : (h : List Act) (q : MatchEntry → Bool) → find (λ (e : MatchEntry). waits h e && q e) (unmet_of plans h) ≡ find (λ (e : MatchEntry). waits h e && q e) (entries_of Arrive h)
+  pub unmet_found : (h : List Act) (q : MatchEntry → Bool) → find (λ (e : MatchEntry). entry_is_unpaired h e && q e) (unmet_of plans h) ≡ find (λ (e : MatchEntry). entry_is_unpaired h e && q e) (entries_of Arrive h)
   unmet_found h q =
-      find_agree (λ (e : MatchEntry). waits h e && q e) (λ (e : MatchEntry). q e && waits h e) (λ e. and_comm (waits h e) (q e)) (unmet_of plans h) ∙ sym (find_filter (waits h) q (unmet_of plans h)) ∙ ap (find q) (waiting_unmet_are_waiting_arrivals h) ∙ find_filter (waits h) q (entries_of Arrive h) ∙ find_agree (λ (e : MatchEntry). q e && waits h e) (λ (e : MatchEntry). waits h e && q e) (λ e. and_comm (q e) (waits h e)) (entries_of Arrive h)
+      find_agree (λ (e : MatchEntry). entry_is_unpaired h e && q e) (λ (e : MatchEntry). q e && entry_is_unpaired h e) (λ e. and_comm (entry_is_unpaired h e) (q e)) (unmet_of plans h) ∙ sym (find_filter (entry_is_unpaired h) q (unmet_of plans h)) ∙ ap (find q) (waiting_unmet_are_waiting_arrivals h) ∙ find_filter (entry_is_unpaired h) q (entries_of Arrive h) ∙ find_agree (λ (e : MatchEntry). q e && entry_is_unpaired h e) (λ (e : MatchEntry). entry_is_unpaired h e && q e) (λ e. and_comm (q e) (entry_is_unpaired h e)) (entries_of Arrive h)

@@ -12,8 +12,8 @@ use denote.Struct.Struct.{Struct, within}
 abbrev pub plainly : List RattleType → RattleType
 plainly Rs = Struct (record { name = []; args = []; types = []; fields = Rs })
 
-abbrev pub none : Val
-none = vstruct vnil
+abbrev pub empty_struct_value : Val
+empty_struct_value = vstruct vnil
 
 abbrev pub one : Val → Val
 one u = vstruct (vcons u vnil)

@@ -42,12 +42,12 @@ module _ (ranks : ℕ) (to back : ℕ → ℕ) (perm : IsPermutation ranks to ba
   abbrev acts : List Timed → List Timed
   acts h = map (placed_timed to) h
 
-  kinds : (x : OpId) → kind_at other (placed_op to x) ≡ option_map (placed_kind to) (kind_at plans x)
-  kinds x = kind_placed ranks to back perm plans other placed.ops x
+  kind_of_placed_op : (x : OpId) → kind_at other (placed_op to x) ≡ option_map (placed_kind to) (kind_at plans x)
+  kind_of_placed_op x = kind_placed ranks to back perm plans other placed.ops x
 
   -- what messages cost
   cost_placed : (f g : ℕ → ℕ → ℕ → ℕ) → ((from target bytes : ℕ) → g (to from) (to target) bytes ≡ f from target bytes) → (m : OpId) → cost_of g (to m.rank) (kind_at other (placed_op to m)) ≡ cost_of f m.rank (kind_at plans m)
-  cost_placed f g same m = ap (cost_of g (to m.rank)) (kinds m) ∙ go (kind_at plans m)
+  cost_placed f g same m = ap (cost_of g (to m.rank)) (kind_of_placed_op m) ∙ go (kind_at plans m)
     where
       go : (k : Option Kind) → cost_of g (to m.rank) (option_map (placed_kind to) k) ≡ cost_of f m.rank k
       go None = refl
@@ -56,7 +56,7 @@ module _ (ranks : ℕ) (to back : ℕ → ℕ) (perm : IsPermutation ranks to ba
       go (Some (Recv room source tag)) = refl
 
   request_placed : (f g : ℕ → ℕ → ℕ → ℕ) → ((from target bytes : ℕ) → g (to from) (to target) bytes ≡ f from target bytes) → (m : OpId) → request_of g (to m.rank) (kind_at other (placed_op to m)) ≡ request_of f m.rank (kind_at plans m)
-  request_placed f g same m = ap (request_of g (to m.rank)) (kinds m) ∙ go (kind_at plans m)
+  request_placed f g same m = ap (request_of g (to m.rank)) (kind_of_placed_op m) ∙ go (kind_at plans m)
     where
       go : (k : Option Kind) → request_of g (to m.rank) (option_map (placed_kind to) k) ≡ request_of f m.rank k
       go None = refl
@@ -65,7 +65,7 @@ module _ (ranks : ℕ) (to back : ℕ → ℕ) (perm : IsPermutation ranks to ba
       go (Some (Recv room source tag)) = refl
 
   latency_placed : (m : OpId) → latency other there (placed_op to m) ≡ latency plans costs m
-  latency_placed m = ap (latency_of there.latency (to m.rank)) (kinds m) ∙ go (kind_at plans m)
+  latency_placed m = ap (latency_of there.latency (to m.rank)) (kind_of_placed_op m) ∙ go (kind_at plans m)
     where
       go : (k : Option Kind) → latency_of there.latency (to m.rank) (option_map (placed_kind to) k) ≡ latency_of costs.latency m.rank k
       go None = refl
@@ -75,7 +75,7 @@ module _ (ranks : ℕ) (to back : ℕ → ℕ) (perm : IsPermutation ranks to ba
 
   pub eager_placed : (m : OpId) → is_eager other there (placed_op to m) ≡ is_eager plans costs m
   unfolding is_eager
-  eager_placed m = ap (eager_of there.eager (to m.rank)) (kinds m) ∙ go (kind_at plans m)
+  eager_placed m = ap (eager_of there.eager (to m.rank)) (kind_of_placed_op m) ∙ go (kind_at plans m)
     where
       go : (k : Option Kind) → eager_of there.eager (to m.rank) (option_map (placed_kind to) k) ≡ eager_of costs.eager m.rank k
       go None = refl
@@ -185,7 +185,7 @@ module _ (ranks : ℕ) (to back : ℕ → ℕ) (perm : IsPermutation ranks to ba
     where
       hold : cpu_hold other there (acts h) a.class (placed_op to a.op) (kind_at other (placed_op to a.op)) ≡ cpu_hold plans costs h a.class a.op (kind_at plans a.op)
       hold =
-          ap (cpu_hold other there (acts h) a.class (placed_op to a.op)) (kinds a.op) ∙ cpu_hold_placed h a.class a.op (kind_at plans a.op)
+          ap (cpu_hold other there (acts h) a.class (placed_op to a.op)) (kind_of_placed_op a.op) ∙ cpu_hold_placed h a.class a.op (kind_at plans a.op)
 
   tx_placed : (h : List Timed) (x : OpId) → tx other there (acts h) (placed_op to x) ≡ tx plans costs h x
   unfolding tx
@@ -194,11 +194,11 @@ module _ (ranks : ℕ) (to back : ℕ → ℕ) (perm : IsPermutation ranks to ba
       λ i. max (tx_placed h x i) (if holds i && place_placed (λ (o : Op). o.nic) (λ o. refl) x a.op i then a.time + hold i else 0)
     where
       holds : holds_tx a.class (kind_at other (placed_op to a.op)) ≡ holds_tx a.class (kind_at plans a.op)
-      holds = ap (holds_tx a.class) (kinds a.op) ∙ holds_tx_placed a.class (kind_at plans a.op)
+      holds = ap (holds_tx a.class) (kind_of_placed_op a.op) ∙ holds_tx_placed a.class (kind_at plans a.op)
 
       hold : tx_hold other there a.class (placed_op to a.op) (kind_at other (placed_op to a.op)) ≡ tx_hold plans costs a.class a.op (kind_at plans a.op)
       hold =
-          ap (tx_hold other there a.class (placed_op to a.op)) (kinds a.op) ∙ tx_hold_placed a.class a.op (kind_at plans a.op)
+          ap (tx_hold other there a.class (placed_op to a.op)) (kind_of_placed_op a.op) ∙ tx_hold_placed a.class a.op (kind_at plans a.op)
 
   rx_placed : (h : List Timed) (x : OpId) → rx other there (acts h) (placed_op to x) ≡ rx plans costs h x
   unfolding rx
@@ -208,7 +208,7 @@ module _ (ranks : ℕ) (to back : ℕ → ℕ) (perm : IsPermutation ranks to ba
     where
       hold : rx_hold other there (acts h) a.class (placed_op to a.op) (kind_at other (placed_op to a.op)) ≡ rx_hold plans costs h a.class a.op (kind_at plans a.op)
       hold =
-          ap (rx_hold other there (acts h) a.class (placed_op to a.op)) (kinds a.op) ∙ rx_hold_placed h a.class a.op (kind_at plans a.op)
+          ap (rx_hold other there (acts h) a.class (placed_op to a.op)) (kind_of_placed_op a.op) ∙ rx_hold_placed h a.class a.op (kind_at plans a.op)
 
   pub start_placed : (h : List Timed) (x : OpId) → start other there (acts h) (placed_op to x) ≡ start plans costs h x
   start_placed h x =
@@ -228,7 +228,7 @@ module _ (ranks : ℕ) (to back : ℕ → ℕ) (perm : IsPermutation ranks to ba
       hold : cpu_hold other there (acts h) (last_class (is_eager other there (placed_op to x)) (kind_at other (placed_op to x))) (placed_op to x) (kind_at other (placed_op to x)) ≡ cpu_hold plans costs h (last_class (is_eager plans costs x) (kind_at plans x)) x (kind_at plans x)
       hold =
           ap (λ (c : Class). cpu_hold other there (acts h) c (placed_op to x) (kind_at other (placed_op to x))) last
-          ∙ (ap (cpu_hold other there (acts h) (last_class (is_eager plans costs x) (kind_at plans x)) (placed_op to x)) (kinds x) ∙ cpu_hold_placed h (last_class (is_eager plans costs x) (kind_at plans x)) x (kind_at plans x))
+          ∙ (ap (cpu_hold other there (acts h) (last_class (is_eager plans costs x) (kind_at plans x)) (placed_op to x)) (kind_of_placed_op x) ∙ cpu_hold_placed h (last_class (is_eager plans costs x) (kind_at plans x)) x (kind_at plans x))
 
   met_placed : (h : List Timed) (when : When) (y : OpId) → met_at other there (acts h) when (placed_op to y) ≡ met_at plans costs h when y
   met_placed h AfterEnd y = end_placed h y
@@ -277,7 +277,7 @@ module _ (ranks : ℕ) (to back : ℕ → ℕ) (perm : IsPermutation ranks to ba
   pub time_placed : (h : List Timed) (class : Class) (x : OpId) → time other there (acts h) class (placed_op to x) ≡ time plans costs h class x
   unfolding time
   time_placed h class x =
-      ap (time_of other there (acts h) class (placed_op to x)) (kinds x) ∙ time_of_placed h class x (kind_at plans x)
+      ap (time_of other there (acts h) class (placed_op to x)) (kind_of_placed_op x) ∙ time_of_placed h class x (kind_at plans x)
 
   pub same_times : (h : List Timed) → HasSameTimes to plans other costs there h
   same_times h = record { times = time_placed h; starts = start_placed h; ends = end_placed h }

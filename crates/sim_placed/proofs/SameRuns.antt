@@ -27,18 +27,18 @@ use Rattle.sim_placed.proofs.Holds.{hold_with_same_mate}
 use Rattle.sim_placed.proofs.Moved.{IsPart, Crosses, moved}
 
 -- the time of the newest action
-abbrev newest : List Timed → ℕ
-newest [] = 0
-newest (a ∷ h) = a.time
+abbrev newest_time : List Timed → ℕ
+newest_time [] = 0
+newest_time (a ∷ h) = a.time
 
-newest_tail : (u v : List Timed) → IsTail u v → Rises v → newest u ≤ newest v
+newest_tail : (u v : List Timed) → IsTail u v → Rises v → newest_time u ≤ newest_time v
 newest_tail u v whole rises = omega arith
 newest_tail u (b ∷ v) (newer t) rises =
     let le = newest_tail u v t rises.0 in
     let last = below_newest v rises.1 in
     omega (arith, le, last)
   where
-    below_newest : (l : List Timed) → All (λ (d : Timed). d.time ≤ b.time) l → newest l ≤ b.time
+    below_newest : (l : List Timed) → All (λ (d : Timed). d.time ≤ b.time) l → newest_time l ≤ b.time
     below_newest [] all = omega arith
     below_newest (d ∷ l) all = All-head (λ (c : Timed). c.time ≤ b.time) d l all
 
@@ -80,10 +80,10 @@ module _ (plans : List Plan) (costs : CostModel) (apart : IsApart plans) (takes 
   message_to_other_rank_takes_time x m s fit ne = takes m s (λ e. ne (e ∙ fits_target x m s fit))
 
   -- how long after its begin a send arrives
-  abbrev way : OpId → ℕ
-  way m = if eager m then flight plans costs m else flight_one plans costs m
+  abbrev time_to_arrive : OpId → ℕ
+  time_to_arrive m = if eager m then flight plans costs m else flight_one plans costs m
 
-  time_to_arrive_is_positive : (x m : OpId) → IsSend plans m → fits plans x m ≡ true → (m.rank ≡ x.rank → ⊥) → 1 ≤ way m
+  time_to_arrive_is_positive : (x m : OpId) → IsSend plans m → fits plans x m ≡ true → (m.rank ≡ x.rank → ⊥) → 1 ≤ time_to_arrive m
   time_to_arrive_is_positive x m s fit ne = go (eager m) (message_to_other_rank_takes_time x m s fit ne)
     where
       go : (b : Bool) → (1 ≤ flight plans costs m) × (1 ≤ flight_one plans costs m) × (1 ≤ latency plans costs m) → 1 ≤ (if b then flight plans costs m else flight_one plans costs m)
@@ -93,31 +93,31 @@ module _ (plans : List Plan) (costs : CostModel) (apart : IsApart plans) (takes 
   start_of_send : (p : List Timed) (m : OpId) → IsSend plans m → start plans costs p m ≡ time_happened Begin m p
   start_of_send p m s = ap (λ (k : Option Kind). since (happened (first_class k) m) p) s.kind
 
-  time_of_arrive : (p : List Timed) (m : OpId) → IsSend plans m → time plans costs p Arrive m ≡ time_happened Begin m p + way m
+  time_of_arrive : (p : List Timed) (m : OpId) → IsSend plans m → time plans costs p Arrive m ≡ time_happened Begin m p + time_to_arrive m
   unfolding time
   time_of_arrive p m s =
-      ap (λ (k : Option Kind). time_of plans costs p Arrive m k) s.kind ∙ ap (λ (n : ℕ). n + way m) (start_of_send p m s)
+      ap (λ (k : Option Kind). time_of plans costs p Arrive m k) s.kind ∙ ap (λ (n : ℕ). n + time_to_arrive m) (start_of_send p m s)
 
   -- a send arrives `way m` after its begin
-  arrive_time : (p : List Timed) → Each plans costs p → (m : OpId) → IsSend plans m → has_happened Arrive m p ≡ true → time_happened Arrive m p ≡ time_happened Begin m p + way m
+  arrive_time : (p : List Timed) → Each plans costs p → (m : OpId) → IsSend plans m → has_happened Arrive m p ≡ true → time_happened Arrive m p ≡ time_happened Begin m p + time_to_arrive m
   arrive_time [] each m s e = absurd (has_happened_nothing Arrive m e)
   arrive_time (a ∷ p) each m s e = go (λ t. arrive_time p each.0 m s t) (cases_Bool (has_happened Arrive m p))
     where
       begun : has_happened Begin m p ≡ true → time_happened Begin m (a ∷ p) ≡ time_happened Begin m p
       begun t = since_kept (happened Begin m) a p t
 
-      new : has_happened Arrive m p ≡ false → (has_happened Arrive m p ≡ true) ⊎ (is_act Arrive m (plain_act a) ≡ true) → time_happened Arrive m (a ∷ p) ≡ time_happened Begin m (a ∷ p) + way m
+      new : has_happened Arrive m p ≡ false → (has_happened Arrive m p ≡ true) ⊎ (is_act Arrive m (plain_act a) ≡ true) → time_happened Arrive m (a ∷ p) ≡ time_happened Begin m (a ∷ p) + time_to_arrive m
       new f (inl t) = absurd (both_ways _ f t)
       new f (inr t) =
           let class = is_act_class Arrive m (plain_act a) t in
           let op = is_act_op Arrive m (plain_act a) t in
           let ok : allowed plans eager (plain p) Arrive m ≡ true = subst (λ (y : OpId). allowed plans eager (plain p) Arrive y ≡ true) op (subst (λ (c : Class). allowed plans eager (plain p) c a.op ≡ true) class each.1.allowed) in
           let when : a.time ≡ time plans costs p Arrive m = each.1.time ∙ λ i. time plans costs p (class i) (op i) in
-          since_new (happened Arrive m) a p f e ∙ (when ∙ (time_of_arrive p m s ∙ ap (λ (n : ℕ). n + way m) (sym (begun (allowed_arrive plans eager (plain p) m ok).1))))
+          since_new (happened Arrive m) a p f e ∙ (when ∙ (time_of_arrive p m s ∙ ap (λ (n : ℕ). n + time_to_arrive m) (sym (begun (allowed_arrive plans eager (plain p) m ok).1))))
 
-      go : (has_happened Arrive m p ≡ true → time_happened Arrive m p ≡ time_happened Begin m p + way m) → (has_happened Arrive m p ≡ true) ⊎ (has_happened Arrive m p ≡ false) → time_happened Arrive m (a ∷ p) ≡ time_happened Begin m (a ∷ p) + way m
+      go : (has_happened Arrive m p ≡ true → time_happened Arrive m p ≡ time_happened Begin m p + time_to_arrive m) → (has_happened Arrive m p ≡ true) ⊎ (has_happened Arrive m p ≡ false) → time_happened Arrive m (a ∷ p) ≡ time_happened Begin m (a ∷ p) + time_to_arrive m
       go rest (inl t) =
-          since_kept (happened Arrive m) a p t ∙ (rest t ∙ ap (λ (n : ℕ). n + way m) (sym (begun (arrived_begun plans eager (plain p) m (each_interleaving plans costs p each.0) t))))
+          since_kept (happened Arrive m) a p t ∙ (rest t ∙ ap (λ (n : ℕ). n + time_to_arrive m) (sym (begun (arrived_begun plans eager (plain p) m (each_interleaving plans costs p each.0) t))))
       go rest (inr f) = new f (has_happened_cases Arrive m a p e)
 
   -- a send transfers its data no sooner than its request has arrived
@@ -194,7 +194,7 @@ module _ (plans : List Plan) (costs : CostModel) (apart : IsApart plans) (takes 
         let same : time_happened Begin m p ≡ time_happened Begin m q = sym (time_happened_below Begin m p h part_p.below there) ∙ whole_at in
         record {
           allowed = allowed_from plans eager (plain p) Arrive m fresh (ap (λ (k : Option Kind). may plans eager (plain p) Arrive m k) s.kind ∙ there);
-          time = when ∙ (ap (λ (k : ℕ). k + way m) (sym same) ∙ sym (time_of_arrive p m s));
+          time = when ∙ (ap (λ (k : ℕ). k + time_to_arrive m) (sym same) ∙ sym (time_of_arrive p m s));
         }
 
     -- what an action needs of other ranks has happened in p, except an arrival at the same time

@@ -1,5 +1,5 @@
 -- The lemmas that upper crates may use: they import this file alone.
-pub use Rattle.sim_queue.proofs.Weak.{before_asymmetric, through}
+pub use Rattle.sim_queue.proofs.Weak.{before_asymmetric, not_before_transitive}
 pub use Rattle.sim_queue.proofs.Maps.{get_appended, get_before_appended, get_set_other, get_set_same, key_within, key_at_no_keys, same_maps}
 pub use Rattle.sim_queue.proofs.Bounds.{pow_next_is_double}
 pub use Rattle.sim_queue.proofs.Placed.{part_written_back}

@@ -46,8 +46,8 @@ module _ (counts : List ℕ) (group : ℕ) (exists : group < length counts) wher
       go (inr d) = omega (arith, get_or-set_other counts group other (slice_index counts group + 1) 0 d, within other)
 
   -- the home of a slot among those assigned, or the new one
-  abbrev Stands : List PlaceInGroup → ℕ → PlaceInGroup → Type 0
-  Stands homes slot home =
+  abbrev IsOldOrNewHome : List PlaceInGroup → ℕ → PlaceInGroup → Type 0
+  IsOldOrNewHome homes slot home =
       (slice_get homes slot ≡ Some home) ⊎ ((slot ≡ length homes) × (home ≡ record { group = group; place = slice_index counts group }))
 
   pub homes_with_new_home : (numbers : List ℕ) (homes : List PlaceInGroup) → AreHomes numbers homes counts → AreHomes (numbers ++ group ∷ []) (homes ++ record { group = group; place = slice_index counts group } ∷ []) counts_with_slot
@@ -58,11 +58,11 @@ module _ (counts : List ℕ) (group : ℕ) (exists : group < length counts) wher
     apart = λ slot other home e f. differ slot other home (within_or_last homes _ home slot e) (within_or_last homes _ home other f);
   }
     where
-      group_of : (slot : ℕ) (home : PlaceInGroup) → Stands homes slot home → home.group < length counts
+      group_of : (slot : ℕ) (home : PlaceInGroup) → IsOldOrNewHome homes slot home → home.group < length counts
       group_of slot home (inl e) = given.group_in slot home e
       group_of slot home (inr e) = rw (ap (λ (h : PlaceInGroup). h.group) e.1) exists
 
-      place_of : (slot : ℕ) (home : PlaceInGroup) → Stands homes slot home → home.place < slice_index counts_with_slot home.group
+      place_of : (slot : ℕ) (home : PlaceInGroup) → IsOldOrNewHome homes slot home → home.place < slice_index counts_with_slot home.group
       place_of slot home (inl e) = omega (arith, given.place_in slot home e, counts_grow home.group)
       place_of slot home (inr e) =
           let group_is : slice_index counts_with_slot home.group ≡ slice_index counts_with_slot group = ap (λ (h : PlaceInGroup). slice_index counts_with_slot h.group) e.1 in
@@ -73,7 +73,7 @@ module _ (counts : List ℕ) (group : ℕ) (exists : group < length counts) wher
           let group_is : slice_index counts home.group ≡ slice_index counts group = ap (λ (h : PlaceInGroup). slice_index counts h.group) f in
           omega (arith, ap (λ (h : PlaceInGroup). h.place) f, group_is, given.place_in slot home e)
 
-      differ : (slot other : ℕ) (home : PlaceInGroup) → Stands homes slot home → Stands homes other home → slot ≡ other
+      differ : (slot other : ℕ) (home : PlaceInGroup) → IsOldOrNewHome homes slot home → IsOldOrNewHome homes other home → slot ≡ other
       differ slot other home (inl e) (inl f) = given.apart slot other home e f
       differ slot other home (inl e) (inr f) = absurd (clash slot home e f.1)
       differ slot other home (inr e) (inl f) = absurd (clash other home f e.1)

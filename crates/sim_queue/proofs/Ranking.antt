@@ -18,7 +18,7 @@ use Rattle.sim_queue.specs.Map.{key_at, IsEmptyMap, IsLeast, no_keys}
 use Rattle.sim_queue.specs.Groups.{Grouped, AreHomes, heap_at, key_of_home, group_of_home}
 use Rattle.sim_queue.specs.Ranked.{size_of}
 use Rattle.sim_queue.specs.Ranks.{home_of, ranked, IsHeadOf, IsTold, IsRanked}
-use Rattle.sim_queue.proofs.ForCallers.{through}
+use Rattle.sim_queue.proofs.ForCallers.{not_before_transitive}
 use Rattle.sim_queue.proofs.ForCallers.{key_at_home, grouped_after_change, housed_after_change}
 use Rattle.sim_queue.proofs.ForCallers.{key_at_no_keys}
 use Rattle.sim_queue.proofs.ForCallers.{no_key_at_any_place, empty_housed, empty_grouped}
@@ -155,8 +155,8 @@ module _ (plans : List Plan) (homes : List PlaceInGroup) (are : homes ≡ map ho
       let rank : p.rank ≡ home.group = omega (arith, p.is_rank) in
       subst (λ g. slot ≡ sum (take g (map size_of plans)) + home.place) rank p.at
 
-  are_homes : AreHomes (map group_of_home homes) homes (map size_of plans)
-  are_homes = record {
+  homes_of_ops_are_homes : AreHomes (map group_of_home homes) homes (map size_of plans)
+  homes_of_ops_are_homes = record {
     groups = refl;
     group_in =
         λ slot home e.
@@ -182,16 +182,16 @@ module _ (plans : List Plan) (homes : List PlaceInGroup) (are : homes ≡ map ho
 
     no_keys_ranked : IsRanked before homes starts heaps_without_keys no_heads
     no_keys_ranked = record {
-      housed = empty_housed (map group_of_home homes) homes (map size_of plans) are_homes few rank_sizes_within_homes;
+      housed = empty_housed (map group_of_home homes) homes (map size_of plans) homes_of_ops_are_homes few rank_sizes_within_homes;
       started = each ∙ sym heaps_per_rank;
       each = length-replicate {A = Option K} (length (map size_of plans)) None ∙ sym heaps_per_rank;
       found =
           λ slot home e.
-          let start = sums home.group (are_homes.group_in slot home e) in
+          let start = sums home.group (homes_of_ops_are_homes.group_in slot home e) in
           omega (arith, slot_by_rank_and_place slot home e, start);
       headed =
           λ rank l.
-          subst (IsHeadOf before (heap_at heaps_without_keys rank)) (sym (key_at_no_keys {K = K} (length (map size_of plans)) rank)) (λ p. no_key_at_any_place (map group_of_home homes) homes (map size_of plans) are_homes rank p);
+          subst (IsHeadOf before (heap_at heaps_without_keys rank)) (sym (key_at_no_keys {K = K} (length (map size_of plans)) rank)) (λ p. no_key_at_any_place (map group_of_home homes) homes (map size_of plans) homes_of_ops_are_homes rank p);
     }
 
     pub new_queue_ranked : (heaps : List (List (Option K))) (heads : List (Option K)) → heaps ≡ heaps_without_keys → heads ≡ no_heads → IsRanked before homes starts heaps heads
@@ -207,7 +207,7 @@ module _ (plans : List Plan) (homes : List PlaceInGroup) (are : homes ≡ map ho
     where
       keys : map (key_of_home (map (no_keys {K = K}) (map size_of plans))) homes ≡ replicate (length (operations plans)) None
       keys =
-          ap (λ (q : Grouped K). q.keys) (empty_grouped {K = K} (map group_of_home homes) homes (map size_of plans) are_homes) ∙ ap (λ n. replicate n None) (length-map homes group_of_home ∙ ap length are ∙ length-map (operations plans) home_of)
+          ap (λ (q : Grouped K). q.keys) (empty_grouped {K = K} (map group_of_home homes) homes (map size_of plans) homes_of_ops_are_homes) ∙ ap (λ n. replicate n None) (length-map homes group_of_home ∙ ap length are ∙ length-map (operations plans) home_of)
 
       none : ranked homes (map (no_keys {K = K}) (map size_of plans)) ≡ record { keys = replicate (length (operations plans)) None; sizes = map size_of plans }
       none i = record { keys = keys i; sizes = empty_sizes K (map size_of plans) i }
@@ -327,7 +327,7 @@ module _ {K : Type 0} where
               least =
                   λ other k e.
                   let h = has_head other k e in
-                  through before laws k h.head key h.least (through before laws h.head head key (least.least h.rank h.head h.head_is) (least_here.least heap_top_of_rank.0 head heap_top_of_rank.1.has));
+                  not_before_transitive before laws k h.head key h.least (not_before_transitive before laws h.head head key (least.least h.rank h.head h.head_is) (least_here.least heap_top_of_rank.0 head heap_top_of_rank.1.has));
             })
 
         pub not_empty_ranked : IsEmptyMap (ranked homes heaps).keys → ⊥

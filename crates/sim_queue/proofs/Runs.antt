@@ -13,7 +13,7 @@ use Rattle.sim_queue.proofs.Items.{length-placed, key_belongs_to_item, item_has_
 use Rattle.sim_queue.proofs.ItemChanges.{old_item_or_new, old_item_kept, added_apart, added_placed, placed_without_slot}
 use Rattle.sim_queue.proofs.Joined.{length-joined, joined_at, joined_with_empty_first, joined_after_put_in_first, joined_after_drop_in_first, joined_after_set_in_second}
 use Rattle.sim_queue.proofs.Maps.{nat_equal_or_not}
-use Rattle.sim_queue.proofs.Weak.{before_asymmetric, through}
+use Rattle.sim_queue.proofs.Weak.{before_asymmetric, not_before_transitive}
 
 module _ {K : Type 0} (before : K → K → Bool) (laws : IsOrder before) (run : List (Item K)) (heap : List (Option K)) (is : IsRun before run heap) where
   abbrev run_keys : List (Option K)
@@ -98,7 +98,7 @@ module _ {K : Type 0} (before : K → K → Bool) (laws : IsOrder before) (run :
       go other k (inr h) = least.least other k h
       go other k (inl there) =
           let one = first there.0 (item_of other k) there.1 in
-          through before laws k one.key key one.first (least.least one.slot one.key one.has)
+          not_before_transitive before laws k one.key key one.first (least.least one.slot one.key one.has)
 
   pub empty_heap_first : IsHeapFirst before run heap → IsEmptyMap heap → IsEmptyMap (with_run run heap)
   empty_heap_first first empty slot = go (key_at (with_run run heap) slot) refl
@@ -210,7 +210,7 @@ module _ {K : Type 0} (before : K → K → Bool) (laws : IsOrder before) (run :
         go (inr p) =
             let one = first 0 y stands in
             subst (HasOneFirst before heap) p.1
-            (record { slot = one.slot; key = one.key; has = one.has; first = through before laws x.key y.key one.key (behind 0 y stands) one.first })
+            (record { slot = one.slot; key = one.key; has = one.has; first = not_before_transitive before laws x.key y.key one.key (behind 0 y stands) one.first })
 
   -- an item is put before the first of the run
   pub new_first_in_order : (x : Item K) → IsAhead before run x → AreInOrder before (x ∷ run)
@@ -258,7 +258,7 @@ module _ {K : Type 0} (before : K → K → Bool) (laws : IsOrder before) (run :
       new_first_is_first r = record {
         first = x;
         stands = refl;
-        least = λ slot k e. through before laws k r.first.key x.key (r.least slot k e) (ahead 0 r.first r.stands);
+        least = λ slot k e. not_before_transitive before laws k r.first.key x.key (r.least slot k e) (ahead 0 r.first r.stands);
       }
 
     -- it goes into the heap, since it is not before the first
@@ -300,7 +300,7 @@ module _ {K : Type 0} (before : K → K → Bool) (laws : IsOrder before) (run :
   run_is_first first stands slot top least late = record {
     first = first;
     stands = stands;
-    least = λ other k e. through before laws k top first.key (least.least other k e) late;
+    least = λ other k e. not_before_transitive before laws k top first.key (least.least other k e) late;
   }
 
   pub heap_is_first : AreInOrder before run → (first : Item K) → slice_get run 0 ≡ Some first → (slot : ℕ) (top : K) → IsLeast before heap slot top → before top first.key ≡ true → IsHeapFirst before run heap
@@ -311,7 +311,7 @@ module _ {K : Type 0} (before : K → K → Bool) (laws : IsOrder before) (run :
 
       go : (at : ℕ) → slice_get run at ≡ Some x → before x.key top ≡ false
       go zero f = subst (λ (y : Item K). before y.key top ≡ false) (same_Some first x (sym stands ∙ f)) late
-      go (suc at) f = through before laws x.key first.key top (in_order 0 (suc at) first x (omega arith) stands f) late
+      go (suc at) f = not_before_transitive before laws x.key first.key top (in_order 0 (suc at) first x (omega arith) stands f) late
 
 -- an item after a run
 module _ {K : Type 0} (before : K → K → Bool) (laws : IsOrder before) (run : List (Item K)) where
@@ -324,7 +324,7 @@ module _ {K : Type 0} (before : K → K → Bool) (laws : IsOrder before) (run :
 
       go : (place ≡ length run - 1) ⊎ (place ≢ length run - 1) → before x.key y.key ≡ false
       go (inl s) = subst (λ (z : Item K). before x.key z.key ≡ false) (same_Some last y (sym stands ∙ ap (slice_get run) (sym s) ∙ e)) late
-      go (inr n) = through before laws x.key last.key y.key late (in_order place (length run - 1) y last (omega (arith, within, n)) e stands)
+      go (inr n) = not_before_transitive before laws x.key last.key y.key late (in_order place (length run - 1) y last (omega (arith, within, n)) e stands)
 
   -- an item that is before the first is before all
   pub ahead_if_before_first : AreInOrder before run → (first x : Item K) → slice_get run 0 ≡ Some first → before x.key first.key ≡ true → IsAhead before run x
@@ -335,7 +335,7 @@ module _ {K : Type 0} (before : K → K → Bool) (laws : IsOrder before) (run :
 
       go : (at : ℕ) → slice_get run at ≡ Some y → before y.key x.key ≡ false
       go zero f = subst (λ (z : Item K). before z.key x.key ≡ false) (same_Some first y (sym stands ∙ f)) late
-      go (suc at) f = through before laws y.key first.key x.key (in_order 0 (suc at) first y (omega arith) stands f) late
+      go (suc at) f = not_before_transitive before laws y.key first.key x.key (in_order 0 (suc at) first y (omega arith) stands f) late
 
   pub not_ahead_if_not_before_first : (first x : Item K) → slice_get run 0 ≡ Some first → before x.key first.key ≡ false → IsNotAhead before run x
   not_ahead_if_not_before_first first x stands late y e = subst (λ (z : Item K). before x.key z.key ≡ false) (same_Some first y (sym stands ∙ e)) late

@@ -26,7 +26,7 @@ use Rattle.sim_state.proofs.Fits.{cpu_fits, tx_fits, flight_of_eager, flight_of_
 use Rattle.sim_state.proofs.FreeTimes.{free_calc, free_send}
 use Rattle.sim_state.proofs.HoldTimes.{cpu_of_calc, tx_of_calc, cpu_of_eager, tx_of_eager, cpu_of_request, tx_of_request, sends_at_begin}
 use Rattle.sim_state.proofs.Places.{possible_exists}
-use Rattle.sim_state.proofs.Tasks.{calc_of, send_of, receive_of, eager_of, rendezvous_of, calc_takes, is_message}
+use Rattle.sim_state.proofs.Tasks.{calc_task_is_of_calc, send_task_is_of_send, receive_task_is_of_receive, eager_task_is_eager, rendezvous_task_is_not_eager, calc_takes, send_work_is_message}
 
 module _ (plans : List Plan) (costs : CostModel) (h : List Timed) (a : Timed) (run : IsRun plans costs h) (within : budget plans costs < 2 ^ 63) (p : Possible plans costs h a) (begins : a.class ≡ Begin) (w : Work) (does : w ≡ work_of plans costs a.op) where
   task_is : w.task ≡ task_of plans costs a.op
@@ -35,7 +35,7 @@ module _ (plans : List Plan) (costs : CostModel) (h : List Timed) (a : Timed) (r
   -- a calc
   module _ (is : w.task ≡ task.Calc) where
     calc : IsCalc plans a.op
-    calc = calc_of plans costs a.op w.task task_is is (possible_exists plans costs h a p)
+    calc = calc_task_is_of_calc plans costs a.op w.task task_is is (possible_exists plans costs h a p)
 
     kind : kind_at plans a.op ≡ Some (Calc w.amount)
     kind = calc_takes plans costs a.op w does calc
@@ -57,13 +57,13 @@ module _ (plans : List Plan) (costs : CostModel) (h : List Timed) (a : Timed) (r
   -- a send that goes out whole
   module _ (is : w.task ≡ task.Eager) where
     eager_send : IsSend plans a.op
-    eager_send = send_of plans costs a.op w.task task_is (inl is)
+    eager_send = send_task_is_of_send plans costs a.op w.task task_is (inl is)
 
     eager : is_eager plans costs a.op ≡ true
-    eager = eager_of plans costs a.op w.task task_is is
+    eager = eager_task_is_eager plans costs a.op w.task task_is is
 
     pub eager_message : IsMessage plans a.op w.to w.amount
-    eager_message = is_message plans costs a.op w does eager_send
+    eager_message = send_work_is_message plans costs a.op w does eager_send
 
     until_of : (n : ℕ) → n ≡ a.time + over plans costs a.op → n ≡ a.time + cpu_hold plans costs h a.class a.op (kind_at plans a.op)
     until_of n e =
@@ -90,13 +90,13 @@ module _ (plans : List Plan) (costs : CostModel) (h : List Timed) (a : Timed) (r
   -- a send with a request before it
   module _ (is : w.task ≡ task.Rendezvous) where
     large_send : IsSend plans a.op
-    large_send = send_of plans costs a.op w.task task_is (inr is)
+    large_send = send_task_is_of_send plans costs a.op w.task task_is (inr is)
 
     large : is_eager plans costs a.op ≡ false
-    large = rendezvous_of plans costs a.op w.task task_is is
+    large = rendezvous_task_is_not_eager plans costs a.op w.task task_is is
 
     pub large_message : IsMessage plans a.op w.to w.amount
-    large_message = is_message plans costs a.op w does large_send
+    large_message = send_work_is_message plans costs a.op w does large_send
 
     request_until : a.time + over_one plans costs a.op ≡ a.time + cpu_hold plans costs h a.class a.op (kind_at plans a.op)
     request_until =
@@ -123,6 +123,6 @@ module _ (plans : List Plan) (costs : CostModel) (h : List Timed) (a : Timed) (r
   -- no receive begins
   pub no_receive : w.task ≡ task.Receive → ⊥
   no_receive is =
-      let receive = receive_of plans costs a.op w.task task_is is in
+      let receive = receive_task_is_of_receive plans costs a.op w.task task_is is in
       let kinds = allowed_begin plans (is_eager plans costs) (plain h) a.op (subst (λ (k : Class). allowed plans (is_eager plans costs) (plain h) k a.op ≡ true) begins p.allowed) in
       elim kinds.0 [ inl calc ↦ not_receive_calc plans a.op receive calc | inr send ↦ not_send_receive plans a.op send receive ]

@@ -23,12 +23,12 @@ use Rattle.sim_state.specs.Tasks.{work_of}
 use Rattle.sim_state.specs.Tables.{with_times}
 use Rattle.sim_state.specs.Represents.{AreFreeTimes, KnowsPostsAndArrivals, entry_known, entry_then, times_known}
 use Rattle.sim_state.proofs.Entries.{posted, arrived, data_sent, message_taken, sender_exists, receiver_exists}
-use Rattle.sim_state.proofs.Fits.{cpu_fits, tx_fits, rx_fits, bytes_fit, sends, posts, arrives, serves}
+use Rattle.sim_state.proofs.Fits.{cpu_fits, tx_fits, rx_fits, bytes_fit, data_is_of_paired_rendezvous_send, post_is_of_receive, arrives, serve_is_of_served_receive}
 use Rattle.sim_state.proofs.FreeTimes.{free_same, free_send, free_serve}
 use Rattle.sim_state.proofs.HoldTimes.{cpu_of_data, tx_of_data, sends_at_data, cpu_of_serve, rx_of_serve}
 use Rattle.sim_state.proofs.Pairings.{served_mate}
 use Rattle.sim_state.proofs.PostsAndArrivals.{post_known, arrival_known, possible_not_happened_in_matcher}
-use Rattle.sim_state.proofs.Tasks.{is_message}
+use Rattle.sim_state.proofs.Tasks.{send_work_is_message}
 
 module _ (plans : List Plan) (costs : CostModel) (h : List Timed) (a : Timed) where
   -- the times of the action's operation before it
@@ -53,7 +53,7 @@ module _ (plans : List Plan) (costs : CostModel) (h : List Timed) (a : Timed) (r
   module _ (m : PostsAndArrivals) (knows : KnowsPostsAndArrivals plans costs h m) (is : a.class ≡ Post) where
     pub post_receive : IsReceive m.plans a.op
     post_receive =
-        subst (λ (ps : List Plan). IsReceive ps a.op) (sym knows.same_plans) (posts plans costs h a run p is)
+        subst (λ (ps : List Plan). IsReceive ps a.op) (sym knows.same_plans) (post_is_of_receive plans costs h a run p is)
 
     pub post_fresh : happened Post a.op m.actions ≡ false
     post_fresh = possible_not_happened_in_matcher plans costs h a m knows Post p is refl
@@ -63,7 +63,7 @@ module _ (plans : List Plan) (costs : CostModel) (h : List Timed) (a : Timed) (r
         let taken : partner ≡ send_for plans (filter is_post_or_arrival (plain h)) a.op = told ∙ (λ i. send_for (knows.same_plans i) (knows.events i) a.op) in
         subst (λ (t : Times). IsChange plans costs h a (record { times = t; partner = partner })) (sym e) (record {
           exists = sender_exists plans costs h a run p partner is taken;
-          known = posted plans costs h a run p (entry_known plans costs h a.op) refl partner is (posts plans costs h a run p is) taken;
+          known = posted plans costs h a run p (entry_known plans costs h a.op) refl partner is (post_is_of_receive plans costs h a run p is) taken;
         })
 
     pub post_free : (r : Holds) → AreFreeTimes plans costs h r → AreFreeTimes plans costs (a ∷ h) r
@@ -100,10 +100,10 @@ module _ (plans : List Plan) (costs : CostModel) (h : List Timed) (a : Timed) (r
   -- a rendezvous send transfers its data
   module _ (is : a.class ≡ Data) (w : Work) (does : w ≡ work_of plans costs a.op) where
     send : IsSend plans a.op
-    send = (sends plans costs h a run p is).0
+    send = (data_is_of_paired_rendezvous_send plans costs h a run p is).0
 
     pub data_message : IsMessage plans a.op w.to w.amount
-    data_message = is_message plans costs a.op w does send
+    data_message = send_work_is_message plans costs a.op w does send
 
     data_until : (n : ℕ) → n ≡ a.time + over plans costs a.op → n ≡ a.time + cpu_hold plans costs h a.class a.op (kind_at plans a.op)
     data_until n e = e ∙ ap (λ (n : ℕ). a.time + n) (sym (cpu_of_data plans costs h a.class a.op send is))
@@ -120,7 +120,7 @@ module _ (plans : List Plan) (costs : CostModel) (h : List Timed) (a : Timed) (r
 
     pub data_known : (until there : ℕ) → until ≡ a.time + over plans costs a.op → there ≡ a.time + flight plans costs a.op → (t : Times) → t ≡ record (before plans costs h a) { end = Some until; awaited = Some there } → Known plans costs h a t
     data_known until there ends arrives t e =
-        subst (Known plans costs h a) (sym e) (data_sent plans costs h a run p (entry_known plans costs h a.op) refl until (data_until until ends) there is send (sends plans costs h a run p is).1 arrives)
+        subst (Known plans costs h a) (sym e) (data_sent plans costs h a run p (entry_known plans costs h a.op) refl until (data_until until ends) there is send (data_is_of_paired_rendezvous_send plans costs h a run p is).1 arrives)
 
     pub data_free : (r s : Holds) (until : ℕ) → until ≡ a.time + over plans costs a.op → AreFreeTimes plans costs h r → SameFreeTimes s (hold_tx (hold_cpu r a.op until) a.op (a.time + gap plans costs a.op)) → AreFreeTimes plans costs (a ∷ h) s
     data_free r s until ends free after =
@@ -129,7 +129,7 @@ module _ (plans : List Plan) (costs : CostModel) (h : List Timed) (a : Timed) (r
   -- a receive takes its message
   module _ (is : a.class ≡ Serve) where
     receive : IsReceive plans a.op
-    receive = (serves plans costs h a run p is).0
+    receive = (serve_is_of_served_receive plans costs h a run p is).0
 
     pub serve_receive : IsReceive plans a.op
     serve_receive = receive
@@ -137,7 +137,7 @@ module _ (plans : List Plan) (costs : CostModel) (h : List Timed) (a : Timed) (r
     -- it has a partner
     pub paired : (o : Option OpId) → o ≡ mate plans costs h a.op → ((m : OpId) → o ≡ Some m → ⊥) → ⊥
     paired o e none =
-        let told = served_mate plans costs h a a.op (serves plans costs h a run p is).1 in none told.0 (e ∙ told.1)
+        let told = served_mate plans costs h a a.op (serve_is_of_served_receive plans costs h a run p is).1 in none told.0 (e ∙ told.1)
 
     module _ (m : OpId) (known : Some m ≡ mate plans costs h a.op) where
       partner : mate plans costs h a.op ≡ Some m
@@ -150,7 +150,7 @@ module _ (plans : List Plan) (costs : CostModel) (h : List Timed) (a : Timed) (r
       sender_is_op = send_is_op plans m sender
 
       pub taken_message : (w : Work) → w ≡ work_of plans costs m → IsMessage plans m w.to w.amount
-      taken_message w does = is_message plans costs m w does sender
+      taken_message w does = send_work_is_message plans costs m w does sender
 
       serve_until : (n : ℕ) → n ≡ a.time + over plans costs m → n ≡ a.time + cpu_hold plans costs h a.class a.op (kind_at plans a.op)
       serve_until n e =

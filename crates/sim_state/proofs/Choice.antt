@@ -50,8 +50,8 @@ module _ (plans : List Plan) (costs : CostModel) (h : List Timed) (x : OpId) whe
           subst IsEnabledAction (sym (cond-false _ (Some (at_its_time plans costs h c x)) None f)) (λ d. false_from_ne_true _ (λ t. both_ways _ f (subst Can (only d t) t)))
 
   -- where that class is allowed, its enabled action is the one of x
-  first_of : (c : Class) (rest : Option Timed) → ((Can c → ⊥) → IsEnabledAction rest) → IsEnabledAction (option_or (enabled_action plans costs h c x) rest)
-  first_of c rest other = go (cases_Bool (allowed plans (is_eager plans costs) (plain h) c x))
+  enabled_action_of_class_else_rest : (c : Class) (rest : Option Timed) → ((Can c → ⊥) → IsEnabledAction rest) → IsEnabledAction (option_or (enabled_action plans costs h c x) rest)
+  enabled_action_of_class_else_rest c rest other = go (cases_Bool (allowed plans (is_eager plans costs) (plain h) c x))
     where
       go : (Can c) ⊎ (allowed plans (is_eager plans costs) (plain h) c x ≡ false) → IsEnabledAction (option_or (enabled_action plans costs h c x) rest)
       go (inl t) =
@@ -99,12 +99,12 @@ module _ (plans : List Plan) (costs : CostModel) (h : List Timed) (x : OpId) whe
   pub begun_send_choice : IsSend plans x → has_started plans x (plain h) ≡ true → (a b r : Option Timed) → a ≡ enabled_action plans costs h Arrive x → b ≡ enabled_action plans costs h Data x → r ≡ option_or a b → IsEnabledAction r
   begun_send_choice k s a b r ae be re =
       let not_begin : Can Begin → ⊥ = λ e. both_ways _ (allowed_fresh plans (is_eager plans costs) (plain h) Begin x e) (sym (started_send plans (plain h) x k) ∙ s) in
-      let enabled = first_of Arrive (enabled_action plans costs h Data x) (λ na. enabled_of_class Data (send_may_else_only_data k not_begin na)) in
+      let enabled = enabled_action_of_class_else_rest Arrive (enabled_action plans costs h Data x) (λ na. enabled_of_class Data (send_may_else_only_data k not_begin na)) in
       let parts : r ≡ option_or (enabled_action plans costs h Arrive x) (enabled_action plans costs h Data x) = re ∙ (λ i. option_or (ae i) (be i)) in
       subst IsEnabledAction (sym parts) enabled
 
   pub receive_choice : IsReceive plans x → (a b r : Option Timed) → a ≡ enabled_action plans costs h Post x → b ≡ enabled_action plans costs h Serve x → r ≡ option_or a b → IsEnabledAction r
   receive_choice k a b r ae be re =
-      let enabled = first_of Post (enabled_action plans costs h Serve x) (λ np. enabled_of_class Serve (receive_may_else_only_serve k np)) in
+      let enabled = enabled_action_of_class_else_rest Post (enabled_action plans costs h Serve x) (λ np. enabled_of_class Serve (receive_may_else_only_serve k np)) in
       let parts : r ≡ option_or (enabled_action plans costs h Post x) (enabled_action plans costs h Serve x) = re ∙ (λ i. option_or (ae i) (be i)) in
       subst IsEnabledAction (sym parts) enabled

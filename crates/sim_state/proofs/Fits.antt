@@ -54,24 +54,24 @@ module _ (plans : List Plan) (costs : CostModel) (h : List Timed) (a : Timed) (r
   flight_of_request e s large = subst (λ (b : Bool). a.time + (if b then flight plans costs a.op else flight_one plans costs a.op) ≤ budget plans costs) large (flight_fits e s)
 
   -- Data is of a rendezvous send
-  pub sends : a.class ≡ Data → IsSend plans a.op × (is_eager plans costs a.op ≡ false) × (is_paired (pairs plans (plain h)) a.op ≡ true)
-  sends e = allowed_data plans (is_eager plans costs) (plain h) a.op (subst (λ (c : Class). allowed plans (is_eager plans costs) (plain h) c a.op ≡ true) e p.allowed)
+  pub data_is_of_paired_rendezvous_send : a.class ≡ Data → IsSend plans a.op × (is_eager plans costs a.op ≡ false) × (is_paired (pairs plans (plain h)) a.op ≡ true)
+  data_is_of_paired_rendezvous_send e = allowed_data plans (is_eager plans costs) (plain h) a.op (subst (λ (c : Class). allowed plans (is_eager plans costs) (plain h) c a.op ≡ true) e p.allowed)
 
   -- Post is of a receive, Arrive of a send
-  pub posts : a.class ≡ Post → IsReceive plans a.op
-  posts e = (allowed_post plans (is_eager plans costs) (plain h) a.op (subst (λ (c : Class). allowed plans (is_eager plans costs) (plain h) c a.op ≡ true) e p.allowed)).0
+  pub post_is_of_receive : a.class ≡ Post → IsReceive plans a.op
+  post_is_of_receive e = (allowed_post plans (is_eager plans costs) (plain h) a.op (subst (λ (c : Class). allowed plans (is_eager plans costs) (plain h) c a.op ≡ true) e p.allowed)).0
 
   pub arrives : a.class ≡ Arrive → IsSend plans a.op
   arrives e = (allowed_arrive plans (is_eager plans costs) (plain h) a.op (subst (λ (c : Class). allowed plans (is_eager plans costs) (plain h) c a.op ≡ true) e p.allowed)).0
 
   -- Serve is of a receive that is paired
-  pub serves : a.class ≡ Serve → IsReceive plans a.op × (is_served plans (is_eager plans costs) (plain h) (mate plans costs h a.op) ≡ true)
-  serves e = allowed_serve plans (is_eager plans costs) (plain h) a.op (subst (λ (c : Class). allowed plans (is_eager plans costs) (plain h) c a.op ≡ true) e p.allowed)
+  pub serve_is_of_served_receive : a.class ≡ Serve → IsReceive plans a.op × (is_served plans (is_eager plans costs) (plain h) (mate plans costs h a.op) ≡ true)
+  serve_is_of_served_receive e = allowed_serve plans (is_eager plans costs) (plain h) a.op (subst (λ (c : Class). allowed plans (is_eager plans costs) (plain h) c a.op ≡ true) e p.allowed)
 
   -- the bytes of a rendezvous send are at its receive within the budget
   pub bytes_fit : a.class ≡ Data → a.time + flight plans costs a.op ≤ budget plans costs
   unfolding time
-  bytes_fit e = go (sends e)
+  bytes_fit e = go (data_is_of_paired_rendezvous_send e)
     where
       eager : OpId → Bool
       eager = is_eager plans costs

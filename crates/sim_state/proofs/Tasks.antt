@@ -44,8 +44,8 @@ module _ (plans : List Plan) (costs : CostModel) (x : OpId) where
   receive_not_send false e = cc
 
   -- what is of the task of a calc, of a send, of a receive
-  pub calc_of : (s : Task) → s ≡ task_of plans costs x → s ≡ task.Calc → IsOp plans x → IsCalc plans x
-  calc_of s e f is_op = go (kind_at plans x) refl (sym f ∙ e)
+  pub calc_task_is_of_calc : (s : Task) → s ≡ task_of plans costs x → s ≡ task.Calc → IsOp plans x → IsCalc plans x
+  calc_task_is_of_calc s e f is_op = go (kind_at plans x) refl (sym f ∙ e)
     where
       go : (k : Option Kind) → kind_at plans x ≡ k → task.Calc ≡ task_by k → IsCalc plans x
       go None k s = absurd (has_kind is_op k)
@@ -53,8 +53,8 @@ module _ (plans : List Plan) (costs : CostModel) (x : OpId) where
       go (Some (Send bytes to tag)) k s = absurd (calc_not_send (is_eager plans costs x) s)
       go (Some (Recv room from tag)) k s = absurd (cc)
 
-  pub receive_of : (s : Task) → s ≡ task_of plans costs x → s ≡ task.Receive → IsReceive plans x
-  receive_of s e f = go (kind_at plans x) refl (sym f ∙ e)
+  pub receive_task_is_of_receive : (s : Task) → s ≡ task_of plans costs x → s ≡ task.Receive → IsReceive plans x
+  receive_task_is_of_receive s e f = go (kind_at plans x) refl (sym f ∙ e)
     where
       go : (k : Option Kind) → kind_at plans x ≡ k → task.Receive ≡ task_by k → IsReceive plans x
       go None k s = absurd (cc)
@@ -62,8 +62,8 @@ module _ (plans : List Plan) (costs : CostModel) (x : OpId) where
       go (Some (Send bytes to tag)) k s = absurd (receive_not_send (is_eager plans costs x) s)
       go (Some (Recv room from tag)) k s = record { room = room; from = from; tag = tag; kind = k }
 
-  pub send_of : (s : Task) → s ≡ task_of plans costs x → (s ≡ task.Eager) ⊎ (s ≡ task.Rendezvous) → IsSend plans x
-  send_of s e f = go (kind_at plans x) refl f
+  pub send_task_is_of_send : (s : Task) → s ≡ task_of plans costs x → (s ≡ task.Eager) ⊎ (s ≡ task.Rendezvous) → IsSend plans x
+  send_task_is_of_send s e f = go (kind_at plans x) refl f
     where
       go : (k : Option Kind) → kind_at plans x ≡ k → (s ≡ task.Eager) ⊎ (s ≡ task.Rendezvous) → IsSend plans x
       go None k (inl f) = let d = sym f ∙ e ∙ ap task_by k in absurd (cc d)
@@ -75,15 +75,15 @@ module _ (plans : List Plan) (costs : CostModel) (x : OpId) where
       go (Some (Recv room from tag)) k (inr f) = let d = sym f ∙ e ∙ ap task_by k in absurd (cc d)
 
   -- sends of one task are eager, and those of the other are not
-  pub eager_of : (s : Task) → s ≡ task_of plans costs x → s ≡ task.Eager → is_eager plans costs x ≡ true
-  eager_of s e f = go (is_eager plans costs x) (send_task _ (send_of s e (inl f)) refl ∙ sym e ∙ f)
+  pub eager_task_is_eager : (s : Task) → s ≡ task_of plans costs x → s ≡ task.Eager → is_eager plans costs x ≡ true
+  eager_task_is_eager s e f = go (is_eager plans costs x) (send_task _ (send_task_is_of_send s e (inl f)) refl ∙ sym e ∙ f)
     where
       go : (b : Bool) → (if b then task.Eager else task.Rendezvous) ≡ task.Eager → b ≡ true
       go true d = refl
       go false d = absurd (cc)
 
-  pub rendezvous_of : (s : Task) → s ≡ task_of plans costs x → s ≡ task.Rendezvous → is_eager plans costs x ≡ false
-  rendezvous_of s e f = go (is_eager plans costs x) (send_task _ (send_of s e (inr f)) refl ∙ sym e ∙ f)
+  pub rendezvous_task_is_not_eager : (s : Task) → s ≡ task_of plans costs x → s ≡ task.Rendezvous → is_eager plans costs x ≡ false
+  rendezvous_task_is_not_eager s e f = go (is_eager plans costs x) (send_task _ (send_task_is_of_send s e (inr f)) refl ∙ sym e ∙ f)
     where
       go : (b : Bool) → (if b then task.Eager else task.Rendezvous) ≡ task.Rendezvous → b ≡ false
       go true d = absurd (cc)
@@ -95,8 +95,8 @@ module _ (plans : List Plan) (costs : CostModel) (x : OpId) where
       calc.kind ∙ ap (λ (v : Work). Some (Calc v.amount)) (sym (e ∙ ap (work_by plans costs x) calc.kind))
 
   -- a send is a message of this size to its target
-  pub is_message : (w : Work) → w ≡ work_of plans costs x → IsSend plans x → IsMessage plans x w.to w.amount
-  is_message w e send = record {
+  pub send_work_is_message : (w : Work) → w ≡ work_of plans costs x → IsSend plans x → IsMessage plans x w.to w.amount
+  send_work_is_message w e send = record {
     tag = send.tag;
     kind = send.kind ∙ ap (λ (v : Work). Some (Send v.amount v.to send.tag)) (sym (e ∙ ap (work_by plans costs x) send.kind));
   }

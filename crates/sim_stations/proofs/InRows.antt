@@ -135,27 +135,27 @@ module _ (rows : Grouped Timed) (heads : List (Option Timed)) (pairs : List Pair
   pub held_heads : (p : Pair) (cpu side : ℕ) (now : List (Option Timed)) → AreBothTold rows (held free p cpu side) heads now p → AreHeads rows now (held free p cpu side)
   held_heads p cpu side now told = heads_after_pair_held rows heads free p are.each are.few cpu side now told (λ r l n m. are.headed r l)
 
-  pub long : length rows.keys ≡ 2 * length turned
-  long = omega (arith, inside.each, inside.both)
+  pub row_keys_are_two_per_station : length rows.keys ≡ 2 * length turned
+  row_keys_are_two_per_station = omega (arith, inside.each, inside.both)
 
   pub side_resource_exists : (s : ℕ) (p : Pair) (b : Bool) → slice_get pairs s ≡ Some p → side_of p b < length free
   side_resource_exists s p false e = (inside.exist s p e).0
   side_resource_exists s p true e = (inside.exist s p e).1
 
-  pub member : (s : ℕ) (p : Pair) (b : Bool) → slice_get pairs s ≡ Some p → slice_get rows.groups (place_in s b) ≡ Some (side_of p b)
-  member s p b e = ap (λ gs. slice_get gs (place_in s b)) inside.groups ∙ side_at_station_place pairs s b p e
+  pub group_at_place_is_side_resource : (s : ℕ) (p : Pair) (b : Bool) → slice_get pairs s ≡ Some p → slice_get rows.groups (place_in s b) ≡ Some (side_of p b)
+  group_at_place_is_side_resource s p b e = ap (λ gs. slice_get gs (place_in s b)) inside.groups ∙ side_at_station_place pairs s b p e
 
   module _ (s : ℕ) (p : Pair) (at : slice_get pairs s ≡ Some p) where
     station_in : s < length turned
     station_in = omega (arith, slice_get_within pairs s p at, inside.both)
 
     pub place_ok : (b : Bool) → place_in s b < length rows.keys
-    place_ok b = omega (arith, place_within s (length turned) b station_in, long)
+    place_ok b = omega (arith, place_within s (length turned) b station_in, row_keys_are_two_per_station)
 
     -- a slot of another resource is another slot
     apart : (b : Bool) (slot r : ℕ) → r ≢ side_of p b → slice_get rows.groups slot ≡ Some r → slot ≢ place_in s b
     apart b slot r n e same =
-        n (same_Some r (side_of p b) (sym e ∙ ap (slice_get rows.groups) same ∙ member s p b at))
+        n (same_Some r (side_of p b) (sym e ∙ ap (slice_get rows.groups) same ∙ group_at_place_is_side_resource s p b at))
 
     -- One key is changed at the place of the station.
     module _ (value : Option Timed) (zero : (k : Timed) → value ≡ Some k → k.time ≡ 0) (new : Grouped Timed) (is_new : new ≡ with_key rows (place_in s (turned_at turned s)) value) where
@@ -216,7 +216,7 @@ module _ (rows : Grouped Timed) (heads : List (Option Timed)) (pairs : List Pair
               subst (IsHead new r (slice_index free r)) (sym (told.others r n)) (head_there r (slice_index free r) (key_at heads r) n (are.headed r l))
 
       pub written_seen : seen turned new.keys ≡ set (seen turned rows.keys) s value
-      written_seen = ap (seen turned) keys_are ∙ seen_written turned rows.keys long s station_in value
+      written_seen = ap (seen turned) keys_are ∙ seen_written turned rows.keys row_keys_are_two_per_station s station_in value
 
       -- so are they after its resources were also held
       pub left_heads : (cpu side : ℕ) (now : List (Option Timed)) → AreBothTold new (held free p cpu side) heads now p → AreHeads new now (held free p cpu side)
@@ -228,7 +228,7 @@ module _ (rows : Grouped Timed) (heads : List (Option Timed)) (pairs : List Pair
 
     -- the key of the station is at time 0
     pub key_zero : (key : Timed) → key_at (seen turned rows.keys) s ≡ Some key → key.time ≡ 0
-    key_zero key has = inside.at_zero (place_in s (turned_at turned s)) key (sym (station_key_at_turned_place turned rows.keys long s) ∙ has)
+    key_zero key has = inside.at_zero (place_in s (turned_at turned s)) key (sym (station_key_at_turned_place turned rows.keys row_keys_are_two_per_station s) ∙ has)
 
     -- The station switches with its key.
     module _ (key : Timed) (has : key_at (seen turned rows.keys) s ≡ Some key) (mid new : Grouped Timed) (is_mid : mid ≡ with_key rows (place_in s (turned_at turned s)) None) (is_new : new ≡ with_key mid (place_in s (not (turned_at turned s))) (Some key)) where
@@ -316,4 +316,4 @@ module _ (rows : Grouped Timed) (heads : List (Option Timed)) (pairs : List Pair
 
       pub turned_seen : seen over new.keys ≡ seen turned rows.keys
       turned_seen =
-          ap (seen over) keys_over ∙ ap (λ v. seen over (set (set rows.keys from None) to v)) (sym has) ∙ seen_turned turned rows.keys long s station_in
+          ap (seen over) keys_over ∙ ap (λ v. seen over (set (set rows.keys from None) to v)) (sym has) ∙ seen_turned turned rows.keys row_keys_are_two_per_station s station_in

@@ -48,15 +48,15 @@ count_ahead_after_stand_set stands slot was now l e =
     ap (λ s. count_ahead (set stands slot now) + one_ahead s) (sym e) ∙ sum_by-set one_ahead stands slot now Nowhere l
 
 module _ (ahead : List (Option Timed)) (waiting : Grouped Timed) (rows : Rowed) (stands : List KeyPlace) (kept : IsKept ahead waiting rows stands) (slot : ℕ) (key : Timed) (has : key_at ahead slot ≡ Some key) where
-  within : slot < length waiting.keys
-  within = omega (arith, key_within ahead slot key has, kept.mapped.each)
+  slot_within_waiting_keys : slot < length waiting.keys
+  slot_within_waiting_keys = omega (arith, key_within ahead slot key has, kept.mapped.each)
 
   was_ahead : slice_index_or stands slot Nowhere ≡ Ahead
   was_ahead = kept.stood.tells slot ∙ ap (λ o. stand_of o (key_at waiting.keys slot)) has
 
   pub one_fewer_ahead_after_join : count_ahead (set stands slot Waiting) + 1 ≡ count_ahead stands
   one_fewer_ahead_after_join =
-      let moved = count_ahead_after_stand_set stands slot Ahead Waiting (omega (arith, within, kept.stood.each)) was_ahead in
+      let moved = count_ahead_after_stand_set stands slot Ahead Waiting (omega (arith, slot_within_waiting_keys, kept.stood.each)) was_ahead in
       omega (arith, moved)
 
   module _ (waits : holds_cpu key.class ≡ true) (late : (station : ℕ) → slice_get waiting.groups slot ≡ Some station → key.time ≤ both_free rows.free (pair_at rows.pairs station)) (new_ahead : List (Option Timed)) (new_waiting : Grouped Timed) (new_rows : Rowed) (taken : new_ahead ≡ set ahead slot None) (put : new_waiting ≡ record { keys = set waiting.keys slot (Some (at_time 0 key)); groups = waiting.groups }) (shown : AreShown new_waiting new_rows.keys (length new_rows.pairs)) (keyed : length new_rows.keys ≡ length new_rows.pairs) (pairs : new_rows.pairs ≡ rows.pairs) (turned : new_rows.turned ≡ rows.turned) (free : new_rows.free ≡ rows.free) where
@@ -64,16 +64,16 @@ module _ (ahead : List (Option Timed)) (waiting : Grouped Timed) (rows : Rowed) 
     idle_now = ap (λ ks. key_at ks slot) taken ∙ get_or-set_same ahead slot None None (key_within ahead slot key has)
 
     step : IsStep slot ahead new_ahead waiting new_waiting
-    step = step_waiting ahead waiting rows.pairs kept.mapped slot new_ahead (Some (at_time 0 key)) new_waiting within (ap length taken ∙ length-set ahead slot None) (λ one n. ap (λ ks. key_at ks one) taken ∙ get_or-set_other ahead slot one None None n) idle_now (λ k e. let same = same_Some (at_time 0 key) k e in (sym (ap (λ (t : Timed). t.time) same), ap (λ (t : Timed). holds_cpu t.class) (sym same) ∙ waits)) put
+    step = step_waiting ahead waiting rows.pairs kept.mapped slot new_ahead (Some (at_time 0 key)) new_waiting slot_within_waiting_keys (ap length taken ∙ length-set ahead slot None) (λ one n. ap (λ ks. key_at ks one) taken ∙ get_or-set_other ahead slot one None None n) idle_now (λ k e. let same = same_Some (at_time 0 key) k e in (sym (ap (λ (t : Timed). t.time) same), ap (λ (t : Timed). holds_cpu t.class) (sym same) ∙ waits)) put
 
     has_now : key_at new_waiting.keys slot ≡ Some (at_time 0 key)
-    has_now = waiting_key_after_set ahead waiting rows.pairs kept.mapped slot (Some (at_time 0 key)) new_waiting within put
+    has_now = waiting_key_after_set ahead waiting rows.pairs kept.mapped slot (Some (at_time 0 key)) new_waiting slot_within_waiting_keys put
 
     stand_now : Waiting ≡ stand_of (key_at new_ahead slot) (key_at new_waiting.keys slot)
     stand_now = sym (ap (λ o. stand_of o (key_at new_waiting.keys slot)) idle_now ∙ ap (stand_of None) has_now)
 
     pub joined_kept : IsKept new_ahead new_waiting new_rows (set stands slot Waiting)
-    joined_kept = kept_with_new_slots_and_rows ahead waiting rows stands new_ahead new_waiting new_rows (set stands slot Waiting) kept step.each_waiting (still_mapped ahead waiting rows.pairs kept.mapped slot new_ahead new_waiting step) shown keyed (stood_now ahead waiting rows.pairs kept.mapped slot new_ahead new_waiting step stands kept.stood within Waiting stand_now) pairs (ap length turned) (ap length free)
+    joined_kept = kept_with_new_slots_and_rows ahead waiting rows stands new_ahead new_waiting new_rows (set stands slot Waiting) kept step.each_waiting (still_mapped ahead waiting rows.pairs kept.mapped slot new_ahead new_waiting step) shown keyed (stood_now ahead waiting rows.pairs kept.mapped slot new_ahead new_waiting step stands kept.stood slot_within_waiting_keys Waiting stand_now) pairs (ap length turned) (ap length free)
 
     abbrev pair : Pair
     pair = pair_here rows.pairs waiting slot
@@ -82,7 +82,7 @@ module _ (ahead : List (Option Timed)) (waiting : Grouped Timed) (rows : Rowed) 
     same_here =
         let left : merged new_ahead new_waiting slot ≡ Some (at_time 0 key) = merged_waiting new_ahead new_waiting slot idle_now ∙ has_now in
         let right : merged ahead waiting slot ≡ Some key = merged_ahead ahead waiting slot key has in
-        let free_then : key.time ≤ both_free rows.free pair = late (slice_index waiting.groups slot) (station_of ahead waiting rows.pairs kept.mapped slot within) in
+        let free_then : key.time ≤ both_free rows.free pair = late (slice_index waiting.groups slot) (station_of ahead waiting rows.pairs kept.mapped slot slot_within_waiting_keys) in
         ap (option_map (when_free rows.free pair)) left ∙ ap Some (own_time_forgotten_if_free_later rows.free pair key waits free_then) ∙ sym (ap (option_map (when_free rows.free pair)) right)
 
     abbrev now : List (Option Timed)

@@ -10,7 +10,7 @@ use Rattle.goal_graph.proofs.ForCallers.{operations_at_two_places_differ}
 use Rattle.sim_order.specs.Events.{event_before}
 use Rattle.sim_order.specs.EventLaws.{event_laws}
 use Rattle.sim_queue.specs.Map.{key_at, IsEmptyMap, IsLeast, IsSoleLeast}
-use Rattle.sim_queue.proofs.ForCallers.{through, key_within}
+use Rattle.sim_queue.proofs.ForCallers.{not_before_transitive, key_within}
 use Rattle.sim_queue.specs.Groups.{Grouped, IsLeastOf, IsSoleLeastOf}
 use Rattle.sim_resources.specs.declared.pair.Pair.{Pair}
 use Rattle.sim_stations.specs.declared.key_place.KeyPlace.{KeyPlace}
@@ -38,16 +38,16 @@ module _ (ahead : List (Option Timed)) (waiting : Grouped Timed) (rows : Rowed) 
   abbrev pair_for : ℕ → Pair
   pair_for i = pair_here rows.pairs waiting i
 
-  here : (i : ℕ) → key_at seen i ≡ option_map (when_free rows.free (pair_for i)) (merged ahead waiting i)
-  here i = seen_key_of_mapped_slot ahead waiting rows.pairs kept.mapped rows.free i
+  seen_key_is_merged_key_when_free : (i : ℕ) → key_at seen i ≡ option_map (when_free rows.free (pair_for i)) (merged ahead waiting i)
+  seen_key_is_merged_key_when_free i = seen_key_of_mapped_slot ahead waiting rows.pairs kept.mapped rows.free i
 
   pub seen_ahead : (slot : ℕ) (k : Timed) → key_at ahead slot ≡ Some k → key_at seen slot ≡ Some (when_free rows.free (pair_for slot) k)
   seen_ahead slot k e =
-      here slot ∙ ap (option_map (when_free rows.free (pair_for slot))) (merged_ahead ahead waiting slot k e)
+      seen_key_is_merged_key_when_free slot ∙ ap (option_map (when_free rows.free (pair_for slot))) (merged_ahead ahead waiting slot k e)
 
   pub seen_waiting : (slot : ℕ) (k : Timed) → key_at waiting.keys slot ≡ Some k → key_at seen slot ≡ Some (when_free rows.free (pair_for slot) k)
   seen_waiting slot k e =
-      here slot ∙ ap (option_map (when_free rows.free (pair_for slot))) (merged_waiting ahead waiting slot (not_ahead ahead waiting rows.pairs kept.mapped slot k e) ∙ e)
+      seen_key_is_merged_key_when_free slot ∙ ap (option_map (when_free rows.free (pair_for slot))) (merged_waiting ahead waiting slot (not_ahead ahead waiting rows.pairs kept.mapped slot k e) ∙ e)
 
   shown_at : (station : ℕ) (w : Timed) → key_at rows.keys station ≡ Some w → shown rows station ≡ Some (at_time (slice_index rows.free (side_of (pair_at rows.pairs station) (turned_at rows.turned station))) w)
   shown_at station w e =
@@ -100,9 +100,9 @@ module _ (ahead : List (Option Timed)) (waiting : Grouped Timed) (rows : Rowed) 
         go None (Some m) f g =
             let same : k ≡ when_free rows.free (pair_for slot) m = same_Some k (when_free rows.free (pair_for slot) m) (sym e ∙ seen_waiting slot m g) in
             let after = after_shown slot m g in
-            ap (λ x. event_before x key) same ∙ through event_before event_laws (when_free rows.free (pair_for slot) m) after.head key after.not_before (first.least_shown after.station after.head after.shows)
+            ap (λ x. event_before x key) same ∙ not_before_transitive event_before event_laws (when_free rows.free (pair_for slot) m) after.head key after.not_before (first.least_shown after.station after.head after.shows)
         go None None f g =
-            absurd (none-some k (sym (here slot ∙ ap (option_map (when_free rows.free (pair_for slot))) (merged_waiting ahead waiting slot f ∙ g)) ∙ e))
+            absurd (none-some k (sym (seen_key_is_merged_key_when_free slot ∙ ap (option_map (when_free rows.free (pair_for slot))) (merged_waiting ahead waiting slot f ∙ g)) ∙ e))
 
     pub in_ahead : is_ahead ≡ true → (slot : ℕ) × (key_at ahead slot ≡ Some key)
     in_ahead e = subst (IsSeenFirst ahead rows key) e first.seen
@@ -298,7 +298,7 @@ module _ (ahead : List (Option Timed)) (waiting : Grouped Timed) (rows : Rowed) 
     where
       go : (o : Option Timed) → key_at waiting.keys slot ≡ o → key_at seen slot ≡ None
       go None e =
-          here slot ∙ ap (option_map (when_free rows.free (pair_for slot))) (merged_waiting ahead waiting slot (none slot) ∙ e)
+          seen_key_is_merged_key_when_free slot ∙ ap (option_map (when_free rows.free (pair_for slot))) (merged_waiting ahead waiting slot (none slot) ∙ e)
       go (Some k) e =
           let after = after_shown slot k e in
           absurd (none-some after.head (sym (ap (option_map (at_time (slice_index rows.free (side_of (pair_at rows.pairs after.station) (turned_at rows.turned after.station))))) (no_row after.station)) ∙ after.shows))

@@ -37,17 +37,17 @@ changes_set (c ∷ turned) (m ∷ returns) zero b n l h = omega arith
 changes_set (c ∷ turned) (m ∷ returns) (suc s) b n l h =
     let rest = changes_set turned returns s b n (omega (arith, l)) (omega (arith, h)) in omega (arith, rest)
 
-abbrev next : Bool → ℕ → ℕ
-next false n = n
-next true n = n + 1
+abbrev return_count_after_switch : Bool → ℕ → ℕ
+return_count_after_switch false n = n
+return_count_after_switch true n = n + 1
 
-next_change : (b : Bool) (n : ℕ) → 2 * next b n + one_if (not b) ≡ 2 * n + one_if b + 1
+next_change : (b : Bool) (n : ℕ) → 2 * return_count_after_switch b n + one_if (not b) ≡ 2 * n + one_if b + 1
 next_change false n = omega arith
 next_change true n = omega arith
 
 module _ (free holds : List ℕ) (p : Pair) where
   -- a station switches only to a resource that is free later
-  returned_after_switch : (b : Bool) (n : ℕ) → HasReturned free holds p b n → slice_index free (side_of p b) < slice_index free (side_of p (not b)) → HasReturned free holds p (not b) (next b n)
+  returned_after_switch : (b : Bool) (n : ℕ) → HasReturned free holds p b n → slice_index free (side_of p b) < slice_index free (side_of p (not b)) → HasReturned free holds p (not b) (return_count_after_switch b n)
   returned_after_switch false n r late = record {
     to_cpu = r.to_cpu;
     to_side = r.may_go refl late;
@@ -66,13 +66,13 @@ module _ (pairs : List Pair) (free holds : List ℕ) where
   moved_by_one_switch turned returns have s p at late moves = record {
     now = now;
     have = record {
-      each = length-set returns s (next b n) ∙ have.each;
+      each = length-set returns s (return_count_after_switch b n) ∙ have.each;
       both = length-set turned s (not b) ∙ have.both;
       resources = have.resources;
       exist = have.exist;
       station = λ t q e. go t q e (cases_eq t s);
     };
-    counted = omega (arith, changes_set turned returns s (not b) (next b n) (have.both ∙ sym have.each) within, next_change b n);
+    counted = omega (arith, changes_set turned returns s (not b) (return_count_after_switch b n) (have.both ∙ sym have.each) within, next_change b n);
   }
     where
       b : Bool
@@ -82,7 +82,7 @@ module _ (pairs : List Pair) (free holds : List ℕ) where
       n = slice_index returns s
 
       now : List ℕ
-      now = set returns s (next b n)
+      now = set returns s (return_count_after_switch b n)
 
       within : s < length turned
       within = omega (arith, slice_get_within pairs s p at, have.both)
@@ -91,12 +91,12 @@ module _ (pairs : List Pair) (free holds : List ℕ) where
       go t q e (inl same) =
           let is : p ≡ q = same_Some p q (sym at ∙ ap (slice_get pairs) (sym same) ∙ e) in
           let turned_now : slice_index_or (set turned s (not b)) t false ≡ not b = ap (λ x. slice_index_or (set turned s (not b)) x false) same ∙ get_or-set_same turned s (not b) false within in
-          let now_is : slice_index now t ≡ next b n = ap (slice_index now) same ∙ get_or-set_same returns s (next b n) 0 (omega (arith, within, have.both, have.each)) in
-          let turn : HasReturned free holds q (not b) (next b n) = subst (λ x. HasReturned free holds x (not b) (next b n)) is (returned_after_switch free holds p b n (have.station s p at) late) in
+          let now_is : slice_index now t ≡ return_count_after_switch b n = ap (slice_index now) same ∙ get_or-set_same returns s (return_count_after_switch b n) 0 (omega (arith, within, have.both, have.each)) in
+          let turn : HasReturned free holds q (not b) (return_count_after_switch b n) = subst (λ x. HasReturned free holds x (not b) (return_count_after_switch b n)) is (returned_after_switch free holds p b n (have.station s p at) late) in
           subst (λ x. HasReturned free holds q x (slice_index now t)) (sym turned_now) (subst (HasReturned free holds q (not b)) (sym now_is) turn)
       go t q e (inr d) =
           let turned_now : slice_index_or (set turned s (not b)) t false ≡ slice_index_or turned t false = get_or-set_other turned s t (not b) false d in
-          let now_is : slice_index now t ≡ slice_index returns t = get_or-set_other returns s t (next b n) 0 d in
+          let now_is : slice_index now t ≡ slice_index returns t = get_or-set_other returns s t (return_count_after_switch b n) 0 d in
           subst (λ x. HasReturned free holds q x (slice_index now t)) (sym turned_now) (subst (HasReturned free holds q (slice_index_or turned t false)) (sym now_is) (have.station t q e))
 
   -- before any switch, and another switch after others

@@ -20,8 +20,8 @@ use Rattle.sim_stations.proofs.Slots.{seen_key_at_slot, seen_keys_length}
 use Rattle.sim_stations.proofs.Changed.{view}
 
 -- any entry of a replicated list is its element, if that is also the default
-alike : {X : Type 0} (n i : ℕ) (x : X) → get_or (replicate n x) i x ≡ x
-alike {X = X} n i x = go (cases_lt i n)
+get_or_of_replicate : {X : Type 0} (n i : ℕ) (x : X) → get_or (replicate n x) i x ≡ x
+get_or_of_replicate {X = X} n i x = go (cases_lt i n)
   where
     go : (i < n) ⊎ (n ≤ i) → get_or (replicate n x) i x ≡ x
     go (inl l) = get_or-replicate n i x x l
@@ -40,14 +40,14 @@ module _ (numbers : List ℕ) (pairs : List Pair) (resources : ℕ) (few_station
   abbrev at_first : Rowed
   at_first = record { keys = no_keys (length pairs); pairs = pairs; turned = replicate (length pairs) false; free = replicate resources 0 }
 
-  long : length none ≡ n
-  long = length-replicate {A = Option Timed} n None
+  length_of_empty_slots : length none ≡ n
+  length_of_empty_slots = length-replicate {A = Option Timed} n None
 
   kept : IsKept none idle at_first (replicate n Nowhere)
   kept = record {
     mapped = record {
       each = refl;
-      grouped = sym long;
+      grouped = sym length_of_empty_slots;
       within =
           λ slot s e.
           let l : slot < n = slice_get_within numbers slot s e in
@@ -57,20 +57,20 @@ module _ (numbers : List ℕ) (pairs : List Pair) (resources : ℕ) (few_station
     };
     shown = λ s l. subst (IsHead idle s 0) (sym (key_at_no_keys (length pairs) s)) (λ slot e. key_at_no_keys n slot);
     stood = record {
-      each = length-replicate {A = KeyPlace} n Nowhere ∙ sym long;
-      tells = λ slot. alike n slot Nowhere ∙ sym (ap (λ o. stand_of o (key_at none slot)) (key_at_no_keys n slot) ∙ ap (stand_of None) (key_at_no_keys n slot));
+      each = length-replicate {A = KeyPlace} n Nowhere ∙ sym length_of_empty_slots;
+      tells = λ slot. get_or_of_replicate n slot Nowhere ∙ sym (ap (λ o. stand_of o (key_at none slot)) (key_at_no_keys n slot) ∙ ap (stand_of None) (key_at_no_keys n slot));
     };
     keyed = length-replicate {A = Option Timed} (length pairs) None;
     placed = length-replicate {A = Bool} (length pairs) false;
-    few_stations = omega (arith, few_stations, long);
-    few_resources = omega (arith, few_resources, long, length-replicate {A = ℕ} resources 0);
+    few_stations = omega (arith, few_stations, length_of_empty_slots);
+    few_resources = omega (arith, few_resources, length_of_empty_slots, length-replicate {A = ℕ} resources 0);
   }
 
   no_slot_seen_at_start : seen_of none idle at_first ≡ none
-  no_slot_seen_at_start = same_maps (seen_of none idle at_first) none (seen_keys_length (replicate resources 0) pairs none none numbers refl (sym long)) (λ i l. seen_key_at_slot (replicate resources 0) pairs none none numbers refl (sym long) i ∙ ap (option_map (when_free (replicate resources 0) (pair_at pairs (slice_index numbers i)))) (ap (λ o. either o (key_at none i)) (key_at_no_keys n i) ∙ key_at_no_keys n i) ∙ sym (key_at_no_keys n i))
+  no_slot_seen_at_start = same_maps (seen_of none idle at_first) none (seen_keys_length (replicate resources 0) pairs none none numbers refl (sym length_of_empty_slots)) (λ i l. seen_key_at_slot (replicate resources 0) pairs none none numbers refl (sym length_of_empty_slots) i ∙ ap (option_map (when_free (replicate resources 0) (pair_at pairs (slice_index numbers i)))) (ap (λ o. either o (key_at none i)) (key_at_no_keys n i) ∙ key_at_no_keys n i) ∙ sym (key_at_no_keys n i))
 
-  unturned : HaveReturned pairs (replicate (length pairs) false) (replicate resources 0) (replicate resources 0) (replicate (length pairs) 0)
-  unturned = record {
+  have_returned_at_start : HaveReturned pairs (replicate (length pairs) false) (replicate resources 0) (replicate resources 0) (replicate (length pairs) 0)
+  have_returned_at_start = record {
     each = length-replicate {A = ℕ} (length pairs) 0;
     both = length-replicate {A = Bool} (length pairs) false;
     resources = refl;
@@ -80,10 +80,10 @@ module _ (numbers : List ℕ) (pairs : List Pair) (resources : ℕ) (few_station
     where
       one : (s : ℕ) (p : Pair) → HasReturned (replicate resources 0) (replicate resources 0) p (slice_index_or (replicate (length pairs) false) s false) (slice_index (replicate (length pairs) 0) s)
       one s p =
-          let turned : slice_index_or (replicate (length pairs) false) s false ≡ false = alike (length pairs) s false in
-          let returns : slice_index (replicate (length pairs) 0) s ≡ 0 = alike (length pairs) s 0 in
-          let cpu : slice_index (replicate resources 0) p.cpu ≡ 0 = alike resources p.cpu 0 in
-          let side : slice_index (replicate resources 0) p.side ≡ 0 = alike resources p.side 0 in
+          let turned : slice_index_or (replicate (length pairs) false) s false ≡ false = get_or_of_replicate (length pairs) s false in
+          let returns : slice_index (replicate (length pairs) 0) s ≡ 0 = get_or_of_replicate (length pairs) s 0 in
+          let cpu : slice_index (replicate resources 0) p.cpu ≡ 0 = get_or_of_replicate resources p.cpu 0 in
+          let side : slice_index (replicate resources 0) p.side ≡ 0 = get_or_of_replicate resources p.side 0 in
           record {
             to_cpu = omega (arith, returns);
             to_side = omega (arith, returns, ap one_if turned);
@@ -105,4 +105,4 @@ module _ (numbers : List ℕ) (pairs : List Pair) (resources : ℕ) (few_station
 
     pub new_returned : HaveReturned rows.pairs rows.turned rows.free (replicate resources 0) (replicate (length pairs) 0)
     new_returned =
-        subst (λ (x : Rowed). HaveReturned x.pairs x.turned x.free (replicate resources 0) (replicate (length pairs) 0)) (sym r) unturned
+        subst (λ (x : Rowed). HaveReturned x.pairs x.turned x.free (replicate resources 0) (replicate (length pairs) 0)) (sym r) have_returned_at_start

@@ -7,7 +7,7 @@ use Rattle.goal_graph.specs.declared.action.Timed.{Timed}
 use Rattle.sim_order.specs.Events.{event_before}
 use Rattle.sim_order.specs.EventLaws.{event_laws}
 use Rattle.sim_queue.specs.Map.{key_at}
-use Rattle.sim_queue.proofs.ForCallers.{through}
+use Rattle.sim_queue.proofs.ForCallers.{not_before_transitive}
 use Rattle.sim_queue.specs.Groups.{Grouped}
 use Rattle.sim_stations.specs.Stations.{at_time}
 use Rattle.sim_stations.specs.Rows.{IsHead}
@@ -92,6 +92,6 @@ module _ (waiting : Grouped Timed) (slot station : ℕ) (member : slice_get wait
         go one k e has (inl s) =
             let same : k ≡ key = same_Some k key (sym has ∙ ap (key_at new.keys) s ∙ key_of_changed_slot ∙ is_key) in
             let below : event_before other.first (at_time 0 h) ≡ false = is.0.least other.least.slot other.first other.least.member other.least.has in
-            ap (λ x. event_before x (at_time 0 h)) same ∙ through event_before event_laws key other.first (at_time 0 h) other.before below
+            ap (λ x. event_before x (at_time 0 h)) same ∙ not_before_transitive event_before event_laws key other.first (at_time 0 h) other.before below
         go one k e has (inr n) =
             is.0.least one k (ap (λ gs. slice_get gs one) (sym groups_unchanged_by_key) ∙ e) (sym (key_of_other_slot one n) ∙ has)

@@ -44,12 +44,12 @@ pub record IsPlace (pairs : List Pair) (i r : ℕ) : Type 0 where
   pub place : i ≡ place_in station turned
   pub side : r ≡ side_of pair turned
 
-pub place_of : (pairs : List Pair) (i r : ℕ) → slice_get (sides pairs) i ≡ Some r → IsPlace pairs i r
-place_of [] i r e = absurd (omega (arith, slice_get_within [] i r e))
-place_of (p ∷ pairs) zero r e = record { station = 0; turned = false; pair = p; at = refl; place = refl; side = same_Some r p.cpu (sym e) }
-place_of (p ∷ pairs) (suc zero) r e = record { station = 0; turned = true; pair = p; at = refl; place = refl; side = same_Some r p.side (sym e) }
-place_of (p ∷ pairs) (suc (suc i)) r e =
-    let q = place_of pairs i r e in
+pub index_in_sides_is_place : (pairs : List Pair) (i r : ℕ) → slice_get (sides pairs) i ≡ Some r → IsPlace pairs i r
+index_in_sides_is_place [] i r e = absurd (omega (arith, slice_get_within [] i r e))
+index_in_sides_is_place (p ∷ pairs) zero r e = record { station = 0; turned = false; pair = p; at = refl; place = refl; side = same_Some r p.cpu (sym e) }
+index_in_sides_is_place (p ∷ pairs) (suc zero) r e = record { station = 0; turned = true; pair = p; at = refl; place = refl; side = same_Some r p.side (sym e) }
+index_in_sides_is_place (p ∷ pairs) (suc (suc i)) r e =
+    let q = index_in_sides_is_place pairs i r e in
     record { station = suc q.station; turned = q.turned; pair = q.pair; at = q.at; place = omega (arith, q.place); side = q.side }
 
 pub one_if_le : (b : Bool) → one_if b ≤ 1

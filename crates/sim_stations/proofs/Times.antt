@@ -6,7 +6,7 @@ use Rattle.goal_graph.specs.Action.{place}
 use Rattle.sim_order.specs.Order.{lexical}
 use Rattle.sim_order.specs.Events.{event_before}
 use Rattle.sim_order.specs.EventLaws.{event_laws}
-use Rattle.sim_queue.proofs.ForCallers.{through}
+use Rattle.sim_queue.proofs.ForCallers.{not_before_transitive}
 use Rattle.sim_resources.specs.declared.pair.Pair.{Pair}
 use Rattle.sim_stations.specs.Stations.{holds_cpu, at_time, both_free, earliest, when_free, pair_at}
 use Rattle.sim_stations.proofs.Heads.{at_own_time_is_itself}
@@ -26,7 +26,7 @@ later_not_before t k l =
 
 -- an event not before another is not before it at a later time either
 pub not_before_at_later_time : (t : ℕ) (k x : Timed) → k.time ≤ t → event_before k x ≡ false → event_before (at_time t k) x ≡ false
-not_before_at_later_time t k x l e = through event_before event_laws (at_time t k) k x (later_not_before t k l) e
+not_before_at_later_time t k x l e = not_before_transitive event_before event_laws (at_time t k) k x (later_not_before t k l) e
 
 module _ (free : List ℕ) (p : Pair) where
   pub earliest_waits : (k : Timed) → holds_cpu k.class ≡ true → earliest free p k ≡ max k.time (both_free free p)

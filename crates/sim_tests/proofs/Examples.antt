@@ -37,9 +37,9 @@ unfoldable least : List Timed → Option Timed
 least [] = None
 least (a ∷ rest) = lesser a (least rest)
 
-abbrev after : (Timed → List Timed) → List Timed → Option Timed → List Timed
-after go h None = h
-after go h (Some a) = go a
+abbrev continue_or_stop : (Timed → List Timed) → List Timed → Option Timed → List Timed
+continue_or_stop go h None = h
+continue_or_stop go h (Some a) = go a
 
 module _ (plans : List Plan) (costs : CostModel) where
   abbrev candidate : List Timed → OpId → Class → List Timed
@@ -55,7 +55,7 @@ module _ (plans : List Plan) (costs : CostModel) where
   -- the run of at most n steps from a history
   unfoldable run_of : ℕ → List Timed → List Timed
   run_of zero h = h
-  run_of (suc n) h = after (λ a. run_of n (a ∷ h)) h (least (candidates h))
+  run_of (suc n) h = continue_or_stop (λ a. run_of n (a ∷ h)) h (least (candidates h))
 
   -- start, end and partner of an operation
   abbrev outcome_of : List Timed → OpId → (Option ℕ × Option ℕ × Option OpId)

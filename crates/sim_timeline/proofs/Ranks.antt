@@ -34,30 +34,30 @@ place_from first (p ∷ plans) (suc rank) op x inside =
     ∙ place_from (first + 1) plans rank op x inside
     ∙ ap (λ n. record { rank = n; op = op }) shifted)
 
-longer : (first : ℕ) (plans : List Plan) (rank : ℕ) → length (places_from first (take (suc rank) plans)) ≡ length (places_from first (take rank plans)) + length (ops_at plans rank)
+place_count_grows_by_ops_of_rank : (first : ℕ) (plans : List Plan) (rank : ℕ) → length (places_from first (take (suc rank) plans)) ≡ length (places_from first (take rank plans)) + length (ops_at plans rank)
 unfolding places_from ops_at
-longer first [] zero = refl
-longer first [] (suc rank) = refl
-longer first (p ∷ plans) zero =
+place_count_grows_by_ops_of_rank first [] zero = refl
+place_count_grows_by_ops_of_rank first [] (suc rank) = refl
+place_count_grows_by_ops_of_rank first (p ∷ plans) zero =
     omega (arith, length-append (places_of_rank first 0 p.ops) [], length-places_of_rank first 0 p.ops)
-longer first (p ∷ plans) (suc rank) =
+place_count_grows_by_ops_of_rank first (p ∷ plans) (suc rank) =
     let own = places_of_rank first 0 p.ops in
-    omega (arith, length-append own (places_from (first + 1) (take (suc rank) plans)), length-append own (places_from (first + 1) (take rank plans)), longer (first + 1) plans rank)
+    omega (arith, length-append own (places_from (first + 1) (take (suc rank) plans)), length-append own (places_from (first + 1) (take rank plans)), place_count_grows_by_ops_of_rank (first + 1) plans rank)
 
-shorter : (first : ℕ) (plans : List Plan) (rank : ℕ) → length (places_from first (take rank plans)) ≤ length (places_from first plans)
+first_places_are_no_more_than_all : (first : ℕ) (plans : List Plan) (rank : ℕ) → length (places_from first (take rank plans)) ≤ length (places_from first plans)
 unfolding places_from
-shorter first [] zero = omega arith
-shorter first [] (suc rank) = omega arith
-shorter first (p ∷ plans) zero = omega arith
-shorter first (p ∷ plans) (suc rank) =
+first_places_are_no_more_than_all first [] zero = omega arith
+first_places_are_no_more_than_all first [] (suc rank) = omega arith
+first_places_are_no_more_than_all first (p ∷ plans) zero = omega arith
+first_places_are_no_more_than_all first (p ∷ plans) (suc rank) =
     let own = places_of_rank first 0 p.ops in
-    omega (arith, length-append own (places_from (first + 1) (take rank plans)), length-append own (places_from (first + 1) plans), shorter (first + 1) plans rank)
+    omega (arith, length-append own (places_from (first + 1) (take rank plans)), length-append own (places_from (first + 1) plans), first_places_are_no_more_than_all (first + 1) plans rank)
 
 module _ (plans : List Plan) where
   pub before_next_rank : (rank : ℕ) → before_rank plans (rank + 1) ≡ before_rank plans rank + length (ops_at plans rank)
   before_next_rank rank =
       let next : rank + 1 ≡ suc rank = omega arith in
-      ap (before_rank plans) next ∙ longer 0 plans rank
+      ap (before_rank plans) next ∙ place_count_grows_by_ops_of_rank 0 plans rank
 
   pub before_all_ranks : before_rank plans (length plans) ≡ length (operations plans)
   before_all_ranks = ap (λ (ps : List Plan). length (operations ps)) (take_all (length plans) plans (omega arith))
@@ -67,4 +67,4 @@ module _ (plans : List Plan) where
   at_place rank op x inside = place_from 0 plans rank op x inside ∙ ap (λ n. record { rank = n; op = op }) (zero-add rank)
 
   pub place_within : (rank op : ℕ) → op < length (ops_at plans rank) → before_rank plans rank + op < length (operations plans)
-  place_within rank op inside = omega (arith, inside, before_next_rank rank, shorter 0 plans (rank + 1))
+  place_within rank op inside = omega (arith, inside, before_next_rank rank, first_places_are_no_more_than_all 0 plans (rank + 1))

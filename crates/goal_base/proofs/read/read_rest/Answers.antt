@@ -1,5 +1,5 @@
 use Rattle.std.proofs.Common.{◌++◌, take, rules, arith, length-append, length-take}
-use Rattle.goal_base.proofs.ForCallers.{takes_joined_bytes, takes_if_rest_unchanged, too_long, later_is_transitive, keeps_files_is_transitive, same_read_counts_is_transitive, rose_after_same_read_counts}
+use Rattle.goal_base.proofs.ForCallers.{takes_joined_bytes, takes_if_rest_unchanged, rest_too_long_if_taken_too_long, later_is_transitive, keeps_files_is_transitive, same_read_counts_is_transitive, rose_after_same_read_counts}
 use Rattle.goal_base.proofs.read.read_rest.Goals as goal
 
 pub returns-in_err-extend_from_slice-clause-taken : goal.returns-in_err-extend_from_slice-clause-taken
@@ -55,7 +55,7 @@ returns-in-Err-NoMemory-clause-taken g c =
 
 pub returns-clause-too_long : goal.returns-clause-too_long
 returns-clause-too_long g c =
-    λ long. too_long (g.H.Host.state c.args.host.now) (g.H.Host.state c.pieces.host) c.pieces.bytes.items c.pieces.invariant.taken (search (rules, arith))
+    λ long. rest_too_long_if_taken_too_long (g.H.Host.state c.args.host.now) (g.H.Host.state c.pieces.host) c.pieces.bytes.items c.pieces.invariant.taken (search (rules, arith))
 
 pub returns-clause-call : goal.returns-clause-call
 returns-clause-call g c =

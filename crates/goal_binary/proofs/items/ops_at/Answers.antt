@@ -1,21 +1,21 @@
 use Rattle.std.proofs.Common.{◌≡◌, ℕ, ◌+◌, ◌∷◌, [], ◌++◌, sym, ap, ◌∙◌, length-append}
 use Rattle.std.proofs.lemmas.Result.{err_from_is_err_and}
 use Rattle.goal_binary.specs.Reading.{op_at, list_at}
-use Rattle.goal_binary.proofs.Loop.{goes_on, ends, is_done}
+use Rattle.goal_binary.proofs.Loop.{list_read_continues_after_item, list_read_fails_with_item, is_done}
 use Rattle.goal_binary.proofs.items.ops_at.Goals as goal
 
 pub returns-in_err-op-clause-ops : goal.returns-in_err-op-clause-ops
 returns-in_err-op-clause-ops c =
     let item_at = op_at c.args.bytes.now c.args.layout in
     let p = err_from_is_err_and c.from_residual-in_err-op.result c.from_residual-in_err-op.ensures.1 in
-    rw (p.1, p.2) (λ memory. ends item_at c.in_err-op.field-0.0 c.loop.ops.items c.args.count c.loop.counter c.loop.place (list_at item_at c.args.count c.args.at) c.loop-test.true (sym c.in_err-op.ensures) c.loop.invariant.so_far)
+    rw (p.1, p.2) (λ memory. list_read_fails_with_item item_at c.in_err-op.field-0.0 c.loop.ops.items c.args.count c.loop.counter c.loop.place (list_at item_at c.args.count c.args.at) c.loop-test.true (sym c.in_err-op.ensures) c.loop.invariant.so_far)
 
 pub loop-preserved : goal.loop-preserved
 loop-preserved c =
     let item_at = op_at c.args.bytes.now c.args.layout in
     let pushed : c.push.new.self.items ≡ c.loop.ops.items ++ c.in_ok-op.op ∷ [] = c.in_ok-push.ensures.items in
     rw pushed (record {
-      so_far = goes_on item_at c.loop.ops.items c.args.count c.loop.counter c.loop.place c.in_ok-op.op c.in_ok-op.after (list_at item_at c.args.count c.args.at) c.loop-test.true (sym c.in_ok-op.ensures) c.loop.invariant.so_far;
+      so_far = list_read_continues_after_item item_at c.loop.ops.items c.args.count c.loop.counter c.loop.place c.in_ok-op.op c.in_ok-op.after (list_at item_at c.args.count c.args.at) c.loop-test.true (sym c.in_ok-op.ensures) c.loop.invariant.so_far;
       count = length-append c.loop.ops.items (c.in_ok-op.op ∷ []) ∙ ap (λ (n : ℕ). n + 1) c.loop.invariant.count;
     })
 

@@ -1,6 +1,6 @@
 use Rattle.std.proofs.Common.{◌<◌, arith}
 use Rattle.goal_certify.proofs.StageLemmas.{small_free, wildcard_free, lengths_free, free_within}
-use Rattle.goal_certify.proofs.SegmentAnswers.{block_fits, block_certified, more_certified, stopped_there, walked_there, excluded, none_told, that_told}
+use Rattle.goal_certify.proofs.SegmentAnswers.{block_fits, block_certified, more_certified, first_segment_fault_if_stopped, segment_fault_from_late_stages, excluded, none_told, that_told}
 use Rattle.goal_certify.proofs.segments.certify_segments.Goals as goal
 
 pub check_walk-requires : goal.check_walk-requires
@@ -25,7 +25,7 @@ pub returns-in-Err-clause-fault : goal.returns-in-Err-clause-fault
 returns-in-Err-clause-fault c =
     let laws = c.laws_of_faults.ensures in
     let some : 0 < c.args.count = omega (arith, c.if-count-eq0.false) in
-    stopped_there c.args.what c.args.width c.args.sched.now laws.fault_excludes_certified laws.faultless_is_certified laws.one_first_fault c.known.ensures.accepted c.args.count c.in-Err.fault some c.in-Err.ensures.fault
+    first_segment_fault_if_stopped c.args.what c.args.width c.args.sched.now laws.fault_excludes_certified laws.faultless_is_certified laws.one_first_fault c.known.ensures.accepted c.args.count c.in-Err.fault some c.in-Err.ensures.fault
 
 pub returns-in-Err-clause-accepts : goal.returns-in-Err-clause-accepts
 returns-in-Err-clause-accepts c =
@@ -40,7 +40,7 @@ returns-in-Err-clause-faults c =
 pub returns-in-Err-check_walk-clause-fault : goal.returns-in-Err-check_walk-clause-fault
 returns-in-Err-check_walk-clause-fault c =
     let laws = c.laws_of_faults.ensures in
-    walked_there c.args.what c.args.width c.args.sched.now laws.fault_excludes_certified laws.faultless_is_certified laws.one_first_fault c.known.ensures.accepted c.args.count c.loop-block.block c.in-Err-check_walk.fault c.loop-block-test.true c.loop-block.invariant c.in-Ok.ensures.free c.in-Err-check_walk.ensures.fault
+    segment_fault_from_late_stages c.args.what c.args.width c.args.sched.now laws.fault_excludes_certified laws.faultless_is_certified laws.one_first_fault c.known.ensures.accepted c.args.count c.loop-block.block c.in-Err-check_walk.fault c.loop-block-test.true c.loop-block.invariant c.in-Ok.ensures.free c.in-Err-check_walk.ensures.fault
 
 pub returns-in-Err-check_walk-clause-accepts : goal.returns-in-Err-check_walk-clause-accepts
 returns-in-Err-check_walk-clause-accepts c =

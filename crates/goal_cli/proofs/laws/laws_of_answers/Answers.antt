@@ -5,7 +5,7 @@ use Rattle.goal_cli.specs.declared.answer.Status.TheVariants as status
 use Rattle.goal_cli.specs.World.{World, without_err}
 use Rattle.goal_cli.specs.Answer.{Answered}
 use Rattle.goal_cli.specs.Laws.{Answers}
-use Rattle.goal_cli.proofs.AnswerLemmas.{bad_line_status_has_no_command, no_command_answers_bad_line, read_fault, reads_risen, absent_risen, absent_named, absent_machine, refused_status_has_refusal, write_fault_status_means_cut_off, writes_risen, files_risen, done, stuck, not_certified, only_certify, untouched_or_part_of_output, untouched, kept_elsewhere, line_said, nothing_said_when_output_written, part_of_line_at_no_memory, part_of_line_at_sink_fault, machine_read}
+use Rattle.goal_cli.proofs.AnswerLemmas.{bad_line_status_has_no_command, no_command_answers_bad_line, read_fault, reads_risen, absent_risen, absent_named, absent_machine, refused_status_has_refusal, write_fault_status_means_cut_off, writes_risen, files_risen, done_status_means_written, stuck_status_means_written, not_certified_status_means_written, only_certify, untouched_or_part_of_output, untouched, kept_elsewhere, line_said, nothing_said_when_output_written, part_of_line_at_no_memory, part_of_line_at_sink_fault, machine_read}
 use Rattle.goal_cli.proofs.laws.laws_of_answers.Goals as goal
 
 line_missed : (command : Option Command) (old new : World) (result : Status) → Answered command old new result → command ≡ None
@@ -47,13 +47,13 @@ pub returns-clause-file_risen : goal.returns-clause-file_risen
 returns-clause-file_risen c = λ command old new result w. files_risen (without_err old) (without_err new) command old.err new.err w.answer result w.cause w.told
 
 pub returns-clause-done : goal.returns-clause-done
-returns-clause-done c = λ command old new result w. done (without_err old) (without_err new) command old.err new.err w.answer result w.cause w.told
+returns-clause-done c = λ command old new result w. done_status_means_written (without_err old) (without_err new) command old.err new.err w.answer result w.cause w.told
 
 pub returns-clause-stuck : goal.returns-clause-stuck
-returns-clause-stuck c = λ command old new result w. stuck (without_err old) (without_err new) command old.err new.err w.answer result w.cause w.told
+returns-clause-stuck c = λ command old new result w. stuck_status_means_written (without_err old) (without_err new) command old.err new.err w.answer result w.cause w.told
 
 pub returns-clause-not_certified : goal.returns-clause-not_certified
-returns-clause-not_certified c = λ command old new result w. not_certified (without_err old) (without_err new) command old.err new.err w.answer result w.cause w.told
+returns-clause-not_certified c = λ command old new result w. not_certified_status_means_written (without_err old) (without_err new) command old.err new.err w.answer result w.cause w.told
 
 pub returns-clause-only_certify : goal.returns-clause-only_certify
 returns-clause-only_certify c = λ command old new result w. only_certify (without_err old) (without_err new) command old.err new.err w.answer result w.cause w.told

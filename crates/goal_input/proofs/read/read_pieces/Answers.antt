@@ -1,6 +1,6 @@
 use Rattle.std.proofs.Common.{◌≡◌, ◌≤◌, ◌++◌, take, length, arith, rules, length-append, length-take}
 use Rattle.std.proofs.lemmas.List.{take-append-le}
-use Rattle.goal_base.proofs.ForCallers.{takes_joined_bytes, takes_if_rest_unchanged, too_long, later_is_transitive, keeps_files_is_transitive, same_read_counts_is_transitive, rose_after_same_read_counts}
+use Rattle.goal_base.proofs.ForCallers.{takes_joined_bytes, takes_if_rest_unchanged, rest_too_long_if_taken_too_long, later_is_transitive, keeps_files_is_transitive, same_read_counts_is_transitive, rose_after_same_read_counts}
 use Rattle.goal_input.proofs.IntakeLemmas.{counts_at_end}
 use Rattle.goal_input.proofs.read.read_pieces.Goals as goal
 
@@ -94,7 +94,7 @@ returns-in-Err-NoMemory-clause-taken g c =
 pub returns-clause-input_fault : goal.returns-clause-input_fault
 returns-clause-input_fault g c =
     let has = c.pieces.invariant.has in
-    too_long (g.H.Host.state c.args.host.now) (g.H.Host.state c.pieces.host) has.input has.takes (omega (arith, has.counted))
+    rest_too_long_if_taken_too_long (g.H.Host.state c.args.host.now) (g.H.Host.state c.pieces.host) has.input has.takes (omega (arith, has.counted))
 
 pub returns-clause-call : goal.returns-clause-call
 returns-clause-call g c =

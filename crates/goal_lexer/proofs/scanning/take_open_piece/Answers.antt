@@ -18,8 +18,8 @@ scan_of_stretch_ends_no_token c =
     c.loop-taken.taken c.take_stretch-taken.result was.within was.quiet c.take_stretch-taken.ensures.quiet
 
 -- the byte is in the piece
-below : (c : After-take_byte) → c.loop-taken.taken + c.take_stretch-taken.result < length c.args.piece.now
-below c =
+stretch_ends_within_piece : (c : After-take_byte) → c.loop-taken.taken + c.take_stretch-taken.result < length c.args.piece.now
+stretch_ends_within_piece c =
     let fits = sliced_within c.args.piece.now c.loop-taken.taken c.take_stretch-taken.result c.loop-taken.invariant.within c.take_stretch-taken.ensures.within in
     omega (arith, c.if-taken-piece.false)
 
@@ -30,7 +30,7 @@ after_byte : (c : After-take_byte) →
     (get_or c.args.piece.now (c.loop-taken.taken + c.take_stretch-taken.result) 0)
 after_byte c =
     scan_next_byte c.args.mode.now c.take_stretch-taken.new.mode c.args.place c.args.piece.now
-    (c.loop-taken.taken + c.take_stretch-taken.result) (below c) (scan_of_stretch_ends_no_token c)
+    (c.loop-taken.taken + c.take_stretch-taken.result) (stretch_ends_within_piece c) (scan_of_stretch_ends_no_token c)
 
 -- the stretch reaches the end of the piece
 pub returns-then-taken-piece : goal.returns-then-taken-piece
@@ -51,7 +51,7 @@ loop-taken-init c = record { within = omega arith; quiet = refl; sound = c.requi
 pub loop-taken-preserved : goal.loop-taken-preserved
 loop-taken-preserved c =
     let k = (goal.at.loop-taken-preserved c).After-take_byte in
-    let fits = below k in
+    let fits = stretch_ends_within_piece k in
     record { within = omega arith; quiet = after_byte k ∙ c.in-Nothing.ensures.0; sound = c.in-Nothing.ensures.1 }
 
 pub returns-in-Run : goal.returns-in-Run
@@ -60,8 +60,8 @@ returns-in-Run c =
     let piece = c.args.piece.now in
     let taken = c.loop-taken.taken + c.take_stretch-taken.result in
     let said = c.in-Run.ensures in (
-      below k,
-      ap begins_run (drop_more piece taken 0 (below k)) ∙ said.0,
+      stretch_ends_within_piece k,
+      ap begins_run (drop_more piece taken 0 (stretch_ends_within_piece k)) ∙ said.0,
       said.2,
       (c.take_stretch-taken.new.mode, scan_of_stretch_ends_no_token k, said.1),
       said.3,
@@ -70,7 +70,7 @@ returns-in-Run c =
 pub returns-in-Sign : goal.returns-in-Sign
 returns-in-Sign c =
     let k = (goal.at.returns-in-Sign c).After-take_byte in
-    let fits = below k in
+    let fits = stretch_ends_within_piece k in
     let between = c.in-Sign.ensures.1 in (
       omega arith,
       omega arith,

@@ -15,9 +15,9 @@ next_op_line_printed i os d out all within is =
     ∙ ap (λ (l : List ℕ). out ++ l) (sym (at_drop_more (op_lines i) os i d within)) ∙ is
 
 -- no line remains
-done : (i : ℕ) (os : List Op) (out all : List ℕ) → length os ≤ i → out ++ op_lines i (drop i os) ≡ all → out ≡ all
+all_lines_put_past_last_op : (i : ℕ) (os : List Op) (out all : List ℕ) → length os ≤ i → out ++ op_lines i (drop i os) ≡ all → out ≡ all
 unfolding op_lines
-done i os out all over is = sym (append-nil out) ∙ ap (λ (l : List ℕ). out ++ l) (sym (at_drop_all (op_lines i) os i over)) ∙ is
+all_lines_put_past_last_op i os out all over is = sym (append-nil out) ∙ ap (λ (l : List ℕ). out ++ l) (sym (at_drop_all (op_lines i) os i over)) ∙ is
 
 pub loop-number-preserved : goal.loop-number-preserved
 loop-number-preserved c =
@@ -36,5 +36,5 @@ loop-number-preserved c =
 pub returns : goal.returns
 returns c =
     let lines = c.loop-number.out ++ take c.loop-number.end c.loop-number.lines in
-    let is = done c.loop-number.number c.args.ops.now lines _ c.loop-number-test.false c.loop-number.invariant.text in
+    let is = all_lines_put_past_last_op c.loop-number.number c.args.ops.now lines _ c.loop-number-test.false c.loop-number.invariant.text in
     search rules

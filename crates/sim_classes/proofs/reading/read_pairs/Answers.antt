@@ -10,11 +10,11 @@ use Rattle.sim_classes.proofs.Keys.{pair_class_after, pair_class_within}
 use Rattle.sim_classes.proofs.reading.read_pairs.Goals as goal
 
 -- what follows the numbers of two nodes, and of the first
-abbrev last : ℕ → ℕ → List Numbers → ℕ → ℕ → List ℕ → (ℕ → ℕ → Option ℕ) → ℕ → ℕ → ℕ → Form
-last n i numbers inside usual nodes pair_classes a b class = triples (n - (i + 1)) (machine_with numbers inside usual nodes (with_pair_class pair_classes a b class))
+abbrev form_after_pair_class : ℕ → ℕ → List Numbers → ℕ → ℕ → List ℕ → (ℕ → ℕ → Option ℕ) → ℕ → ℕ → ℕ → Form
+form_after_pair_class n i numbers inside usual nodes pair_classes a b class = triples (n - (i + 1)) (machine_with numbers inside usual nodes (with_pair_class pair_classes a b class))
 
-abbrev second : ℕ → ℕ → List Numbers → ℕ → ℕ → List ℕ → (ℕ → ℕ → Option ℕ) → ℕ → Form
-second n i numbers inside usual nodes pair_classes a = Value (new_target (machine_with numbers inside usual nodes pair_classes) a) (λ b. Value (class_number numbers) (last n i numbers inside usual nodes pair_classes a b))
+abbrev form_after_first_node : ℕ → ℕ → List Numbers → ℕ → ℕ → List ℕ → (ℕ → ℕ → Option ℕ) → ℕ → Form
+form_after_first_node n i numbers inside usual nodes pair_classes a = Value (new_target (machine_with numbers inside usual nodes pair_classes) a) (λ b. Value (class_number numbers) (form_after_pair_class n i numbers inside usual nodes pair_classes a b))
 
 pub returns-in_err-from-clause-fault : goal.returns-in_err-from-clause-fault
 returns-in_err-from-clause-fault c =
@@ -23,7 +23,7 @@ returns-in_err-from-clause-fault c =
     (λ pair_classes numbers inside usual nodes few.
     c.loop.invariant.0 numbers inside usual nodes few
     ∙ ap (λ (f : Form). read_by_form f c.loop.words.place c.loop.words.words) (more_pairs c.args.count c.loop.counter (machine_with numbers inside usual nodes (pair_class_by c.loop.pair_classes.entries)) c.loop-test.true)
-    ∙ c.in_err-from.ensures.fault (second c.args.count c.loop.counter numbers inside usual nodes (pair_class_by c.loop.pair_classes.entries)))
+    ∙ c.in_err-from.ensures.fault (form_after_first_node c.args.count c.loop.counter numbers inside usual nodes (pair_class_by c.loop.pair_classes.entries)))
 
 pub returns-in_err-to-clause-fault : goal.returns-in_err-to-clause-fault
 returns-in_err-to-clause-fault c =
@@ -32,8 +32,8 @@ returns-in_err-to-clause-fault c =
     (λ pair_classes numbers inside usual nodes few.
     c.loop.invariant.0 numbers inside usual nodes few
     ∙ ap (λ (f : Form). read_by_form f c.loop.words.place c.loop.words.words) (more_pairs c.args.count c.loop.counter (machine_with numbers inside usual nodes (pair_class_by c.loop.pair_classes.entries)) c.loop-test.true)
-    ∙ c.in_ok-from.ensures.next (second c.args.count c.loop.counter numbers inside usual nodes (pair_class_by c.loop.pair_classes.entries))
-    ∙ c.in_err-to.ensures.fault (machine_with numbers inside usual nodes (pair_class_by c.loop.pair_classes.entries)) (λ b. Value (class_number numbers) (last c.args.count c.loop.counter numbers inside usual nodes (pair_class_by c.loop.pair_classes.entries) c.in_ok-from.field-0 b)) refl)
+    ∙ c.in_ok-from.ensures.next (form_after_first_node c.args.count c.loop.counter numbers inside usual nodes (pair_class_by c.loop.pair_classes.entries))
+    ∙ c.in_err-to.ensures.fault (machine_with numbers inside usual nodes (pair_class_by c.loop.pair_classes.entries)) (λ b. Value (class_number numbers) (form_after_pair_class c.args.count c.loop.counter numbers inside usual nodes (pair_class_by c.loop.pair_classes.entries) c.in_ok-from.field-0 b)) refl)
 
 pub returns-in_err-class-clause-fault : goal.returns-in_err-class-clause-fault
 returns-in_err-class-clause-fault c =
@@ -42,9 +42,9 @@ returns-in_err-class-clause-fault c =
     (λ pair_classes numbers inside usual nodes few.
     c.loop.invariant.0 numbers inside usual nodes few
     ∙ ap (λ (f : Form). read_by_form f c.loop.words.place c.loop.words.words) (more_pairs c.args.count c.loop.counter (machine_with numbers inside usual nodes (pair_class_by c.loop.pair_classes.entries)) c.loop-test.true)
-    ∙ c.in_ok-from.ensures.next (second c.args.count c.loop.counter numbers inside usual nodes (pair_class_by c.loop.pair_classes.entries))
-    ∙ c.in_ok-to.ensures.next (machine_with numbers inside usual nodes (pair_class_by c.loop.pair_classes.entries)) (λ b. Value (class_number numbers) (last c.args.count c.loop.counter numbers inside usual nodes (pair_class_by c.loop.pair_classes.entries) c.in_ok-from.field-0 b)) refl
-    ∙ c.in_err-class.ensures.fault numbers (last c.args.count c.loop.counter numbers inside usual nodes (pair_class_by c.loop.pair_classes.entries) c.in_ok-from.field-0 c.in_ok-to.to) few)
+    ∙ c.in_ok-from.ensures.next (form_after_first_node c.args.count c.loop.counter numbers inside usual nodes (pair_class_by c.loop.pair_classes.entries))
+    ∙ c.in_ok-to.ensures.next (machine_with numbers inside usual nodes (pair_class_by c.loop.pair_classes.entries)) (λ b. Value (class_number numbers) (form_after_pair_class c.args.count c.loop.counter numbers inside usual nodes (pair_class_by c.loop.pair_classes.entries) c.in_ok-from.field-0 b)) refl
+    ∙ c.in_err-class.ensures.fault numbers (form_after_pair_class c.args.count c.loop.counter numbers inside usual nodes (pair_class_by c.loop.pair_classes.entries) c.in_ok-from.field-0 c.in_ok-to.to) few)
 
 pub overflow_cast-class : goal.overflow_cast-class
 overflow_cast-class c = omega (arith, c.in_ok-class.ensures.within, c.requires)
@@ -55,9 +55,9 @@ loop-preserved c =
       λ numbers inside usual nodes few.
           c.loop.invariant.0 numbers inside usual nodes few
           ∙ ap (λ (f : Form). read_by_form f c.loop.words.place c.loop.words.words) (more_pairs c.args.count c.loop.counter (machine_with numbers inside usual nodes (pair_class_by c.loop.pair_classes.entries)) c.loop-test.true)
-          ∙ c.in_ok-from.ensures.next (second c.args.count c.loop.counter numbers inside usual nodes (pair_class_by c.loop.pair_classes.entries))
-          ∙ c.in_ok-to.ensures.next (machine_with numbers inside usual nodes (pair_class_by c.loop.pair_classes.entries)) (λ b. Value (class_number numbers) (last c.args.count c.loop.counter numbers inside usual nodes (pair_class_by c.loop.pair_classes.entries) c.in_ok-from.field-0 b)) refl
-          ∙ c.in_ok-class.ensures.next numbers (last c.args.count c.loop.counter numbers inside usual nodes (pair_class_by c.loop.pair_classes.entries) c.in_ok-from.field-0 c.in_ok-to.to) few
+          ∙ c.in_ok-from.ensures.next (form_after_first_node c.args.count c.loop.counter numbers inside usual nodes (pair_class_by c.loop.pair_classes.entries))
+          ∙ c.in_ok-to.ensures.next (machine_with numbers inside usual nodes (pair_class_by c.loop.pair_classes.entries)) (λ b. Value (class_number numbers) (form_after_pair_class c.args.count c.loop.counter numbers inside usual nodes (pair_class_by c.loop.pair_classes.entries) c.in_ok-from.field-0 b)) refl
+          ∙ c.in_ok-class.ensures.next numbers (form_after_pair_class c.args.count c.loop.counter numbers inside usual nodes (pair_class_by c.loop.pair_classes.entries) c.in_ok-from.field-0 c.in_ok-to.to) few
           ∙ ap (λ (t : ℕ → ℕ → Option ℕ). read_by_form (triples (c.args.count - (c.loop.counter + 1)) (machine_with numbers inside usual nodes t)) c.class_number.new.self.place c.class_number.new.self.words) (λ i x y. sym (after x y) i),
       pair_class_within c.loop.pair_classes c.insert.new.self c.in_ok-from.field-0 c.in_ok-to.to c.in_ok-class.field-0 c.args.classes after c.in_ok-class.ensures.within c.loop.invariant.1,
       omega (arith, c.loop-test.true),

@@ -11,13 +11,13 @@ use Rattle.sim_events.proofs.Changes.{same_places_transitive}
 use Rattle.sim_events.proofs.Queue.{possible_keys, refreshed_is_no_longer_due, fewer_due}
 use Rattle.sim_events.proofs.follow.follow_waiting.Goals as goal
 
-abbrev none : Need
-none = record { op = 0; when = AfterEnd }
+abbrev default_need : Need
+default_need = record { op = 0; when = AfterEnd }
 
 pub refresh-requires : goal.refresh-requires
 refresh-requires g c =
     record {
-      exists = c.requires.exist c.in_default.not-Arrive c.loop-need.need-index none c.loop-need-test.true;
+      exists = c.requires.exist c.in_default.not-Arrive c.loop-need.need-index default_need c.loop-need-test.true;
       possible = possible_keys _ _ _ _ _ c.loop-need.invariant.0;
     }
 
@@ -28,7 +28,7 @@ loop-need-preserved g c =
     let items = c.requires.whom c.in_default.not-Arrive in
     let k = c.loop-need.need-index in
     let within = subst (λ (ds : List Need). k < length ds) items c.loop-need-test.true in
-    (refreshed_is_no_longer_due plans _ _ _ _ _ _ _ c.loop-need.invariant.0 c.refresh.ensures.queue (λ y is n differ. awaiting_after_next (waiting_on plans id) k none c.args.action.class id y within n (λ e. differ (e ∙ ap (λ (ds : List Need). needed id (get_or ds k none)) (sym items)))), λ k few. let same = c.loop-need.invariant.0.of_it.each in let first = c.requires.rest.of_it.each in omega (arith, c.loop-need.invariant.1 k few, c.refresh.ensures.counted k (omega (arith, few, same, first))), same_places_transitive c.args.queue.now _ _ c.loop-need.invariant.2 c.refresh.ensures.placed)
+    (refreshed_is_no_longer_due plans _ _ _ _ _ _ _ c.loop-need.invariant.0 c.refresh.ensures.queue (λ y is n differ. awaiting_after_next (waiting_on plans id) k default_need c.args.action.class id y within n (λ e. differ (e ∙ ap (λ (ds : List Need). needed id (get_or ds k default_need)) (sym items)))), λ k few. let same = c.loop-need.invariant.0.of_it.each in let first = c.requires.rest.of_it.each in omega (arith, c.loop-need.invariant.1 k few, c.refresh.ensures.counted k (omega (arith, few, same, first))), same_places_transitive c.args.queue.now _ _ c.loop-need.invariant.2 c.refresh.ensures.placed)
 
 pub loop-need-preserved-then-not-gives : goal.loop-need-preserved-then-not-gives
 loop-need-preserved-then-not-gives g c =
@@ -37,8 +37,8 @@ loop-need-preserved-then-not-gives g c =
     let items = c.requires.whom c.in_default.not-Arrive in
     let k = c.loop-need.need-index in
     let within = subst (λ (ds : List Need). k < length ds) items c.loop-need-test.true in
-    let other = ap (λ (ds : List Need). gives c.args.action.class (get_or ds k none).when) (sym items) ∙ sym c.gives.ensures ∙ c.if-not-gives.true in
-    (fewer_due plans _ _ _ _ _ c.loop-need.invariant.0 (λ y is n. awaiting_after_other_moment (waiting_on plans id) k none c.args.action.class id y within other n), c.loop-need.invariant.1, c.loop-need.invariant.2)
+    let other = ap (λ (ds : List Need). gives c.args.action.class (get_or ds k default_need).when) (sym items) ∙ sym c.gives.ensures ∙ c.if-not-gives.true in
+    (fewer_due plans _ _ _ _ _ c.loop-need.invariant.0 (λ y is n. awaiting_after_other_moment (waiting_on plans id) k default_need c.args.action.class id y within other n), c.loop-need.invariant.1, c.loop-need.invariant.2)
 
 -- an Arrive gives nothing
 pub returns-in-Arrive-clause-queue : goal.returns-in-Arrive-clause-queue
@@ -50,7 +50,7 @@ returns-clause-queue g c =
     let plans = c.args.state.now.plans in
     let id = c.args.action.op in
     let items = c.requires.whom c.in_default.not-Arrive in
-    fewer_due plans _ _ _ _ _ c.loop-need.invariant.0 (λ y is n. none_awaiting_past_end (waiting_on plans id) c.loop-need.need-index none c.args.action.class id y (omega (arith, ap length items, c.loop-need-test.false)) n)
+    fewer_due plans _ _ _ _ _ c.loop-need.invariant.0 (λ y is n. none_awaiting_past_end (waiting_on plans id) c.loop-need.need-index default_need c.args.action.class id y (omega (arith, ap length items, c.loop-need-test.false)) n)
 
 pub returns-clause-counted : goal.returns-clause-counted
 returns-clause-counted g c = c.loop-need.invariant.1

@@ -9,21 +9,21 @@ use Rattle.sim_params.proofs.shares.budget.Given as given
 use Rattle.sim_params.proofs.shares.budget.Goals as goal
 use Rattle.sim_params.proofs.shares.budget.Goals.{After-share-sum}
 
-abbrev none : OpId
-none = record { rank = 0; op = 0 }
+abbrev default_op_id : OpId
+default_op_id = record { rank = 0; op = 0 }
 
-step : (g : given.Over) → (c : After-share-sum g) → c.loop-id.sum + c.share-sum.result ≡ sum_by (share c.args.sched.now (g.C.Costs.model c.args.costs.now)) (take (c.loop-id.id-index + 1) c.operations-id-items.result.now)
-step g c =
-    let more = sum_by_more (share c.args.sched.now (g.C.Costs.model c.args.costs.now)) c.operations-id-items.result.now c.loop-id.id-index none c.loop-id-test.true in
+sum_with_next_share : (g : given.Over) → (c : After-share-sum g) → c.loop-id.sum + c.share-sum.result ≡ sum_by (share c.args.sched.now (g.C.Costs.model c.args.costs.now)) (take (c.loop-id.id-index + 1) c.operations-id-items.result.now)
+sum_with_next_share g c =
+    let more = sum_by_more (share c.args.sched.now (g.C.Costs.model c.args.costs.now)) c.operations-id-items.result.now c.loop-id.id-index default_op_id c.loop-id-test.true in
     omega (arith, more, c.loop-id.invariant, c.share-sum.ensures)
 
 pub overflow_add-sum : goal.overflow_add-sum
 overflow_add-sum g c =
     let few : length (take (c.loop-id.id-index + 1) c.operations-id-items.result.now) ≤ 2 ^ 20 = omega (arith, length-take (c.loop-id.id-index + 1) c.operations-id-items.result.now, ap length c.operations-id-items.ensures.all, c.count-count.ensures.count, c.count-count.ensures.small) in
-    omega (arith, step g c, shares_bound c.args.sched.now (g.C.Costs.model c.args.costs.now) c.known.ensures.accepted (g.met.C.Costs.bounded c.args.costs.now) _ few)
+    omega (arith, sum_with_next_share g c, shares_bound c.args.sched.now (g.C.Costs.model c.args.costs.now) c.known.ensures.accepted (g.met.C.Costs.bounded c.args.costs.now) _ few)
 
 pub loop-id-preserved : goal.loop-id-preserved
-loop-id-preserved g c = step g c
+loop-id-preserved g c = sum_with_next_share g c
 
 pub returns : goal.returns
 unfolding budget

@@ -12,7 +12,7 @@ use Rattle.goal_values.specs.Kept.{values}
 use Rattle.goal_certify.specs.WalkSoFar.{act_of}
 use Rattle.goal_certify.proofs.Holding.{holding_grown}
 use Rattle.goal_certify.specs.Carried.{values_of_parcels, AddsOver, AddsWithin}
-use Rattle.goal_certify.proofs.Applied.{on_ok_combined, err_map, over_map, now, op_of_newest_exists, light_before, begun_calc, begun_over, begun_send}
+use Rattle.goal_certify.proofs.Applied.{on_ok_combined, err_map, over_map, split_history_is_interleaving, op_of_newest_exists, light_before, begun_calc, begun_over, begun_send}
 use Rattle.goal_certify.proofs.walk.values.begin.Goals as goal
 
 pub op-requires : goal.op-requires
@@ -29,7 +29,7 @@ unreachable-requires c =
     let x = c.args.action.op in
     let is = sym (ap (λ (ps : List Plan). op_at ps x) c.sched.ensures) ∙ c.op.ensures.op in
     let receive : IsReceive plans x = record { room = c.in-Recv.bytes; from = c.in-Recv.from; tag = c.in-Recv.tag; kind = kind_from_op plans x c.op.result.now _ is c.in-Recv.is } in
-    let inter = now _ _ (act_of c.args.action) c.requires.taken.newest c.known.ensures.each in
+    let inter = split_history_is_interleaving _ _ (act_of c.args.action) c.requires.taken.newest c.known.ensures.each in
     let begins = allowed_begin plans no_send (drop 1 c.args.walker.now.history) x (subst (λ (k : Class). allowed plans no_send (drop 1 c.args.walker.now.history) k x ≡ true) c.requires.class inter.1) in
     elim begins.0 [ inl calc ↦ not_receive_calc plans x receive calc | inr sends ↦ not_send_receive plans x sends receive ]
 

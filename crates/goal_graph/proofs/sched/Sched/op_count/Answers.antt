@@ -7,21 +7,21 @@ use Rattle.goal_graph.proofs.Places.{ops_at_some, few_ops_at}
 use Rattle.goal_graph.proofs.sched.Sched.op_count.Goals as goal
 use Rattle.goal_graph.proofs.sched.Sched.op_count.Goals.{After-len}
 
-here : (c : After-len) → slice_get c.args.self.now c.args.rank ≡ Some c.index-plans-rank.result
-here c = slice_get_read c.args.self.now _ c.args.rank c.index-plans-rank.result refl c.requires (rw c.plans.ensures.plans at c.index-plans-rank.is)
+indexed_plan_is_at_rank : (c : After-len) → slice_get c.args.self.now c.args.rank ≡ Some c.index-plans-rank.result
+indexed_plan_is_at_rank c = slice_get_read c.args.self.now _ c.args.rank c.index-plans-rank.result refl c.requires (rw c.plans.ensures.plans at c.index-plans-rank.is)
 
-counted : (c : After-len) → c.len.result ≡ length c.index-plans-rank.result.ops
-counted c = omega (arith, c.plan.inside.ops.ok.0, c.len.ensures, ap (λ (p : Plan). length p.ops) c.plan.view_is)
+len_result_is_number_of_ops : (c : After-len) → c.len.result ≡ length c.index-plans-rank.result.ops
+len_result_is_number_of_ops c = omega (arith, c.plan.inside.ops.ok.0, c.len.ensures, ap (λ (p : Plan). length p.ops) c.plan.view_is)
 
-few : (c : After-len) → c.len.result ≤ MAX_OPS
-few c = omega (arith, counted c, few_ops_at c.args.self.now c.plans.ensures.counts.ops c.args.rank c.index-plans-rank.result (here c))
+len_result_within_max_ops : (c : After-len) → c.len.result ≤ MAX_OPS
+len_result_within_max_ops c = omega (arith, len_result_is_number_of_ops c, few_ops_at c.args.self.now c.plans.ensures.counts.ops c.args.rank c.index-plans-rank.result (indexed_plan_is_at_rank c))
 
 pub overflow_cast-result : goal.overflow_cast-result
-overflow_cast-result c = omega (arith, few c)
+overflow_cast-result c = omega (arith, len_result_within_max_ops c)
 
 pub returns-clause-count : goal.returns-clause-count
 returns-clause-count c =
-    counted c ∙ ap length (sym (ops_at_some c.args.self.now c.args.rank c.index-plans-rank.result (here c)))
+    len_result_is_number_of_ops c ∙ ap length (sym (ops_at_some c.args.self.now c.args.rank c.index-plans-rank.result (indexed_plan_is_at_rank c)))
 
 pub returns-clause-few : goal.returns-clause-few
-returns-clause-few c = few c
+returns-clause-few c = len_result_within_max_ops c

@@ -15,12 +15,12 @@ nonempty : (c : After-take_piece) → 0 < length c.args.rest.now
 nonempty c = omega (arith, false-eqb (length c.args.rest.now) 0 c.if-is_empty.ensures)
 
 -- the scan of the text and a prefix of the piece, where the lexer's scan of that prefix is known
-went : (c : After-take_piece) (n : ℕ) (new : Mode) (tokens : List Token) →
+scan_of_text_and_prefix : (c : After-take_piece) (n : ℕ) (new : Mode) (tokens : List Token) →
     (c.self.inside.ends_run ≡ true → 0 < length (take n c.args.rest.now)) →
     scan c.self.inside.mode c.self.inside.place (take n c.args.rest.now) ≡ (new, tokens) →
     (text : List ℕ) → Stands c.args.self.now text →
     scanned (text ++ take n c.args.rest.now) ≡ (new, handed c.args.self.now text ++ tokens)
-went c n new tokens some scan_is text stands =
+scan_of_text_and_prefix c n new tokens some scan_is text stands =
     let fields = c.self.inside in
     scan_of_continuation_by_parts fields.mode new fields.place fields.ends_run c.args.self.now c.self.view_is n c.args.rest.now tokens c.requires.apart some scan_is text stands
 
@@ -39,7 +39,7 @@ scanned_with_whole_piece c new scan_is text stands =
     let rest = c.args.rest.now in
     let whole : take (length rest) rest ≡ rest = take_all (length rest) rest (omega arith) in
     let some = nonempty c in
-    went c (length rest) new [] (λ e. omega (arith, length-take (length rest) rest))
+    scan_of_text_and_prefix c (length rest) new [] (λ e. omega (arith, length-take (length rest) rest))
     (ap (scan c.self.inside.mode c.self.inside.place) whole ∙ scan_is) text stands
 
 pub returns-in-Piece-clause-stands : goal.returns-in-Piece-clause-stands
@@ -76,7 +76,7 @@ run_stands c taken token run within scan_is closing_is text stands =
     let before = handed c.args.self.now text in
     let found = stands_past_run run place text (take taken c.args.rest.now) (before ++ []) token
     (length_with_prefix c taken within text stands)
-    (went c taken run [] (run_after_returned_run_took_a_byte c taken token run scan_is closing_is) scan_is text stands)
+    (scan_of_text_and_prefix c taken run [] (run_after_returned_run_took_a_byte c taken token run scan_is closing_is) scan_is text stands)
     closing_is in
     (found.0, found.1 ∙ ap (λ (ts : List Token). ts ++ token ∷ []) (append-nil before))
 
@@ -119,7 +119,7 @@ returns-in-Sign-clause-stands c text stands =
     (sym said.2)
     (stands_where_scanned Between (c.self.inside.place + c.in-Sign.taken) text (take c.in-Sign.taken rest) (handed c.args.self.now text ++ c.take_piece.new.token ∷ [])
     (length_with_prefix k c.in-Sign.taken said.1 text stands)
-    (went k c.in-Sign.taken Between (c.take_piece.new.token ∷ []) (λ _. some) said.3 text stands)
+    (scan_of_text_and_prefix k c.in-Sign.taken Between (c.take_piece.new.token ∷ []) (λ _. some) said.3 text stands)
     tt)
 
 pub returns-in-Sign-clause-handed : goal.returns-in-Sign-clause-handed
@@ -129,7 +129,7 @@ returns-in-Sign-clause-handed c text stands =
     let said = c.in-Sign.ensures in
     let long = length-take c.in-Sign.taken rest in
     let some : 0 < length (take c.in-Sign.taken rest) = omega (arith, said.0, said.1) in
-    ap (λ (r : Scanned). r.1) (went k c.in-Sign.taken Between (c.take_piece.new.token ∷ []) (λ _. some) said.3 text stands)
+    ap (λ (r : Scanned). r.1) (scan_of_text_and_prefix k c.in-Sign.taken Between (c.take_piece.new.token ∷ []) (λ _. some) said.3 text stands)
 
 -- the text followed by the whole piece is at fault
 scanned_with_piece_is_fault : (c : After-take_piece) (at : ℕ) →

@@ -1,5 +1,5 @@
 use Rattle.std.proofs.Common.{refl, ◌∙◌}
-use Rattle.goal_words.proofs.WordsLeftLemmas.{no_words_left, begun}
+use Rattle.goal_words.proofs.WordsLeftLemmas.{no_words_left, plain_word_is_first_of_parts}
 use Rattle.goal_words.proofs.words_left.WordsLeft.next.Goals as goal
 
 pub returns-in_err-word : goal.returns-in_err-word
@@ -13,4 +13,4 @@ returns c =
     let cases = c.in_ok-word.ensures.cases.0 in
     c.in_ok-rest.ensures.left
     ∙ rw (cases, c.as_str.ensures.value)
-    (begun rest.taken rest.given c.in_ok-word.word.now c.in_ok-word.words.now (rw cases at c.in_ok-rest.ensures.plain))
+    (plain_word_is_first_of_parts rest.taken rest.given c.in_ok-word.word.now c.in_ok-word.words.now (rw cases at c.in_ok-rest.ensures.plain))

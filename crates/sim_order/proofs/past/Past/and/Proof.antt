@@ -30,7 +30,7 @@ use denote.Triple.Spec.{Meets, triple_of}
 use denote.Triple.Table.{entered}
 use denote.Triple.Walked.{says, Stays, stay_dropped, walk_of, ends_at, walk_Meets, Goes-dropped}
 use Rattle.std.specs.contracts.marker.PhantomData as Mark
-use Rattle.sim_order.proofs.Walks.{none, one, one_made}
+use Rattle.sim_order.proofs.Walks.{empty_struct_value, one, one_made}
 use Rattle.sim_order.specs.contracts.past.Past as Past
 use Rattle.sim_order.specs.contracts.past.Past.and as F
 use Rattle.sim_order.specs.contracts.past.Past.and.Key.{name as #self}
@@ -82,10 +82,10 @@ module _ (A : RattleType) where
           enter ! C Λ function (p ∷ q ∷ []) Post $ alloc_all ! (λ l. pass_all ! refl ((tt, tt), ((tt, tt), tt)) $
           sets ! (agg ! (no_more !)) refl (tt, tt) $
           sets ! (agg ! (and_then ! (get ! refl) (no_more !))) refl (tt, (tt, tt)) $
-          nothing ! $ owned ! (Mark.the_row (param 0 A)) (Is (Mark.the_row (param 0 A))) (makes (Mark.the_type (param 0 A)) tt 𝓛) (record {}) (none ∷ []) (tt, (refl, tt)) $
-          one_made ! (Mark.the_row (param 0 A)) (record {}) none $ fjoin ! $
+          nothing ! $ owned ! (Mark.the_row (param 0 A)) (Is (Mark.the_row (param 0 A))) (makes (Mark.the_type (param 0 A)) tt 𝓛) (record {}) (empty_struct_value ∷ []) (tt, (refl, tt)) $
+          one_made ! (Mark.the_row (param 0 A)) (record {}) empty_struct_value $ fjoin ! $
           returns ! (look_at ! 0 refl) $ free_all ! refl $
-          suffices ! _ (ends_at 𝓛 ended stayed held z (one none) made (tt, (tt, tt)) (tt, (tt, tt))) $ says ! refl $
+          suffices ! _ (ends_at 𝓛 ended stayed held z (one empty_struct_value) made (tt, (tt, tt)) (tt, (tt, tt))) $ says ! refl $
           nothing ! $ nothing ! $ fjoin ! $ nothing ! $ fjoin ! $ move ! (2 ∷ 0 ∷ 1 ∷ []) $ done !)))
 
     meets : (𝓣 : Tables 𝓤 H) → Meets 𝓛 ended.signature (WpFn 𝓤 H 𝓣.C 𝓣.Λ function) (closing 𝓛 ended held)

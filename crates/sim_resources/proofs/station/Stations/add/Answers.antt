@@ -5,8 +5,8 @@ use Rattle.sim_resources.proofs.Placing.{placed_after_write, appended_station_ha
 use Rattle.sim_resources.proofs.station.Stations.add.Goals as goal
 
 -- the stations and the places that are left
-after : (c : goal.After-self-1) → ArePlaced c.push.new.self.items (latest_at c.set.new.self)
-after c =
+placed_after_add : (c : goal.After-self-1) → ArePlaced c.push.new.self.items (latest_at c.set.new.self)
+placed_after_add c =
     let seen = c.self.inside.seen.items in
     let by_rank = subst (λ (xs : List Station). IsNotAfter xs c.args.station.rank) (sym c.self.view_is) c.requires.by_rank in
     let new = subst (λ (xs : List Station). IsNew xs c.args.station) (sym c.self.view_is) c.requires.new in
@@ -17,7 +17,7 @@ pub invariant_of-self-2 : goal.invariant_of-self-2
 invariant_of-self-2 c =
     let seen = c.self.inside.seen.items in
     let size : length (seen ++ c.args.station ∷ []) ≡ length seen + 1 = length-append seen (c.args.station ∷ []) in
-    (after c, subst (λ (xs : List Station). c.self.inside.count + 1 ≡ length xs) (sym c.push.ensures) (omega (arith, size, c.self.invariant.1)))
+    (placed_after_add c, subst (λ (xs : List Station). c.self.inside.count + 1 ≡ length xs) (sym c.push.ensures) (omega (arith, size, c.self.invariant.1)))
 
 pub returns-clause-number : goal.returns-clause-number
 returns-clause-number c =
@@ -25,4 +25,4 @@ returns-clause-number c =
     subst (λ (xs : List Station). HasNumber xs c.push.new.self.items c.args.station c.self.inside.count) c.self.view_is (subst (λ (xs : List Station). HasNumber seen xs c.args.station c.self.inside.count) (sym c.push.ensures) (subst (HasNumber seen (seen ++ c.args.station ∷ []) c.args.station) (sym c.self.invariant.1) (appended_station_has_number seen c.args.station)))
 
 pub returns-clause-once : goal.returns-clause-once
-returns-clause-once c = (after c).once
+returns-clause-once c = (placed_after_add c).once

@@ -5,7 +5,7 @@ use Rattle.sim_state.specs.Engine.{RunSoFar}
 use Rattle.sim_state.specs.declared.entry.OpState.{OpState}
 use Rattle.sim_state.proofs.Views.{free_at_view, within_at_view}
 use Rattle.sim_state.proofs.EnabledLemmas.{ended_data, waiting_there, waiting_since, clears, data_enabled, data_time}
-use Rattle.sim_state.proofs.Tasks.{is_message}
+use Rattle.sim_state.proofs.Tasks.{send_work_is_message}
 use Rattle.sim_state.proofs.state.RunState.hand_over_of.Goals as goal
 use Rattle.goal_graph.proofs.ForCallers.{send_is_op}
 
@@ -23,7 +23,7 @@ returns-in_err-paired g c =
 pub clear_to-cleared-requires-clause-goes_to : goal.clear_to-cleared-requires-clause-goes_to
 clear_to-cleared-requires-clause-goes_to g c =
     let work = c.entry.result.now.work in
-    let message = is_message _ _ c.args.send work (ap (λ (e : OpState). e.work) c.entry.ensures) c.requires.op in
+    let message = send_work_is_message _ _ c.args.send work (ap (λ (e : OpState). e.work) c.entry.ensures) c.requires.op in
     (work.amount, subst (λ (v : RunSoFar _). IsMessage v.plans c.args.send work.to work.amount) (sym c.self.view_is) message)
 
 pub clear_to-cleared-requires-clause-latency_fits : goal.clear_to-cleared-requires-clause-latency_fits

@@ -23,7 +23,7 @@ use denote.Triple.Entry.{alive}
 use denote.Triple.Spec.{Meets, triple_of}
 use denote.Triple.Table.{entered}
 use denote.Triple.Walked.{says, Stays, walk_of, ends_at, walk_Meets}
-use Rattle.sim_state.proofs.Walks.{none, fieldless_struct_made}
+use Rattle.sim_state.proofs.Walks.{fieldless_value, fieldless_struct_made}
 use Rattle.sim_state.specs.contracts.unkept.Unkept as Unkept
 use Rattle.sim_state.specs.contracts.unkept.Unkept.empty as F
 use Rattle.sim_state.specs.contracts.unkept.Unkept.empty.Key.{name as #self}
@@ -63,7 +63,7 @@ module _ {M : Type 1} {𝓤 : Ura M} (𝓛 : Logic 𝓤) (at_mem : Memory → SP
         sets ! (agg ! (no_more !)) refl (tt, tt) $
         nothing ! $ fieldless_struct_made ! $ fjoin ! $
         returns ! (look_at ! 0 refl) $ free_all ! refl $
-        suffices ! _ (ends_at 𝓛 ended stayed held z none told tt tt) $ says ! refl $
+        suffices ! _ (ends_at 𝓛 ended stayed held z fieldless_value told tt tt) $ says ! refl $
         nothing ! $ move ! (2 ∷ 0 ∷ 1 ∷ []) $ done !)
 
   meets : (𝓣 : Tables 𝓤 H) → Meets 𝓛 ended.signature (WpFn 𝓤 H 𝓣.C 𝓣.Λ function) (closing 𝓛 ended held)

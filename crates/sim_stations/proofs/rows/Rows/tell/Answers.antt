@@ -7,15 +7,15 @@ use Rattle.sim_stations.proofs.rows.Rows.tell.Goals.{After-tell}
 use Rattle.sim_stations.proofs.rows.Rows.tell.Goals as goal
 
 module _ (g : Over) (c : After-tell g) where
-  within : c.args.station < length c.self.inside.pairs.items
-  within = omega (arith, c.requires.exists, ap (λ (q : Rowed). length q.pairs) c.self.view_is)
+  station_of_tell_exists : c.args.station < length c.self.inside.pairs.items
+  station_of_tell_exists = omega (arith, c.requires.exists, ap (λ (q : Rowed). length q.pairs) c.self.view_is)
 
   at : slice_get c.self.inside.pairs.items c.args.station ≡ Some c.index-pair.result.now
-  at = pair_read c.self.inside.pairs.items c.args.station c.index-pair.result.now within c.index-pair.ensures
+  at = pair_read c.self.inside.pairs.items c.args.station c.index-pair.result.now station_of_tell_exists c.index-pair.ensures
 
   turned : c.index-turned.result.now ≡ turned_at c.self.inside.turned.items c.args.station
   turned =
-      turned_read c.self.inside.turned.items c.args.station c.index-turned.result.now (omega (arith, within, c.self.invariant.0.both)) c.index-turned.ensures
+      turned_read c.self.inside.turned.items c.args.station c.index-turned.result.now (omega (arith, station_of_tell_exists, c.self.invariant.0.both)) c.index-turned.ensures
 
   is_new : c.write.new.rows ≡ with_key c.self.inside.rows (place_in c.args.station (turned_at c.self.inside.turned.items c.args.station)) c.args.key
   is_new =

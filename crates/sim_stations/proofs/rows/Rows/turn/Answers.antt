@@ -46,11 +46,11 @@ module _ (g : Over) (c : After-tell_both-arg-3-1 g) where
 
 -- and after it
 module _ (g : Over) (c : After-tell_both g) where
-  within : c.args.station < length c.self.inside.pairs.items
-  within = omega (arith, c.requires.exists, ap (λ (q : Rowed). length q.pairs) c.self.view_is)
+  station_of_turn_exists : c.args.station < length c.self.inside.pairs.items
+  station_of_turn_exists = omega (arith, c.requires.exists, ap (λ (q : Rowed). length q.pairs) c.self.view_is)
 
   at : slice_get c.self.inside.pairs.items c.args.station ≡ Some c.index-pair.result.now
-  at = pair_read c.self.inside.pairs.items c.args.station c.index-pair.result.now within c.index-pair.ensures
+  at = pair_read c.self.inside.pairs.items c.args.station c.index-pair.result.now station_of_turn_exists c.index-pair.ensures
 
   times : AreTimesOf c.args.times.now c.self.inside.free.times c.index-pair.result.now
   times =
@@ -59,7 +59,7 @@ module _ (g : Over) (c : After-tell_both g) where
 
   turned : c.index-turned.result.now ≡ turned_at c.self.inside.turned.items c.args.station
   turned =
-      turned_read c.self.inside.turned.items c.args.station c.index-turned.result.now (omega (arith, within, c.self.invariant.0.both)) c.index-turned.ensures
+      turned_read c.self.inside.turned.items c.args.station c.index-turned.result.now (omega (arith, station_of_turn_exists, c.self.invariant.0.both)) c.index-turned.ensures
 
   mid : c.drop_slot.new.self ≡ with_key c.self.inside.rows (place_in c.args.station (turned_at c.self.inside.turned.items c.args.station)) None
   mid =
@@ -83,8 +83,8 @@ module _ (g : Over) (c : After-tell_both g) where
       let p = c.index-pair.result.now in
       both_heads_updated_by_same_times c.put.new.self c.args.times.now q.free.times q.heads c.tell_both.new.heads p (times_known_are_same c.args.times.now q.free.times p times) c.tell_both.ensures.told
 
-  over : set c.self.inside.turned.items c.args.station (not c.index-turned.result.now) ≡ set c.self.inside.turned.items c.args.station (not (turned_at c.self.inside.turned.items c.args.station))
-  over = ap (λ b. set c.self.inside.turned.items c.args.station (not b)) turned
+  switch_of_read_is_switch_of_turned_at : set c.self.inside.turned.items c.args.station (not c.index-turned.result.now) ≡ set c.self.inside.turned.items c.args.station (not (turned_at c.self.inside.turned.items c.args.station))
+  switch_of_read_is_switch_of_turned_at = ap (λ b. set c.self.inside.turned.items c.args.station (not b)) turned
 
 pub tell_both-requires-clause-cpu : goal.tell_both-requires-clause-cpu
 tell_both-requires-clause-cpu g c =
@@ -111,13 +111,13 @@ pub invariant_of-self : goal.invariant_of-self
 invariant_of-self g c =
     let q = c.self.inside in
     let inside = turned_inside q.rows q.heads q.pairs.items q.turned.items q.free.times c.self.invariant.0 c.self.invariant.1 c.args.station c.index-pair.result.now (at g c) c.args.key (has g c) c.drop_slot.new.self c.put.new.self (mid g c) (new g c) in
-    (subst (λ bs. IsInRows c.put.new.self q.pairs.items bs q.free.times) (sym (over g c)) inside, turned_heads q.rows q.heads q.pairs.items q.turned.items q.free.times c.self.invariant.0 c.self.invariant.1 c.args.station c.index-pair.result.now (at g c) c.args.key (has g c) c.drop_slot.new.self c.put.new.self (mid g c) (new g c) c.tell_both.new.heads (told g c))
+    (subst (λ bs. IsInRows c.put.new.self q.pairs.items bs q.free.times) (sym (switch_of_read_is_switch_of_turned_at g c)) inside, turned_heads q.rows q.heads q.pairs.items q.turned.items q.free.times c.self.invariant.0 c.self.invariant.1 c.args.station c.index-pair.result.now (at g c) c.args.key (has g c) c.drop_slot.new.self c.put.new.self (mid g c) (new g c) c.tell_both.new.heads (told g c))
 
 pub returns-clause-turned : goal.returns-clause-turned
 returns-clause-turned g c =
     let q = c.self.inside in
-    let keys = ap (λ bs. seen bs c.put.new.self.keys) (over g c) ∙ turned_seen q.rows q.heads q.pairs.items q.turned.items q.free.times c.self.invariant.0 c.self.invariant.1 c.args.station c.index-pair.result.now (at g c) c.args.key (has g c) c.drop_slot.new.self c.put.new.self (mid g c) (new g c) in
-    (λ i. record { keys = keys i; pairs = q.pairs.items; turned = over g c i; free = q.free.times }) ∙ ap (λ (r : Rowed). record { keys = r.keys; pairs = r.pairs; turned = set r.turned c.args.station (not (turned_at r.turned c.args.station)); free = r.free }) c.self.view_is
+    let keys = ap (λ bs. seen bs c.put.new.self.keys) (switch_of_read_is_switch_of_turned_at g c) ∙ turned_seen q.rows q.heads q.pairs.items q.turned.items q.free.times c.self.invariant.0 c.self.invariant.1 c.args.station c.index-pair.result.now (at g c) c.args.key (has g c) c.drop_slot.new.self c.put.new.self (mid g c) (new g c) in
+    (λ i. record { keys = keys i; pairs = q.pairs.items; turned = switch_of_read_is_switch_of_turned_at g c i; free = q.free.times }) ∙ ap (λ (r : Rowed). record { keys = r.keys; pairs = r.pairs; turned = set r.turned c.args.station (not (turned_at r.turned c.args.station)); free = r.free }) c.self.view_is
 
 pub returns-clause-counted : goal.returns-clause-counted
 returns-clause-counted g c =

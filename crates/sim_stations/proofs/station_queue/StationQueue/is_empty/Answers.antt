@@ -11,14 +11,14 @@ use Rattle.sim_stations.proofs.Least.{not_empty, seen_empty_if_both_empty}
 use Rattle.sim_stations.proofs.station_queue.StationQueue.is_empty.Goals as goal
 
 -- whether there is a first key
-told : (ahead : List (Option Timed)) (waiting : Grouped Timed) (rows : Rowed) (stands : List KeyPlace) → IsKept ahead waiting rows stands → (r : Option Look) → (is_some r ≡ false → IsEmptyMap ahead × IsEmptyMap rows.keys) → IfSome r (λ f. IsFirstOfAll ahead rows f.key f.is_ahead) → (b : Bool) → is_some r ≡ not b → (IsTrue b → IsEmptyMap (seen_of ahead waiting rows)) × (IsEmptyMap (seen_of ahead waiting rows) → IsTrue b)
-told ahead waiting rows stands kept None none first true e = (λ t. let both = none refl in seen_empty_if_both_empty ahead waiting rows stands kept both.0 both.1, λ empty. refl)
-told ahead waiting rows stands kept None none first false e = absurd (cc)
-told ahead waiting rows stands kept (Some f) none first true e = absurd (cc)
-told ahead waiting rows stands kept (Some f) none first false e = (λ t. absurd (cc), λ empty. absurd (not_empty ahead waiting rows stands kept f.key f.is_ahead first empty))
+true_iff_no_key_seen : (ahead : List (Option Timed)) (waiting : Grouped Timed) (rows : Rowed) (stands : List KeyPlace) → IsKept ahead waiting rows stands → (r : Option Look) → (is_some r ≡ false → IsEmptyMap ahead × IsEmptyMap rows.keys) → IfSome r (λ f. IsFirstOfAll ahead rows f.key f.is_ahead) → (b : Bool) → is_some r ≡ not b → (IsTrue b → IsEmptyMap (seen_of ahead waiting rows)) × (IsEmptyMap (seen_of ahead waiting rows) → IsTrue b)
+true_iff_no_key_seen ahead waiting rows stands kept None none first true e = (λ t. let both = none refl in seen_empty_if_both_empty ahead waiting rows stands kept both.0 both.1, λ empty. refl)
+true_iff_no_key_seen ahead waiting rows stands kept None none first false e = absurd (cc)
+true_iff_no_key_seen ahead waiting rows stands kept (Some f) none first true e = absurd (cc)
+true_iff_no_key_seen ahead waiting rows stands kept (Some f) none first false e = (λ t. absurd (cc), λ empty. absurd (not_empty ahead waiting rows stands kept f.key f.is_ahead first empty))
 
 pub returns-clause-empty : goal.returns-clause-empty
 returns-clause-empty g c =
     let q = c.self.inside in
-    let t = told q.ahead q.waiting q.rows q.stands.items c.self.invariant.0 c.first.result c.first.ensures.none.0 c.first.ensures.first c.is_none.result c.is_none.ensures in
+    let t = true_iff_no_key_seen q.ahead q.waiting q.rows q.stands.items c.self.invariant.0 c.first.result c.first.ensures.none.0 c.first.ensures.first c.is_none.result c.is_none.ensures in
     subst (λ (s : Stationed). (IsTrue c.is_none.result → IsEmptyMap s.keys) × (IsEmptyMap s.keys → IsTrue c.is_none.result)) c.self.view_is t
