@@ -32,9 +32,9 @@ pub enum OpenFault {
 /// - `absent_count`: calls of `open` with a name that no file has;
 /// - `write_count`: failed calls of `create`, `write` and `finish`.
 ///
-/// A count may stop at 2^64-1, and one that has stopped passes for risen. A call returns `Failed` only where its count
-/// rose; any other result leaves that count unchanged. A refused call leaves the contents and what is open unchanged,
-/// except that `finish` always closes the output.
+/// A count may stop at 2^64-1; a count that has stopped is taken to have risen. A call returns `Failed` only where its
+/// count rose; any other result leaves that count unchanged. A refused call leaves the contents and what is open
+/// unchanged, except that `finish` always closes the output.
 pub trait Host {
     /// What contracts know of the host.
     ghost state: { Self → HostState };
@@ -83,7 +83,7 @@ pub trait Host {
         ensures writing { (state self.new).writing ≡ true }
         ensures call { CallsWrite result (state self.old) (state self.new) };
 
-    /// Closes the output, whatever it returns.
+    /// Closes the output, even if the call returns an error.
     fn finish(&mut self) -> Result<(), IoFault>
         requires open { (state self.old).writing ≡ true }
 

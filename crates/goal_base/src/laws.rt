@@ -4,8 +4,8 @@ ghost use Rattle.goal_base.specs.Device.{HostState, Held, ReadFaulted, IsTooLong
 
 use goal_limits::MAX_INPUT;
 
-/// Laws of `read_all` for an existing file of a host whose contents are known. Where the read count did not rise, it
-/// does not answer `Fault` (*no_fault*); where it answers `TooLong`, the file has more than 2^27 bytes (*no_short*).
+/// Laws of `read_all` for an existing file of a host whose contents are known. It returns `Fault` only where the read
+/// count rose (*no_fault*), and `TooLong` only if the file has more than 2^27 bytes (*no_short*).
 pub fn laws_of_reading()
     ensures no_fault { (old new : HostState) (name text : List ℕ) → old.tells ≡ true
         → file_of old name ≡ Some text → Held old.stops old.read_count new.read_count

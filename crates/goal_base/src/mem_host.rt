@@ -12,10 +12,10 @@ use goal_limits::NoMemory;
 use std::alloc::Global;
 use std::marker::Model;
 
-/// A host in memory, whose calls fail where its creator said so.
+/// A host in memory. Its creator chooses which of its calls fail.
 ///
-/// A read and a write moves as many bytes as it can, up to `most`. The calls of the trait are numbered from 1; calls
-/// after number 2^64-1 have no number. The counts start at 0 and stop at 2^64-1.
+/// Each read and each write moves as many bytes as it can, up to `most`. The calls of the trait are numbered from 1;
+/// calls after number 2^64-1 have no number. The counts start at 0 and stop at 2^64-1.
 #[derive(Drop)]
 pub struct MemHost {
     alloc: Global,

@@ -8,10 +8,10 @@ use goal_limits::NoMemory;
 use std::alloc::Global;
 use std::marker::Model;
 
-/// A sink in memory, whose writes fail where its creator said so.
+/// A sink in memory. Its creator chooses which of its writes fail.
 ///
 /// A write moves as many bytes as it can, up to `most`. The writes are numbered from 1; those after number 2^64-1 have
-/// no number. The count starts at 0 and does not stop, since it is at most the number of the numbered calls.
+/// no number and do not fail. So the count of failed writes, which starts at 0, never has to stop at 2^64-1.
 #[derive(Drop)]
 pub struct MemSink {
     most: usize,

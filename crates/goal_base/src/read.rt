@@ -14,7 +14,7 @@ const PIECE: usize = 16_384;
 /// Why a file was not read whole.
 #[derive(Clone, Copy, Debug, PartialEq, Eq)]
 pub enum ReadAll {
-    /// The host failed, or no file has that name. It counts both.
+    /// The host failed, or no file has that name. The host counts both.
     Fault,
     /// The file has more than 2^27 bytes.
     TooLong,

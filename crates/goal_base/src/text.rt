@@ -24,7 +24,7 @@ impl TextOut {
     ghost use Rattle.std.specs.Prelude.{ℕ, List};
     ghost use Rattle.goal_base.specs.Text.{pair_text};
 
-    /// Creates an empty text, without memory.
+    /// Creates an empty text. It allocates nothing.
     pub fn new(alloc: Global) -> TextOut
         ensures { result ≡ [] }
     {
@@ -33,7 +33,7 @@ impl TextOut {
         }
     }
 
-    /// Creates an empty text with room for `bytes` bytes: until it is longer, it needs no further memory.
+    /// Creates an empty text with room for `bytes` bytes. Until it is longer, appending to it allocates nothing.
     pub fn with_room(alloc: Global, bytes: usize) -> Result<TextOut, NoMemory>
         ensures { IfOk result (λ text. text ≡ []) }
     {
@@ -42,9 +42,9 @@ impl TextOut {
         })
     }
 
-    /// Makes room for a line of `line` bytes after the first `end` bytes of an array of lines, and returns where the
-    /// line begins. If the array has too little room, those bytes are appended to the text, and the line begins the
-    /// array.
+    /// Makes room for a line of `line` bytes in the array `lines`, whose first `end` bytes are not yet in the text.
+    /// Returns the place in the array where the line is to begin. This is `end` if the line fits there. Otherwise the
+    /// `end` bytes are appended to the text, and it is 0. On `NoMemory` the text is unchanged.
     #[inline(always)]
     pub fn room_for(&mut self, line: usize, lines: &[u8], end: usize) -> Result<usize, NoMemory>
         requires some { line ≤ length lines.now }

@@ -156,7 +156,7 @@ fn put_note(out: &mut Vec<u8>, layout: Layout, note: Note) -> Result<(), NoMemor
     }
 }
 
-// The code of a kind, and the flags, which only a receive has.
+// The code of a kind. `flags_of` below gives its flags, which only a receive has.
 fn kind_code(kind: Kind) -> u8
     ensures code { result ≡ kind_code kind }
     ensures within { result ≤ 2 }
@@ -178,7 +178,7 @@ fn flags_of(kind: Kind) -> u8
     }
 }
 
-// The flag, if any number will do.
+// Returns `flag` if `number` is `None`, which means that any will do, and otherwise 0.
 fn any_flag(flag: u8, number: Option<u32>) -> u8
     ensures flag { result ≡ any_flag flag number }
     ensures within { result ≤ flag }
@@ -211,7 +211,7 @@ fn tag_in(kind: Kind) -> Option<u32>
     }
 }
 
-// The nanoseconds or the bytes.
+// The nanoseconds of a calc, or the bytes of a send or a receive.
 fn size_of(kind: Kind) -> u64
     ensures { result ≡ size_of kind }
 {
@@ -292,7 +292,7 @@ fn put_slots(out: &mut Vec<u8>, kind: u32, op: u32, first: u32, second: u32) -> 
     put_u32(out, second)
 }
 
-// The flag, unless the number is 0.
+// Returns `flag`, or 0 if the number is 0.
 fn flag_unless_zero(flag: u8, number: u8) -> u8
     ensures flag { result ≡ flag_unless_zero flag number }
     ensures within { result ≤ flag }

@@ -57,8 +57,8 @@ pub fn u64_at(bytes: &[u8], at: usize) -> Result<(u64, usize), FileFault>
     Ok((LittleEndian::read_u64(&bytes[at..]), at + 8))
 }
 
-/// Joins a group of seven bits and the number of the groups above it, if these are valid. They are not if they are 0,
-/// since fewer bytes would do, or beyond 64 bits.
+/// Joins a group of seven bits with `others`, the number that the groups above it give. The result is `None` if that
+/// number is invalid, is 0 (fewer bytes would do), or makes the result exceed 64 bits.
 fn below(group: u8, others: Option<u64>) -> Option<u64>
     requires { group < 128 }
     ensures { result ≡ below group others }
@@ -136,7 +136,7 @@ pub fn packed_at(bytes: &[u8], at: usize) -> Result<(u64, usize), FileFault>
     }
 }
 
-/// Reads one byte, which is at most `most`.
+/// Reads one byte, which must be at most `most`.
 #[inline(always)]
 #[tactic(auto, unfolding(crate::specs::Fields::byte_up_to))]
 pub fn byte_up_to(bytes: &[u8], most: u8, at: usize) -> Result<(u8, usize), FileFault>
@@ -149,7 +149,7 @@ pub fn byte_up_to(bytes: &[u8], most: u8, at: usize) -> Result<(u8, usize), File
     Ok((byte, after))
 }
 
-/// Reads a number of four bytes, which is at most `most`.
+/// Reads a number of four bytes, which must be at most `most`.
 #[tactic(auto, unfolding(crate::specs::Fields::u32_up_to))]
 pub fn u32_up_to(bytes: &[u8], most: u32, at: usize) -> Result<(u32, usize), FileFault>
     ensures { result ≡ u32_up_to bytes.now most at }
@@ -161,7 +161,7 @@ pub fn u32_up_to(bytes: &[u8], most: u32, at: usize) -> Result<(u32, usize), Fil
     Ok((number, after))
 }
 
-/// Reads a number of eight bytes, which is at most `most`.
+/// Reads a number of eight bytes, which must be at most `most`.
 #[tactic(auto, unfolding(crate::specs::Fields::u64_up_to))]
 pub fn u64_up_to(bytes: &[u8], most: u64, at: usize) -> Result<(u64, usize), FileFault>
     ensures { result ≡ u64_up_to bytes.now most at }
@@ -173,7 +173,7 @@ pub fn u64_up_to(bytes: &[u8], most: u64, at: usize) -> Result<(u64, usize), Fil
     Ok((number, after))
 }
 
-/// Reads a packed number, which is at most `most`.
+/// Reads a packed number, which must be at most `most`.
 #[inline(always)]
 #[tactic(auto, unfolding(crate::specs::Fields::packed_up_to))]
 pub fn packed_up_to(bytes: &[u8], most: u64, at: usize) -> Result<(u64, usize), FileFault>
@@ -187,7 +187,7 @@ pub fn packed_up_to(bytes: &[u8], most: u64, at: usize) -> Result<(u64, usize), 
     Ok((number, after))
 }
 
-/// Reads one byte, which is not 0.
+/// Reads one byte, which must not be 0.
 #[inline(always)]
 #[tactic(auto, unfolding(crate::specs::Fields::some_byte_at))]
 pub fn some_byte_at(bytes: &[u8], at: usize) -> Result<(u8, usize), FileFault>

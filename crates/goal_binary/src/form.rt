@@ -1,4 +1,4 @@
-//! The form of an operation, which its first two bytes give, or in version 2 its first.
+//! The form of an operation, given by its first two bytes in version 1, and by its first byte in version 2.
 ghost use Rattle.std.specs.Prelude.{◌≡◌};
 ghost use Rattle.goal_binary.specs.Reading.{most_flags, form_of, form_at, used_unless, most_nic, most_peer, most_tag, most_size, has_peer, has_tag, unless_any, kind_of, is_head, head_of, head_byte_at, head_at};
 
@@ -42,14 +42,14 @@ fn form_of(kind: u8, flags: u8) -> OpForm
     }
 }
 
-/// Returns the greatest value of a field that is 0 if any will do.
+/// Returns the greatest value of a field that must be 0 if any number will do.
 fn used_unless(any: bool) -> u32
     ensures { result ≡ used_unless any }
 {
     if any { 0 } else { u32::MAX }
 }
 
-/// Returns the number, or `None` if any will do.
+/// Returns the number, or `None` if any number will do.
 fn unless_any(any: bool, number: u32) -> Option<u32>
     ensures { result ≡ unless_any any number }
 {

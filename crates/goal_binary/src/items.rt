@@ -87,7 +87,7 @@ fn fixed_note_at(bytes: &[u8], at: usize) -> Result<(Note, usize), FileFault>
     Ok((note_of(kind, op, first, second), after))
 }
 
-/// Reads the byte at this place, which is not 0, if it is there, and otherwise gives 0.
+/// Reads the byte at this place, which must not be 0, if `there` is true, and otherwise returns 0.
 #[inline(always)]
 #[tactic(auto, unfolding(crate::specs::Reading::some_byte_if))]
 fn some_byte_if(bytes: &[u8], there: bool, at: usize) -> Result<(u8, usize), FileFault>
@@ -110,7 +110,7 @@ fn packed_u32_at(bytes: &[u8], at: usize) -> Result<(u32, usize), FileFault>
     Ok((number as u32, after))
 }
 
-/// Reads the packed number at this place, if it is there, and otherwise gives 0.
+/// Reads the packed number at this place if `there` is true, and otherwise returns 0.
 #[inline(always)]
 #[tactic(auto, unfolding(crate::specs::Reading::packed_u32_if))]
 fn packed_u32_if(bytes: &[u8], there: bool, at: usize) -> Result<(u32, usize), FileFault>

@@ -12,7 +12,7 @@ use crate::layout::MAGIC;
 /// - `length_is_told`: the length of the file of version 1 follows from the numbers of ranks, operations, dependencies
 ///   and notes.
 /// - `within_input`: where these are within their limits, it is short enough to be an input.
-/// - `no_longer`: the file of version 2 is at most as long.
+/// - `no_longer`: the file of version 2 is at most as long as that of version 1.
 /// - `two_files`: bytes that mean plans are the file of these plans in one of the versions, so no schedule has a third.
 /// - `within_limits`: plans that bytes mean have counts, sizes and numbers that a file can have.
 /// - `plans_again`: each of the two files of such plans means these plans.

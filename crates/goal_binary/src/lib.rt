@@ -1,7 +1,7 @@
 //! Writing a schedule as a compiled file, and reading it back.
 //!
-//! `specs/File` defines the file of a schedule, of version 2, and its old file, of version 1. `specs/Reading` defines
-//! apart from it what bytes of either version mean: the plans of the ranks, or the first fault.
+//! `specs/File` defines the file of a schedule, of version 2, and its old file, of version 1. Independently of it,
+//! `specs/Reading` defines what bytes of either version mean: the plans of the ranks, or the first fault.
 #![tactic(auto)]
 
 mod decoding;

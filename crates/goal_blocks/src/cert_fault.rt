@@ -5,8 +5,9 @@ ghost use Rattle.goal_blocks.specs.declared.cert_fault.CertFault.TheVariants.{No
 use goal_graph::OpId;
 use std::alloc::{AllocError, AllocFailed};
 
-/// Why a schedule is not certified for a collective. The kinds are tried in this order, and the least fault of a kind
-/// is returned: by rank and number of the operation, or by the fields in their order.
+/// Why a schedule is not certified for a collective. The kinds of faults are checked in the order of these variants. Of
+/// the first kind that occurs, the least fault is returned: by the rank and number of the operation, or by the fields
+/// in their order.
 #[derive(Clone, Copy, Debug, PartialEq, Eq)]
 pub enum CertFault {
     /// The rank has more than 2,048 operations, or a note names a slot above 65,535, or the moves of this and all
@@ -43,7 +44,7 @@ pub enum CertFault {
     Stalls {
         op: OpId,
     },
-    /// The number of contributions held when they first exceed 2^24 in the walk.
+    /// The walk holds more than 2^24 contributions at some point. `held` is their number at the first such point.
     Weight {
         held: u64,
     },

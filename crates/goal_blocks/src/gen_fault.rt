@@ -7,7 +7,7 @@ use std::alloc::{AllocError, AllocFailed};
 /// Why a collective has no schedule for a number of ranks.
 #[derive(Clone, Copy, Debug, PartialEq, Eq)]
 pub enum GenFault {
-    /// There is no rank, or there are more than `limit`, the most of this collective.
+    /// There is no rank, or there are more than `limit`, the greatest number of ranks for this collective.
     Ranks { limit: u32 },
     /// The root is not one of the ranks.
     Root,

@@ -14,7 +14,7 @@ ghost use Rattle.goal_blocks.specs.Messages.{BcastIsPaired, AllgatherIsPaired, S
 /// - `made_is_certified`: the schedules of the ten collectives are certified without a check, for all ranks, roots and
 ///   sizes within the limits; those of the barrier and allreduce for up to 2,048 ranks.
 /// - `only_these_are_certified`: those of the barrier and allreduce for more than 2,048 ranks are not certified, since
-///   too much is held at the end of the walk.
+///   too many contributions are held at the end of the walk.
 /// - `made_is_right`: the schedules of all ten are right everywhere, for all ranks, roots and sizes within the limits,
 ///   including the barrier and allreduce for more than 2,048 ranks.
 pub fn laws_of_made_schedules()

@@ -5,8 +5,8 @@ ghost use Rattle.goal_blocks.specs.HeldFew.{ValuesStaySingle, HeldStaysFew};
 ghost use Rattle.goal_blocks.specs.Joined.{JoinedHoldsBoth, SegmentsAtOnce};
 ghost use Rattle.goal_blocks.specs.Placed.{PlacedIsPlaced, PlacedIsAllowedAlike, PlacedInterleavesAlike, PlacedHoldsAlike, PlacedIsRight, PlacedIsCertified, PlacedCollectiveIsRight};
 
-/// The laws of schedules without wildcards, in which each send has one receive of its channel and each receive one
-/// send, and whose walk ends:
+/// The laws of matched schedules. A schedule is matched if it has no wildcards, each send has one receive of its
+/// channel and each receive one send, and each operation ends in the walk:
 ///
 /// - `channels_are_apart`: each send fits at most one receive, and each receive at most one send.
 /// - `matched_ends_in_its_pairs`: in each complete interleaving, whichever sends are eager, each operation ends, and
@@ -17,9 +17,10 @@ ghost use Rattle.goal_blocks.specs.Placed.{PlacedIsPlaced, PlacedIsAllowedAlike,
 ///   extended to a complete one, since at most three actions per operation happen.
 /// - `some_complete_interleaving`: so there is a complete interleaving for each choice of eager sends, and statements
 ///   on all of them are not vacuous.
-/// - `levels_end`: if each send has one receive of its channel and each receive one send, and operations have levels
-///   such that an operation's needs have lower ones and a send and its receive have the same, then each operation ends
-///   in each complete interleaving, whichever sends are eager.
+/// - `levels_end`: each operation ends in each complete interleaving, whichever sends are eager, if there are levels in
+///   a schedule without wildcards in which each send has one receive of its channel and each receive one send. A level
+///   is a number for each operation: greater than those of the operations that it needs, and the same for a send and
+///   the receive of its channel.
 pub fn laws_of_matched_schedules()
     ensures channels_are_apart { ChannelsAreApart }
     ensures matched_ends_in_its_pairs { MatchedEndsInItsPairs }
@@ -34,8 +35,8 @@ pub fn laws_of_matched_schedules()
 ///
 /// - `order_is_kept`: if the dependencies make an operation end before another starts, it has ended wherever the other
 ///   has started, in each interleaving.
-/// - `conflicts_come_in_one_order`: without a race, two conflicting operations, one of which writes a slot that the
-///   other touches, have one order, the same in every interleaving.
+/// - `conflicts_come_in_one_order`: two operations conflict if one writes a slot that the other touches. Without a
+///   race, two conflicting operations have one order, the same in every interleaving.
 pub fn laws_of_races()
     ensures order_is_kept { OrderIsKept }
     ensures conflicts_come_in_one_order { ConflictsComeInOneOrder }
@@ -45,8 +46,8 @@ pub fn laws_of_races()
 ///
 /// - `certified_is_right_everywhere`: in each complete interleaving, whichever sends are eager, each operation ends,
 ///   each send is paired with the receive of its channel, there are no other pairs, and each slot holds what is wanted.
-/// - `matched_holds_as_the_walk`: a matched schedule without a race leaves in each slot, and reads for each send, the
-///   same as the walk, in each complete interleaving, whichever sends are eager.
+/// - `matched_holds_as_the_walk`: if a matched schedule has no race, then after each complete interleaving, whichever
+///   sends are eager, each slot holds the same value as after the walk, and each send has read the same values.
 /// - `certified_ends_everywhere`: in each complete interleaving, whichever sends are eager, each operation ends, each
 ///   send is paired with the receive of its channel, and there are no other pairs.
 /// - `bcast_of_two_is_certified`: there are certified schedules, such as the one for a broadcast from rank 0 to rank 1.
@@ -97,8 +98,8 @@ pub fn laws_of_positions()
 /// - `renamed_interleaves_alike`: its interleavings are the same, and so are the complete ones.
 /// - `renamed_holds_alike`: a slot's new name holds what the slot held, and each send has read the same.
 /// - `renamed_is_right`: it is right everywhere if and only if the original is, with start and end under the names.
-/// - `renamed_is_certified`: the same for certified, if slots up to 65,535 have new names up to 65,535, and those below
-///   2^32 new names below 2^32.
+/// - `renamed_is_certified`: the same for certified, if the original is not too large to be certified, and if the
+///   renaming and its inverse keep slots up to 65,535 within that limit, and those below 2^32 below 2^32.
 pub fn laws_of_renamed_slots()
     ensures renamed_is_renamed { RenamedIsRenamed }
     ensures renamed_back { RenamedBack }
@@ -118,8 +119,8 @@ pub fn laws_of_renamed_slots()
 /// - `slot_holds_wanted`, `block_holds_wanted`: if the exchanged schedule is certified, the original ends in each
 ///   complete interleaving, whichever sends are eager, in the pairs of the channels, and the slot or block holds what
 ///   the collective wants in slot 0 or in the first block.
-/// - `segments_in_one_run`, `blocks_in_one_run`: if that is certified for several blocks, all of them are right in one
-///   and the same complete interleaving, whatever its order.
+/// - `segments_in_one_run`, `blocks_in_one_run`: if that is certified for each of several blocks, then every complete
+///   interleaving leaves in each block what is wanted there, from the start of its own segment.
 pub fn laws_of_segments()
     ensures exchange_undoes_itself { ExchangeUndoesItself }
     ensures blocks_are_exchanged { BlocksAreExchanged }
@@ -134,12 +135,13 @@ pub fn laws_of_segments()
 /// The laws of schedules on other ranks: each rank has the plan of the rank that a permutation maps to it, and all
 /// peers are permuted too.
 ///
-/// - `placed_is_placed`: a schedule whose plans are put on other ranks is such a schedule.
+/// - `placed_is_placed`: putting the plans of a schedule on other ranks gives such a schedule.
 /// - `placed_is_allowed_alike`, `placed_interleaves_alike`: it allows the permuted actions after the permuted ones, and
 ///   its interleavings and complete interleavings are the permuted ones, with the permuted sends eager.
 /// - `placed_holds_alike`: from a start with relabelled contributions, the permuted rank holds what the rank holds,
 ///   relabelled.
-/// - `placed_is_right`: a schedule that is right everywhere is so on other ranks, for a condition that asks no more.
+/// - `placed_is_right`: a schedule that is right everywhere is right everywhere on other ranks too, for each condition
+///   at the end that follows from the original one.
 /// - `placed_is_certified`: a certified schedule is certified on other ranks, if few enough contributions are held
 ///   along the walk there, which takes the actions in another order.
 /// - `placed_collective_is_right`: a schedule that does a collective everywhere, other than a scan, does it on other
@@ -157,9 +159,9 @@ pub fn laws_of_placed_schedules()
 /// The laws of starts that are joined, slot by slot:
 ///
 /// - `joined_holds_both`: what is held from two joined starts is what is held from each of them, merged.
-/// - `segments_at_once`: if a schedule is certified in each of several blocks, and for leaving the other blocks empty,
-///   then from the joined starts of all segments each complete interleaving, whichever sends are eager, leaves in each
-///   block what it leaves there from the start of its own segment alone, which is what is wanted.
+/// - `segments_at_once`: let a schedule be certified in each of several blocks, and each time also for leaving the
+///   other blocks empty. Then each complete interleaving from the joined starts of all segments, whichever sends are
+///   eager, leaves in each block what it leaves there from the start of its own segment alone, which is what is wanted.
 pub fn laws_of_joined_starts()
     ensures joined_holds_both { JoinedHoldsBoth }
     ensures segments_at_once { SegmentsAtOnce }

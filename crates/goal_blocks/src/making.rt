@@ -13,7 +13,7 @@ use goal_graph::{PlanFault, RankPlan, Sched};
 use goal_limits::{Collective, MAX_BYTES, NoMemory};
 use std::alloc::Global;
 
-// Returns whether the number of ranks is a power of two, if it has to be.
+// Returns whether the number of ranks is a power of two. Also true if the collective does not require it.
 fn has_power(what: Collective, ranks: u32) -> bool
     ensures { IsTrue result ↔ HasPower what ranks }
 {

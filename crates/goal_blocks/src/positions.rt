@@ -35,7 +35,7 @@ pub fn back(ranks: u32, rank: u32, steps: u32) -> u32
     }
 }
 
-/// Returns the number of binary digits.
+/// Returns the number of binary digits of `number`, which is 0 for 0.
 #[must_use]
 #[tactic(auto, unfolding(crate::specs::Positions::digits))]
 pub fn digits(number: u32) -> u32
@@ -44,7 +44,7 @@ pub fn digits(number: u32) -> u32
     u32::BITS - number.leading_zeros()
 }
 
-/// Returns 2 to this power, which is below 32.
+/// Returns 2 to the power of `exponent`, which is below 32.
 #[must_use]
 #[tactic(auto, using(crate::proofs::RingAndTree::one_shifted))]
 pub fn power(exponent: u32) -> u32

@@ -2,11 +2,10 @@
 ghost use Rattle.std.specs.Prelude.{◌≡◌, ◌+◌, ◌*◌, ◌^◌, ◌≤◌};
 ghost use Rattle.goal_blocks.specs.Segments.{exchange};
 
-/// A segment of a collective, which is done in a block of slots as the collective is done in the first ones. Its slots
-/// are the `width` ones from `block` times `width` on.
+/// A segment of a collective. It uses the `width` slots from `block * width` on as the collective uses those from 0 on.
 #[derive(Clone, Copy, Debug, PartialEq, Eq)]
 pub struct Segment {
-    /// The number of slots of a block: those that the collective names.
+    /// The number of slots per block, usually all those that the collective names.
     pub width: u32,
     /// The number of the block, from 0.
     pub block: u32,
@@ -21,8 +20,8 @@ impl Segment {
         Segment { width: 0, block: 0 }
     }
 
-    /// Returns the slot with which this one is exchanged. A slot of the first block and the one at its place in this
-    /// block are exchanged; any other stays.
+    /// Returns the slot that `slot` becomes if the first block and this block are exchanged, slot by slot. A slot
+    /// outside both blocks stays.
     #[must_use]
     pub fn exchanged(self, slot: u32) -> u32
         requires { self.block * self.width + self.width ≤ 2 ^ 32 }

@@ -12,8 +12,8 @@ use goal_limits::NoMemory;
 use std::alloc::{AllocError, Global};
 use std::marker::Model;
 
-/// The ranges of slots that each operation of a rank moves, and its sums. Each is one list, with the start of each
-/// operation's entries, and last the end of all.
+/// The ranges of slots that each operation of a rank moves, and what it adds. Each of the two lists has the entries of
+/// all operations, in their order. Its `starts` give the index of each operation's first entry, and last the length.
 #[derive(Drop)]
 pub(crate) struct RankSlots {
     pub(crate) moved_starts: Vec<usize>,
@@ -92,7 +92,7 @@ fn listed(alloc: Global, plan: &RankPlan) -> Result<RankSlots, AllocError>
     }
 }
 
-// The same in one pass, if the notes are in the order of their operations, as they usually are.
+// Returns the same after one pass, or `None` if the notes are not in the order of their operations. Usually they are.
 fn listed_in_order(alloc: Global, plan: &RankPlan) -> Result<Option<RankSlots>, AllocError>
     ensures { IfOk result (λ found. IfSome found (AreListed plan.now)) }
 {

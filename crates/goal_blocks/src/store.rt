@@ -55,7 +55,8 @@ impl Model for Store {
     ghost invariant = { λ s. IsSound (record { what = s.what; ranks = s.ranks; written = entries_of s.written.entries }) s.held };
 }
 
-// The number of contributions that a slot had: of the value to which it was set, or of this one at the start.
+// Returns the number of contributions that a slot had: those of `written` if it was set before, else `first`, the
+// one that it had at the start, if any.
 fn size_before(written: Option<Vec<Contribution>>, first: Option<Contribution>) -> u64
     ensures { result ≡ length (before written first) }
 {
@@ -256,7 +257,7 @@ impl Store {
         merged(self.alloc, own, other)
     }
 
-    // Sets a slot. On `Err` it was not set before, and is unchanged.
+    // Sets a slot. This can fail (out of memory) only if the slot was never set before. On `Err` it is unchanged.
     fn put(&mut self, rank: u32, slot: u32, value: Vec<Contribution>) -> Result<(), NoMemory>
         requires rank { rank < self.old.ranks }
         requires sorted { IsSorted value.items }
@@ -275,7 +276,7 @@ impl Store {
         Ok(())
     }
 
-    // Sets a slot that was not set before to the value that it has.
+    // Stores the value that a slot has if it was never set, so that a later `put` cannot fail. No value changes.
     fn make_room(&mut self, rank: u32, slot: u32) -> Result<(), NoMemory>
         requires rank { rank < self.old.ranks }
         requires light { stored self.old.ranks (values self.old) ≤ weight_limit }

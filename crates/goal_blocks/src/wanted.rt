@@ -90,7 +90,7 @@ fn is_of_each(value: &[Contribution], count: u32, item: u32) -> bool
     true
 }
 
-// Returns whether the value has item 0 of each of the first `count` ranks.
+// Returns whether the value has item 0 of each of the first `count` ranks, and perhaps other contributions.
 fn has_of_each(value: &[Contribution], count: u32) -> bool
     requires { IsSorted value.now }
     ensures { result ≡ list_all (has_one value.now) (of_each count 0) }
@@ -104,7 +104,8 @@ fn has_of_each(value: &[Contribution], count: u32) -> bool
     next == count
 }
 
-// The same for a slot that only the root must fill; a root that is not a rank makes the condition impossible to meet.
+// Returns whether the slot may hold the value after a gather. Only slots of the root have a condition. A root that is
+// not a rank makes the condition impossible to meet.
 #[tactic(auto, unfolding(crate::specs::Collectives::wanted))]
 fn is_gathered(root: u32, ranks: u32, rank: u32, slot: u32, value: &[Contribution]) -> bool
     requires { rank < ranks }
@@ -157,8 +158,8 @@ pub fn is_wanted(what: Collective, ranks: u32, rank: u32, slot: u32, value: &[Co
     }
 }
 
-/// Returns the range of slots of the rank on which there is a condition, from the first to before the second. Slots
-/// outside it may hold anything.
+/// Returns the range of slots of the rank that have a condition at the end: the first slot, and the one after the last.
+/// Slots outside this range may hold anything.
 #[tactic(auto, unfolding(crate::specs::Collectives::wanted))]
 pub fn asked(what: Collective, ranks: u32, rank: u32) -> (u32, u32)
     requires few { ranks ≤ rank_limit }

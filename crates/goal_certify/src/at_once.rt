@@ -43,12 +43,12 @@ fn named_slots(what: Collective, ranks: u32) -> u32
     }
 }
 
-/// Certifies that all `count` segments of a collective are right in one run that begins with all of them. Segment j uses the
-/// slots from `j * width` on as the collective uses those from 0 on.
+/// Certifies that all `count` segments of a collective are right in one run that begins with all of them. Segment j
+/// uses the slots from `j * width` on as the collective uses those from 0 on.
 ///
-/// A schedule that passes is right in every interleaving and for every choice of eager sends. At the end each segment's slots
-/// hold what the collective wants there, and no contribution of another segment. `certify_segments` is weaker: it starts with
-/// one segment at a time, so a calc that adds a slot of one segment to a slot of another adds nothing.
+/// A schedule that passes is right in every interleaving and for every choice of eager sends. At the end each segment's
+/// slots hold what the collective wants there, and no contribution of another segment. `certify_segments` is weaker: it
+/// starts with one segment at a time, so a calc that adds a slot of one segment to a slot of another adds nothing.
 ///
 /// This takes two walks per segment.
 ///
@@ -71,7 +71,7 @@ pub fn certify_at_once(
     ensures right { OnOk result (AreRightAtOnce what width count sched.now) }
     ensures fault { IfErr result (λ told. IsOutOfMemory told ⊎ IsAtOnceFault what width count sched.now told) }
 
-    // Each schedule has its answer, where there is memory.
+    // With enough memory, the result is that of the schedule.
     ensures narrow { width < named what (length sched.now) → result ≡ Err AtOnceFault.Narrow }
     ensures accepts { AreCertifiedAtOnce what width count sched.now → IfErr result IsOutOfMemory }
     ensures faults { (found : AtOnceFault) → IsAtOnceFault what width count sched.now found

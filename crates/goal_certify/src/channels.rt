@@ -168,8 +168,8 @@ fn are_sound(sched: &Sched, ends: &Ends, counts: &[u64]) -> bool
 }
 
 /// Returns the first fault of channels: a wildcard, then two operations at one end of a channel, then an end without
-/// the other, then numbers of slots that differ. The operations are searched by their ends only if there is such a
-/// fault.
+/// the other, then numbers of slots that differ. The last three are searched for only if one pass over the ends does
+/// not rule them out.
 pub fn check_channels(alloc: Global, sched: &Sched) -> Result<(), CertFault>
     ensures free { OnOk result (IsFree sched.now 1 5) }
     ensures fault { IfErr result (IsStopped sched.now 1 5) }

@@ -1,10 +1,13 @@
 //! Races: two operations of a rank touch one slot, one of them writes it, and neither ends before the other starts.
 //!
-//! Needs never leave a rank, so it goes rank by rank. `before` makes for each operation a row of bits: the operations
-//! that end before it starts. `table` makes for each slot the row of the operations that touch it, and of those that
-//! write it. In most ranks the operations that share a slot are ordered as their numbers are, which `ordered` tests
-//! touch by touch. For the other ranks `table` makes a row for each operation: those with which it shares a slot that
-//! one of the two writes. `search` finds the least pair in these rows, and its least slot.
+//! Needs never leave a rank, so each rank is checked on its own:
+//!
+//! - `before` makes for each operation a row of bits: the operations that end before it starts.
+//! - `table` makes for each slot the row of the operations that touch it, and of those that write it.
+//! - `ordered` tests touch by touch whether the operations that share a slot are ordered as their numbers are. In most
+//!   ranks they are.
+//! - For the other ranks `table` makes a row for each operation: those with which it shares a slot that one of the two
+//!   writes. `search` finds the least pair in these rows, and its least slot.
 ghost use Rattle.std.specs.Prelude.{◌≡◌, ◌*◌, ◌<◌, ◌≤◌, true, false, length, OnOk, IfOk, IfErr};
 ghost use Rattle.goal_limits.specs.Limits.{certified_op_limit};
 ghost use Rattle.goal_graph.specs.Schedule.{ops_at};
@@ -32,7 +35,7 @@ use std::alloc::{AllocError, Global};
 use table::{mark, shared_rows, wipe};
 use touches::{Touch, touches_of_rank};
 
-/// Searches two operations of a rank that race.
+/// Searches for two operations of a rank that race. `Ok` if there are none.
 ///
 /// # Errors
 ///

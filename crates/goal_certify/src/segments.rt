@@ -19,13 +19,13 @@ pub struct SegmentFault {
     pub fault: CertFault,
 }
 
-/// Certifies a schedule for a collective that is done in `count` segments, each in a block of `width` slots. Segment j uses
-/// the slots from `j * width` on as the collective uses those from 0 on.
+/// Certifies a schedule for a collective that is done in `count` segments, each in a block of `width` slots. Segment j
+/// uses the slots from `j * width` on as the collective uses those from 0 on.
 ///
 /// Each segment is certified on its own: the collective's initial values are in its block and nowhere else, unless the
 /// collective names slots beyond `width`. A schedule that passes leaves the wanted values in each block, in every
-/// interleaving and for every choice of eager sends, when it starts with that segment alone. `certify_at_once` certifies
-/// that the segments do not mix. This takes one walk per segment.
+/// interleaving and for every choice of eager sends, when it starts with that segment alone. `certify_at_once` also
+/// certifies that the segments do not mix. This function takes one walk per segment.
 ///
 /// # Errors
 ///
@@ -43,7 +43,7 @@ pub fn certify_segments(
     ensures right { OnOk result (AreAllRight what width count sched.now) }
     ensures fault { IfErr result (λ told. told.fault ≡ CertFault.NoMemory ⊎ IsSegmentFault what width count sched.now told) }
 
-    // Each schedule has its answer, where there is memory.
+    // With enough memory, the result is that of the schedule.
     ensures accepts { ((block : ℕ) → block < count → IsCertifiedIn what width block sched.now)
         → IfErr result (λ told. told.fault ≡ CertFault.NoMemory) }
     ensures faults { (found : SegmentFault) → IsSegmentFault what width count sched.now found

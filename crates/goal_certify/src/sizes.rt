@@ -46,8 +46,8 @@ fn count_all_moved(notes: &[Note]) -> Option<u64>
     Some(count)
 }
 
-/// Reports the least rank with one of these faults: it has too many operations; a note of it has a slot that is too high;
-/// its moves and those of all lesser ranks name too many slots. Takes one pass over the notes.
+/// Reports the least rank with one of these faults: it has too many operations; a note of it has a slot that is too
+/// high; its moves and those of all lesser ranks name too many slots. Takes one pass over the notes.
 pub fn check_sizes(sched: &Sched) -> Result<(), CertFault>
     ensures free { OnOk result (IsFree sched.now 0 1) }
     ensures fault { IfErr result (IsStopped sched.now 0 1) }

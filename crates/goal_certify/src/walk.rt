@@ -45,7 +45,7 @@ pub struct Walker<'a> {
     cursors: Vec<Cursor>,
 }
 
-// A call releases it, not each field in turn: so the callers that release one are shorter to prove.
+// One call drops all fields, so that callers that drop a walker are shorter to prove.
 impl Drop for Walker<'_> {
     fn drop(self) {
         let Walker {
@@ -68,7 +68,7 @@ impl<'a> Model for Walker<'a> {
 }
 
 impl<'a> Walker<'a> {
-    /// Creates a walker with the empty history. It takes all memory of the walk; no later call takes any.
+    /// Creates a walker with the empty history. It allocates all memory of the walk; no later call allocates any.
     pub fn new(alloc: Global, sched: &'a Sched) -> Result<Walker<'a>, NoMemory>
         ensures plans { IfOk result (λ w. w.plans ≡ sched.now) }
         ensures empty { IfOk result (λ w. w.history ≡ []) }
@@ -84,8 +84,8 @@ impl<'a> Walker<'a> {
         })
     }
 
-    /// Performs the first allowed action, and returns it. Where no action is allowed it returns None and changes nothing:
-    /// the history is then the walk.
+    /// Performs the first allowed action, and returns it. If no action is allowed, it returns `None` and changes
+    /// nothing: the history is then the walk.
     pub fn next(&mut self) -> Option<PlainAction>
         ensures allowed { IfSome result (λ a. allowed self.old.plans no_send self.old.history a.class a.op ≡ true) }
         ensures first { IfSome result (λ a. (b : Act) → allowed self.old.plans no_send self.old.history b.class b.op ≡ true → ComesFirst (act_of a) b) }

@@ -51,8 +51,8 @@ pub fn laws_of_outputs()
 /// - `bad_line`, `bad_line_exact`: the words are no command line.
 /// - `read_fault`, `read_risen`, `absent_risen`, `absent_name`, `absent_machine`: the host failed, or no file is named
 ///   NAME, or MACHINE for `nodes`. Only a command with an input can end so.
-/// - `refused`: the command refuses its input or its words, and `err` gets the words of the refusal. `machine_read`: by
-///   then a machine was read to its end.
+/// - `refused`: the command refuses its input or its words, and `err` gets the words of the refusal. `machine_read`: if
+///   the command has a machine, that was read to its end before.
 /// - `write_fault`, `write_risen`, `file_risen`: writing failed, after a part of the output.
 /// - `done`, `stuck`, `not_certified`: the output was written whole, and no output is left open; `stuck` for a run in
 ///   which an operation has no end, `not_certified` for a fault of certification. `only_certify`: only `certify` ends

@@ -2,8 +2,9 @@
 //!
 //! Most commands read a schedule from the file NAME, a text or a compiled file:
 //!
-//! - `sim NAME` runs it and prints when each operation starts and ends;
-//! - `waits NAME` reports how long operations waited;
+//! - `sim NAME` runs it and prints when each operation starts and ends; `nodes NAME MACHINE` does the same with the
+//!   costs of the machine in the file MACHINE;
+//! - `waits NAME` reports how long operations waited; `knots NAME` reports the knots of stuck operations;
 //! - `compile NAME OUT` writes its compiled file;
 //! - `show NAME` prints its canonical text;
 //! - `certify KIND NAME` reports whether it does what a collective wants in every interleaving.

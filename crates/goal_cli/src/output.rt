@@ -1,4 +1,4 @@
-// From what a command works on to what it makes of it.
+// Makes the output of a command from what the command works on.
 ghost use Rattle.std.specs.Prelude.{ℕ, ◌≡◌, ◌≢◌, ◌<◌, ◌≤◌, List, length, Option, IfOk, IfErr};
 ghost use Rattle.goal_limits.specs.declared.limits.TheConstants.{MAX_INPUT};
 ghost use Rattle.sim_params.specs.Costs.{CostModel};
@@ -127,7 +127,7 @@ fn run_on<'a, L: Ledger, M: Ledger, N: Ledger>(
     Ok(Output::new(run.head, pages, run.tail, ending_if(run.stuck)))
 }
 
-// A view of the run of a schedule with what its actions cost, with counters of its own.
+// Returns a view of the run of a schedule with its costs. It creates the run's counters from the three blanks.
 fn run_counted<'a, L: Ledger, M: Ledger, N: Ledger>(
     alloc: Global,
     for_steps: Blank,

@@ -11,8 +11,8 @@ use sim_params::LogGops;
 use sim_timeline::Lines;
 use std::alloc::Global;
 
-/// The bytes of a page, which go to a sink at once. The rest of a text is the last page; a text that is no longer is
-/// one page.
+/// The number of bytes of a page, which go to a sink at once. The last page has the rest of the text. So a text of at
+/// most this length is one page.
 pub const PAGE: usize = 65_536;
 
 /// The output of a command that is not yet written: the rest of a piece that is made, then pages, then a tail.

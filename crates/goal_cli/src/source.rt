@@ -83,7 +83,7 @@ fn read_input<H: Host>(alloc: Global, host: &mut H, name: &str) -> Result<Sched,
 }
 
 // Returns the schedule that a command works on, read or generated. Without an input the host is not asked. `Err` is the
-// answer, if the machine is not too long.
+// answer, but a refusal is replaced by the fault of the machine if that cannot be read.
 fn schedule_of<H: Host>(alloc: Global, host: &mut H, request: &Request) -> Result<Sched, Answer>
     requires sized { IsSized (requested request.now) }
     ensures schedule { IfOk result (λ sched. ForNamed (H.state host.old) (input_of (requested request.now))

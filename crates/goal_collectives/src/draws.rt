@@ -22,7 +22,7 @@ pub struct Round {
     pub bytes: u64,
 }
 
-/// A sequence of draws, by a linear congruence modulo 2^64.
+/// A sequence of draws, by a linear congruential generator modulo 2^64.
 #[derive(Drop)]
 pub struct Draws {
     state: u64,

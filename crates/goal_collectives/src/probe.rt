@@ -10,8 +10,8 @@ use goal_graph::{Dep, Kind, Op, RankPlan, Sched, When};
 use goal_limits::{MAX_ROUNDS, NoMemory};
 use std::alloc::{AllocError, Global};
 
-// Ranks without operations. Each has room for its share of the rounds, three operations and two dependencies per round
-// and the ranks, and a third more, since the ranks of a round are random.
+// Returns the plans of ranks without operations. A round adds three operations and two dependencies. Each plan has room
+// for a third more than its average share of these, since the ranks of a round are random.
 fn idle_ranks(alloc: Global, rounds: u32) -> Result<Vec<RankPlan>, AllocError>
     ensures { IfOk result (λ plans. plans.items ≡ idle_ranks probe_ranks) }
 {

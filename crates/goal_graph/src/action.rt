@@ -9,10 +9,10 @@ pub struct OpId {
     pub op: u32,
 }
 
-/// The classes of actions. At one time they happen in this order.
+/// The classes of actions. Actions at the same time happen in this order.
 #[derive(Clone, Copy, Debug, PartialEq, Eq, PartialOrd, Ord)]
 pub enum Class {
-    /// An eager message, or the request of a rendezvous message, reaches the receiving rank.
+    /// An eager message, or the request to send (RTS) of a rendezvous message, reaches the receiving rank.
     Arrive,
     /// A receive takes its message.
     Serve,
@@ -38,11 +38,11 @@ pub struct Timed {
 /// Why an operation never ends.
 #[derive(Clone, Copy, Debug, PartialEq, Eq)]
 pub enum Why {
-    /// It needs this operation, which never starts or ends as it must.
+    /// It waits for the start or the end of this operation, which never comes.
     Op(OpId),
     /// This operation fits it, and never starts.
     Partner(OpId),
-    /// Every operation that fits it is paired with another.
+    /// Every operation that fits it, if any, is paired with another.
     Alone,
 }
 

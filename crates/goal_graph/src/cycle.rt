@@ -1,4 +1,5 @@
-//! The first operation without a depth: one that waits for itself, or only follows one that does.
+//! The first operation without a depth: one that is on a cycle of dependencies, or waits, directly or through others,
+//! for one that is.
 ghost use Rattle.std.specs.Prelude.{◌≡◌, ◌+◌, ◌-◌, ◌<◌, ◌≤◌, ◌↔◌, [], length, All, sum, None, IsTrue, IfOk, OnOk, slice_index, slice_set};
 ghost use Rattle.goal_graph.specs.Fault.{plain_fault};
 ghost use Rattle.goal_graph.specs.Search.{IsSearch, CoversRank, IsFirstMissing, IsFirstInRank, IsFirstOfAll};
@@ -45,7 +46,7 @@ fn first_in_rank(alloc: Global, tables: &Tables, rank: u32) -> Result<Option<u32
     search_rank(alloc, tables, rank)
 }
 
-// Returns true only if each operation needs only ones of lesser numbers.
+// Returns true only if each operation needs only operations with smaller numbers.
 fn all_go_back(deps: &[Dep]) -> bool
     ensures { IsTrue result → All (λ d. d.earlier < d.later) deps.now }
 {
@@ -57,7 +58,7 @@ fn all_go_back(deps: &[Dep]) -> bool
     true
 }
 
-// Returns true only if each operation needs only ones of greater numbers.
+// Returns true only if each operation needs only operations with greater numbers.
 fn all_go_ahead(deps: &[Dep]) -> bool
     ensures { IsTrue result → All (λ d. d.later < d.earlier) deps.now }
 {

@@ -7,8 +7,8 @@ use std::alloc::{AllocError, AllocFailed};
 /// The first rule that a list of plans breaks.
 #[derive(Clone, Copy, Debug, PartialEq, Eq)]
 pub enum PlanFault {
-    /// There is no rank, or there are too many ranks, operations, dependencies or notes in all ranks together: `found`,
-    /// where at most `limit` are allowed.
+    /// There are `found` ranks, or `found` operations, dependencies or notes in all ranks together, but at most `limit`
+    /// are allowed. Or there is no rank: then `found` is 0.
     Count { found: u128, limit: u64 },
     /// The size or duration of operation `op` is over its limit, or it is a calc with a nic other than 0.
     Value { rank: u32, op: u32 },
@@ -19,8 +19,8 @@ pub enum PlanFault {
     /// Note number `note` of the rank names an operation that the rank does not have or that cannot do this, or its
     /// slots are in the wrong order.
     NoteMisfit { rank: u32, note: u32 },
-    /// The operation waits for itself, or only follows one that does. It is the first such operation by rank and
-    /// number.
+    /// The operation is on a cycle of dependencies, or waits, directly or through others, for one that is. It is the
+    /// first such operation by rank and number.
     Cycle { rank: u32, op: u32 },
     /// Out of memory.
     NoMemory,

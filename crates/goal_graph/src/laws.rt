@@ -4,7 +4,6 @@ ghost use Rattle.goal_graph.specs.Laws.{OperationNotBeforeItself, OperationsBefo
 /// The laws of the order of operations, by rank and number, and of actions, by keys of time, class, rank and number:
 ///
 /// - `operation_not_before_itself`, `operations_transitive`, `one_operation_is_before`: operations are in a strict
-/// - `operation_not_before_itself`, `operations_transitive`, `one_operation_is_before`: operations are in a strict
 ///   total order.
 /// - `not_less_than_itself`, `transitive`, `one_is_less`: so are the keys of actions.
 /// - `tested`: the test `less` decides the order.

@@ -80,7 +80,7 @@ pub enum Note {
     Adds { op: u32, from: u32, to: u32 },
 }
 
-/// An operation of the same rank that another needs, or that needs it.
+/// The other side of a dependency, as an operation sees it: an operation that it needs, or one that needs it.
 #[derive(Clone, Copy, Debug, PartialEq, Eq)]
 pub struct Need {
     /// The number of the operation.

@@ -41,7 +41,7 @@ impl Model for Sched {
 }
 
 impl Sched {
-    /// Builds the schedule of these plans. Otherwise `Err` names the first rule that they break, or is `NoMemory`.
+    /// Builds the schedule of these plans. `Err` is the first rule that they break, or `NoMemory`.
     pub fn build(alloc: Global, plans: Vec<RankPlan>) -> Result<Sched, PlanFault>
         ensures schedule { IfOk result (λ sched. sched ≡ plans.items) }
         ensures accepted { OnOk result (IsAccepted plans.items) }

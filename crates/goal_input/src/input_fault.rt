@@ -10,7 +10,7 @@ use goal_parser::TextFault;
 /// a text or of a compiled file.
 #[derive(Clone, Copy, Debug, PartialEq, Eq)]
 pub enum InputFault {
-    /// The host failed, or no file has that name. It counts both.
+    /// The host failed, or no file has that name. The host counts both.
     Fault,
     /// The file has more than 2^27 bytes.
     TooLong,

@@ -1,6 +1,6 @@
 //! Reading a schedule from a file of a host: a text, or a compiled file.
 //!
-//! `specs/Input` defines the meaning of the bytes of an input, and `specs/InputFault` why a file gives no schedule.
+//! `specs/Input` defines the meaning of the bytes of an input, and `specs/InputFaults` why a file gives no schedule.
 #![tactic(auto)]
 
 mod input_fault;

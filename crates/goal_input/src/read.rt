@@ -24,7 +24,7 @@ const PIECE: usize = 65_536;
 /// # Errors
 ///
 /// The first of these that applies: `Fault` if the host failed, `TooLong`, or the first fault of the text or the
-/// compiled file. So a file with such a fault was read to its end. `NoMemory` may come at any time.
+/// compiled file. So a file is always read to its end before such a fault is returned. `NoMemory` may come at any time.
 pub fn read_schedule<H: Host>(alloc: Global, host: &mut H, name: &str) -> Result<Sched, InputFault>
     // The schedule is that of the file.
     ensures read { IfOk result (λ sched. ForFile (H.state host.old) name.now (λ input. IsReadAs input sched)) }

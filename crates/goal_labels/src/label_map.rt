@@ -129,8 +129,8 @@ fn last_of(label: &[u8]) -> usize
     }
 }
 
-// Guesses the number of a label that is at most 5 labels from the one at `near`: in numbered labels their last digits
-// are equally far apart. Any answer is right.
+// Guesses the number of a label that is at most 5 labels away from label number `near`. Numbered labels are as far
+// apart as their last digits, modulo 10. Any result is right: the caller compares the label there.
 #[inline(always)]
 fn number_near(entries: &[LabelEntry], bytes: &[u8], label: &[u8], near: usize) -> usize
     requires held { AreHeld bytes.now entries.now }
@@ -161,7 +161,7 @@ fn order(one: &[u8], other: &[u8]) -> Ordering
     }
 }
 
-// Returns the number of a label among those from `first` to before `ascending`.
+// Returns the number of a label, if it is one of those from number `first` up to, but not including, `ascending`.
 fn search(
     entries: &[LabelEntry],
     bytes: &[u8],
@@ -377,7 +377,7 @@ impl LabelMap {
         self.entries.len()
     }
 
-    /// Returns the info of label number `i`, or `None` if there are not as many.
+    /// Returns the info of label number `i`, from 0, or `None` if there is no such label.
     pub fn get(&self, i: usize) -> Option<LabelInfo>
         ensures some { IfSome result (λ info. (label : List ℕ) × (slice_get self.now i ≡ Some (label, info)) × (lookup (bytes_eq label) self.now ≡ Some info)) }
         ensures none { IfNone result (length self.now ≤ i) }

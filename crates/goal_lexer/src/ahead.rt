@@ -30,7 +30,7 @@ const NOT_FOUND: Amount = Amount {
     value: 0,
 };
 
-/// Returns a number of blanks at the front, which may be many.
+/// Does the same as [`blanks_ahead`], for any number of blanks.
 #[inline(never)]
 fn many_blanks(rest: &[u8]) -> usize
     ensures { AreBlanks rest.now result }
@@ -38,7 +38,7 @@ fn many_blanks(rest: &[u8]) -> usize
     count_blanks(rest)
 }
 
-/// Returns a number of blanks at the front.
+/// Counts the blanks at the front. By contract, the bytes counted are blanks, but more may follow.
 #[inline(always)]
 pub fn blanks_ahead(rest: &[u8]) -> usize
     ensures { AreBlanks rest.now result }
@@ -60,7 +60,7 @@ pub fn begin_alike(one: &[u8], other: &[u8]) -> bool
         == u32::from_le_bytes([other[0], other[1], other[2], other[3]])
 }
 
-/// Returns whether a piece begins with these bytes: true only if it does.
+/// Returns whether a piece begins with these bytes. By contract, `true` means that it does; `false` says nothing.
 #[inline(always)]
 fn begins_with(rest: &[u8], word: &[u8]) -> bool
     requires { length word.now ≤ length rest.now }
@@ -82,7 +82,8 @@ fn begins_with(rest: &[u8], word: &[u8]) -> bool
     true
 }
 
-/// Returns the length of these blanks and the word after them, if the word ends inside the piece, and otherwise 0.
+/// Returns the length of these blanks and the word after them, if the word is there and ends inside the piece, and
+/// otherwise 0.
 #[inline(always)]
 pub fn word_ahead(rest: &[u8], blanks: usize, word: &[u8]) -> usize
     requires blanks { AreBlanks rest.now blanks }
@@ -101,8 +102,8 @@ pub fn word_ahead(rest: &[u8], blanks: usize, word: &[u8]) -> usize
     end
 }
 
-/// Returns the length of a space and the word after it, both given in `spaced`, if the word ends inside the piece, and
-/// otherwise 0.
+/// Returns the length of `spaced`, which is a space and a word, if the piece begins with it and the word ends inside
+/// the piece, and otherwise 0.
 #[inline(always)]
 pub fn spaced_word_ahead(rest: &[u8], spaced: &[u8]) -> usize
     requires space { take 1 spaced.now ≡ 32 ∷ [] }
@@ -122,7 +123,7 @@ pub fn spaced_word_ahead(rest: &[u8], spaced: &[u8]) -> usize
     end
 }
 
-/// Returns whether the piece begins with a colon: true only if it does.
+/// Returns whether the piece begins with a colon. By contract, `true` means that it does; `false` says nothing.
 #[inline(always)]
 pub fn begins_with_colon(rest: &[u8]) -> bool
     ensures { result ≡ true → (place : ℕ) → IsAhead place rest.now 1 false (record { kind = TokenKind.Colon; start = place; end = place + 1 } ∷ []) }
@@ -130,7 +131,7 @@ pub fn begins_with_colon(rest: &[u8]) -> bool
     !rest.is_empty() && rest[0] == b':'
 }
 
-/// Finds a number at the front that ends inside the piece and has few digits.
+/// Finds a number of at most 19 digits at the front, after any blanks, that ends inside the piece.
 #[inline(always)]
 pub fn long_number_ahead(rest: &[u8]) -> Amount
     ensures within { result.count ≤ length rest.now }
@@ -201,7 +202,7 @@ pub fn number_ahead(rest: &[u8]) -> Amount
     }
 }
 
-/// Finds a size at the front that ends inside the piece and has few digits.
+/// Finds a size of at most 19 digits at the front, after any blanks, that ends inside the piece.
 #[inline(always)]
 pub fn long_size_ahead(rest: &[u8]) -> Amount
     ensures within { result.count ≤ length rest.now }

@@ -53,7 +53,7 @@ impl Label {
         label
     }
 
-    /// Replaces the label by that of these 1 to 64 bytes.
+    /// Sets the label to these 1 to 64 bytes.
     #[inline(always)]
     pub fn write(&mut self, text: &[u8])
         requires some { 0 < length text.now }

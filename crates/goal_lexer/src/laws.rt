@@ -8,11 +8,11 @@ ghost use Rattle.goal_lexer.specs.Open.{IsTaken, IsCutOff};
 ghost use Rattle.goal_lexer.specs.Pieces.{IsReading, Piece, IsCutInto, NothingBegins, EndsWith, tokens_of, spelled};
 
 /// The contracts of the lexer speak of the scan of a text (`lexed`). Its tokens and fault are those of the text cut
-/// into pieces: tokens, blanks and comments, each run the longest, up to the end of the text or to where nothing
-/// begins. There is only one such cut. The tokens that a lexer has returned are the first of every continuation of the
-/// text, and while a lexer has met no fault, some continuation has none.
+/// into pieces: tokens, blanks and comments, each run as long as possible, up to the end of the text or to where none
+/// of these begins. There is only one such cut. The tokens that a lexer has returned are the first of every
+/// continuation of the text, and while a lexer has met no fault, some continuation has none.
 pub fn laws_of_tokens()
-    // Every text is such pieces, with the scan's tokens and fault.
+    // Every text can be cut into such pieces. Their tokens and fault are the scan's.
     ensures reading { (text : List ℕ) → IsReading 0 text (lexed text).0 (lexed text).1 }
 
     // However a text is cut into such pieces, the tokens and the fault are the scan's.
@@ -34,7 +34,7 @@ pub fn laws_of_tokens()
 /// What a lexer represents, by the rules of pieces: it has taken whole pieces (tokens, blanks and comments), followed
 /// by what is open: a run, a `/`, a comment, or nothing. The tokens that it has returned are those of the pieces.
 pub fn laws_of_lexers()
-    // A text that a lexer represents is whole pieces, whatever follows, and then what the lexer keeps open.
+    // A text that a lexer represents consists of pieces that are whole, whatever follows, and then of what is open.
     ensures taken { (lexer : LexState) (text : List ℕ) → Stands lexer text → IsTaken lexer text }
 
     // A lexer represents each such text.

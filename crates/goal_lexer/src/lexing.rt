@@ -18,8 +18,8 @@ use std::marker::Model;
 ///
 /// A lexer keeps what is open, the number of bytes taken, and whether a run that it just returned ends there. It does
 /// not keep the bytes, so its contracts speak of each text that it *represents* (`Stands`). [`Lexer::new`] represents
-/// the empty text. After a call that takes bytes, the lexer represents the text before followed by these bytes. After a
-/// fault it represents no text, and returns the same fault from then on.
+/// the empty text. A call that takes bytes appends them to the text that the lexer represents. After a fault the lexer
+/// represents no text, and returns the same fault from then on.
 #[derive(Drop)]
 pub struct Lexer {
     mode: Mode,
@@ -55,7 +55,7 @@ impl Lexer {
         }
     }
 
-    /// Returns whether nothing is open: true only if so.
+    /// Returns whether nothing is open. By contract, `true` means that nothing is; `false` says nothing.
     #[inline(always)]
     pub fn is_between(&self) -> bool
         ensures { result ≡ true → self.now.mode ≡ Mode.Between }
@@ -86,7 +86,7 @@ impl Lexer {
         ensures apart_next { self.new.ends_run ≡ true → begins_run (drop count rest.now) ≡ false }
         ensures left { self.new.ends_run ≡ true → count < length rest.now }
 
-        // The text is continued by these bytes, and the tokens returned by theirs.
+        // These bytes are appended to the text, and their tokens to the tokens returned.
         ensures stands { (text : List ℕ) → Stands self.old text → Stands self.new (text ++ take count rest.now) }
         ensures handed { (tokens : List Token) → IsAhead self.old.place rest.now count ends_run tokens → (text : List ℕ) → Stands self.old text → handed self.new (text ++ take count rest.now) ≡ handed self.old text ++ tokens }
     {

@@ -132,8 +132,8 @@ fn take_in_run(mode: &mut Mode, place: u64, byte: u8, token: &mut Token) -> Byte
     }
 }
 
-/// Takes the byte after a `/` at `start`. It begins a comment with it; otherwise the fault is at the `/`. The byte's
-/// own place does not matter.
+/// Takes the byte after a `/` at `start`. If the two begin a comment, it is open from now on; otherwise the fault is at
+/// the `/`. The byte's own place does not matter.
 #[cold]
 fn take_behind_slash(mode: &mut Mode, start: u64, byte: u8) -> ByteEnd
     ensures { (place : ℕ) (token : Token) → StepsTo result (Mode.Slash start) place byte mode.new token }
@@ -212,8 +212,8 @@ fn sign_kind(byte: u8, kind: &mut TokenKind) -> bool
 }
 
 /// Takes the blanks at the front of a piece that begins at this place, and the token after them, while nothing is open.
-/// It writes the token to `token`, if that ends inside the piece. A piece of blanks only is taken whole. For any other
-/// piece it returns `None`, and also for some runs of many digits.
+/// The token must end inside the piece, and is written to `token`. A piece of blanks only is taken whole. For any other
+/// piece, and for a number or size of more than 19 digits, it returns `None`.
 #[inline(always)]
 fn whole_token(place: u64, piece: &[u8], token: &mut Token) -> Option<PieceEnd>
     requires { place + length piece.now < 2 ^ 64 }

@@ -11,7 +11,7 @@ use crate::labels::Label;
 use crate::mode::{Form, Mode};
 use goal_limits::{MAX_RUN_BYTES, is_blank};
 
-/// Returns a number of blanks at the front.
+/// Counts the blanks at the front. By contract, the bytes counted are blanks, but more may follow.
 pub(crate) fn count_blanks(bytes: &[u8]) -> usize
     ensures within { result ≤ length bytes.now }
     ensures each { (k : ℕ) → k < result → is_blank (slice_index bytes.now k) ≡ true }
@@ -24,7 +24,7 @@ pub(crate) fn count_blanks(bytes: &[u8]) -> usize
     bytes.len()
 }
 
-/// Returns a number of bytes before the next line feed.
+/// Counts the bytes before the next line feed. By contract, none of the bytes counted is one, but more may precede it.
 fn count_in_line(bytes: &[u8]) -> usize
     ensures within { result ≤ length bytes.now }
     ensures each { (k : ℕ) → k < result → (slice_index bytes.now k == line_feed) ≡ false }
@@ -37,7 +37,7 @@ fn count_in_line(bytes: &[u8]) -> usize
     bytes.len()
 }
 
-/// Returns a number of bytes before the next `*`.
+/// Counts the bytes before the next `*`. By contract, none of the bytes counted is one, but more may precede it.
 fn count_before_star(bytes: &[u8]) -> usize
     ensures within { result ≤ length bytes.now }
     ensures each { (k : ℕ) → k < result → (slice_index bytes.now k == star) ≡ false }

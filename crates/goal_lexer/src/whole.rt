@@ -28,8 +28,8 @@ fn whole_word(place: u64, piece: &[u8], token: &mut Token) -> Option<usize>
     Some(count)
 }
 
-/// Returns the length of the number or size at the front of a piece, if it ends inside the piece and has few digits,
-/// and writes its token.
+/// Returns the length of the number or size at the front of a piece, if it ends inside the piece and has at most 19
+/// digits, and writes its token.
 #[inline(always)]
 fn whole_number(place: u64, piece: &[u8], token: &mut Token) -> Option<usize>
     requires { place + length piece.now < 2 ^ 64 }
@@ -56,7 +56,7 @@ fn whole_number(place: u64, piece: &[u8], token: &mut Token) -> Option<usize>
 }
 
 /// Returns the length of the run at the front of a piece that begins at this place, if the run ends inside the piece
-/// and is a token, and writes that token. Otherwise it returns `None`, and also for some runs of many digits.
+/// and is a token, and writes that token. Otherwise, and for a number or size of more than 19 digits, returns `None`.
 #[inline(always)]
 pub(crate) fn whole_run(place: u64, piece: &[u8], token: &mut Token) -> Option<usize>
     requires { place + length piece.now < 2 ^ 64 }

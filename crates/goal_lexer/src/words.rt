@@ -66,7 +66,7 @@ fn are_nine(bytes: &[u8], word: [u8; 9]) -> bool
         && are_five(&bytes[4..], [word[4], word[5], word[6], word[7], word[8]])
 }
 
-/// Writes the token of a word of two bytes.
+/// Writes the kind of a word of two bytes: a reserved word, or otherwise a label.
 #[inline(always)]
 fn kind_of_two(word: &[u8], kind: &mut TokenKind)
     requires { length word.now ≡ 2 }
@@ -79,7 +79,7 @@ fn kind_of_two(word: &[u8], kind: &mut TokenKind)
     }
 }
 
-/// Writes the token of a word of three bytes.
+/// Writes the kind of a word of three bytes: a reserved word, or otherwise a label.
 #[inline(always)]
 fn kind_of_three(word: &[u8], kind: &mut TokenKind)
     requires { length word.now ≡ 3 }
@@ -98,7 +98,7 @@ fn kind_of_three(word: &[u8], kind: &mut TokenKind)
     }
 }
 
-/// Writes the token of a word of four bytes.
+/// Writes the kind of a word of four bytes: a reserved word, or otherwise a label.
 #[inline(always)]
 fn kind_of_four(word: &[u8], kind: &mut TokenKind)
     requires { length word.now ≡ 4 }
@@ -121,7 +121,7 @@ fn kind_of_four(word: &[u8], kind: &mut TokenKind)
     }
 }
 
-/// Writes the token of a word of five bytes.
+/// Writes the kind of a word of five bytes: a reserved word, or otherwise a label.
 #[inline(always)]
 fn kind_of_five(word: &[u8], kind: &mut TokenKind)
     requires { length word.now ≡ 5 }
@@ -134,7 +134,7 @@ fn kind_of_five(word: &[u8], kind: &mut TokenKind)
     }
 }
 
-/// Writes the token of a word of eight bytes.
+/// Writes the kind of a word of eight bytes: a reserved word, or otherwise a label.
 #[inline(always)]
 fn kind_of_eight(word: &[u8], kind: &mut TokenKind)
     requires { length word.now ≡ 8 }
@@ -147,7 +147,7 @@ fn kind_of_eight(word: &[u8], kind: &mut TokenKind)
     }
 }
 
-/// Writes the token of a word of nine bytes.
+/// Writes the kind of a word of nine bytes: a reserved word, or otherwise a label.
 #[inline(always)]
 fn kind_of_nine(word: &[u8], kind: &mut TokenKind)
     requires { length word.now ≡ 9 }
@@ -162,7 +162,7 @@ fn kind_of_nine(word: &[u8], kind: &mut TokenKind)
     }
 }
 
-/// Writes the reserved word that these bytes spell, or otherwise a label.
+/// Writes the kind of the word that these bytes spell: a reserved word, or otherwise a label.
 #[inline(always)]
 pub(crate) fn word_kind(word: &[u8], kind: &mut TokenKind)
     requires some { 0 < length word.now }
@@ -180,7 +180,7 @@ pub(crate) fn word_kind(word: &[u8], kind: &mut TokenKind)
     }
 }
 
-/// Writes the token of a whole run of this form.
+/// Writes the kind of the token that a whole run of this form is.
 pub(crate) fn run_kind(run: &[u8], form: Form, kind: &mut TokenKind)
     requires some { 0 < length run.now }
     requires most { length run.now ≤ run_limit }

@@ -15,7 +15,7 @@ pub enum Collective {
     Allgather,
     /// Every rank gets the values of all ranks, combined.
     Allreduce,
-    /// Every rank gets from each rank the value that this one has for it.
+    /// Every rank gets, from each rank, the value that the sender has for the receiver.
     Alltoall,
     /// The root gets the values of all ranks, combined.
     Reduce { root: u32 },
@@ -25,7 +25,7 @@ pub enum Collective {
     Scatter { root: u32 },
     /// Every rank gets the values that all ranks have for it, combined.
     ReduceScatter,
-    /// Every rank gets the values of the ranks up to itself, combined.
+    /// Every rank gets the values of the ranks up to and including itself, combined.
     Scan,
 }
 
@@ -54,7 +54,7 @@ impl Collective {
         self.is_made_by_generate()
     }
 
-    /// Returns the most ranks of its schedule.
+    /// Returns the most ranks for which it has a schedule.
     #[must_use]
     pub fn most_ranks(&self) -> u32
         ensures { result ≡ most_ranks self.now }

@@ -7,7 +7,7 @@ use crate::limits::{
     MAX_OPS, MAX_PARAM, MAX_PER_BYTE, MAX_RANKS, MAX_ROUNDS, MAX_RUN_BYTES, MAX_SLOT, MAX_WEIGHT,
 };
 
-/// Each constant of this crate is its number in `specs/Limits`, and `MAX_BUDGET`, which has none there, is 2^63-1.
+/// Each constant of this crate equals its limit in `specs/Limits`. `MAX_BUDGET`, which has none there, is 2^63-1.
 pub fn laws_of_limits()
     ensures ranks { MAX_RANKS ≡ rank_limit }
     ensures ops { MAX_OPS ≡ op_limit }

@@ -28,11 +28,11 @@ pub const MAX_BYTES: u64 = 1_099_511_627_775;
 /// The longest calculation, in nanoseconds: 2^48-1.
 pub const MAX_NANOS: u64 = 281_474_976_710_655;
 
-/// The largest latency, overhead and gap of a message, in nanoseconds, and the largest size that may be sent eagerly,
-/// in bytes: 2^40-1.
+/// The largest value of the latency, the overhead and the gap of a message, in nanoseconds, and of the greatest eager
+/// size S, in bytes: 2^40-1.
 pub const MAX_PARAM: u64 = 1_099_511_627_775;
 
-/// The largest gap and overhead for each byte, in nanoseconds: 2^20-1.
+/// The largest gap and overhead per byte, in nanoseconds: 2^20-1.
 pub const MAX_PER_BYTE: u64 = 1_048_575;
 
 /// The most operations of a rank in a certified schedule: 2^11.

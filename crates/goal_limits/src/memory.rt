@@ -1,8 +1,8 @@
-//! The fault of memory that ran out.
+//! The out-of-memory error.
 
 use std::alloc::{AllocError, AllocFailed};
 
-/// Memory ran out.
+/// Out of memory.
 #[derive(Clone, Copy, Debug, PartialEq, Eq)]
 pub struct NoMemory;
 

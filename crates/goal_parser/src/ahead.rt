@@ -1,8 +1,9 @@
 //! Tokens that end inside a piece, taken where they are.
 //!
-//! [`Reader::take_ahead`] looks at the first byte after the blanks, takes the token that begins there, and the tokens that
-//! mostly follow it. It takes no token that may go on after the piece, no comment, and none that is rare: those are left
-//! to `step` (reader.rt). Which token is looked for is only a hint: the parser tests each.
+//! [`Reader::take_ahead`] looks at the first byte after the blanks, takes the token that begins there, and the tokens
+//! that usually follow it. It takes no token that may continue after the piece, no comment, and no rare token: those
+//! are left to `step` (reader.rt). Which token is looked for is only a hint: the parser tests each. The functions
+//! return the number of bytes taken from the front, blanks included.
 ghost use Rattle.std.specs.Prelude.{◌≡◌, ◌≢◌, ◌+◌, ◌<◌, ◌≤◌, ◌^◌, true, false, [], ◌∷◌, length, take, drop, OnOk, IfOk, IfErr};
 ghost use Rattle.goal_limits.specs.Limits.{run_limit};
 ghost use Rattle.goal_lexer.specs.declared.tokens.Token.{Token};
@@ -21,14 +22,14 @@ use goal_lexer::{
     long_size_ahead, number_ahead, size_ahead, spaced_word_ahead, word_ahead,
 };
 
-/// The bytes that were taken, and whether all that was looked for is among them. The latter is only a hint: any is right.
+/// The number of bytes taken, and whether they hold all that was looked for. `whole` is a hint: either value is right.
 #[derive(Clone, Copy)]
 struct Took {
     count: usize,
     whole: bool,
 }
 
-/// The states in which the tokens of a message mostly follow each other. They are hints, as [`Took::whole`] is.
+/// The states in which the tokens of a message usually follow each other. They are hints, as [`Took::whole`] is.
 #[derive(Clone, Copy)]
 struct Path {
     size: State,
@@ -179,7 +180,8 @@ impl Reader {
         self.go_on(taken, rest, count, true)
     }
 
-    /// Takes this word, which only changes the grammar's state, given with the space before it, from the front; returns 0 if it is not there.
+    /// Takes this word, given with the space before it, from the front; returns 0 if it is not there. The word only
+    /// changes the grammar's state.
     #[inline(always)]
     fn take_plain(
         &mut self,
@@ -266,7 +268,8 @@ impl Reader {
         self.take_long_number(rest)
     }
 
-    /// Calls `take_any_form`, whose result lies in memory. Callers that inline this make room for it only if they get here.
+    /// Calls `take_any_form`, whose result lies in memory. Callers that inline this make room for it only if they get
+    /// here.
     #[inline(always)]
     fn take_rare(&mut self, rest: &[u8]) -> Result<usize, TokenFault>
         requires ready { MayGoOn self.old.lexer self.old.place rest.now }
@@ -320,7 +323,7 @@ impl Reader {
         self.go_on(taken, rest, number.count, true)
     }
 
-    /// Takes the size at the front, of any form, or what else is there; returns 0 if none is found.
+    /// Takes the size, the number or the label at the front, of any form; returns 0 if none is found.
     #[inline(always)]
     fn take_long_amount(&mut self, rest: &[u8]) -> Result<usize, TokenFault>
         requires ready { MayGoOn self.old.lexer self.old.place rest.now }
@@ -599,7 +602,7 @@ impl Reader {
         }
     }
 
-    /// Takes the size of a message, and what mostly follows it.
+    /// Takes the size of a message, and what usually follows it.
     #[inline(always)]
     fn take_message(
         &mut self,
@@ -691,7 +694,7 @@ impl Reader {
         }
     }
 
-    /// Takes `calc` after these blanks, and what mostly follows it.
+    /// Takes `calc` after these blanks, and what usually follows it.
     #[inline(always)]
     fn take_calc(&mut self, rest: &[u8], blanks: usize) -> Result<usize, TokenFault>
         requires ready { MayGoOn self.old.lexer self.old.place rest.now }
@@ -709,7 +712,7 @@ impl Reader {
         }
     }
 
-    /// Takes `send` after these blanks, and what mostly follows it.
+    /// Takes `send` after these blanks, and what usually follows it.
     #[inline(always)]
     fn take_send(&mut self, rest: &[u8], blanks: usize) -> Result<usize, TokenFault>
         requires ready { MayGoOn self.old.lexer self.old.place rest.now }
@@ -727,7 +730,7 @@ impl Reader {
         }
     }
 
-    /// Takes `recv` after these blanks, and what mostly follows it.
+    /// Takes `recv` after these blanks, and what usually follows it.
     #[inline(always)]
     fn take_recv(&mut self, rest: &[u8], blanks: usize) -> Result<usize, TokenFault>
         requires ready { MayGoOn self.old.lexer self.old.place rest.now }
@@ -755,7 +758,7 @@ impl Reader {
         self.take_label(rest, blanks_ahead(rest))
     }
 
-    /// Takes a verb of a dependency after these blanks, and what mostly follows it.
+    /// Takes a verb of a dependency after these blanks, and what usually follows it.
     #[inline(always)]
     fn take_dependency(
         &mut self,
@@ -783,7 +786,7 @@ impl Reader {
         }
     }
 
-    /// Takes a verb of a note after these blanks, and what mostly follows it.
+    /// Takes a verb of a note after these blanks, and what usually follows it.
     #[inline(always)]
     fn take_note(
         &mut self,
@@ -811,8 +814,8 @@ impl Reader {
         }
     }
 
-    /// Takes the reserved word after these blanks, by its first and its third byte, and what mostly follows it; returns 0 if
-    /// it is not there.
+    /// Takes the reserved word after these blanks, by its first and third byte, and what usually follows it; returns 0
+    /// if none is there.
     #[inline(always)]
     fn take_word(
         &mut self,
@@ -859,8 +862,8 @@ impl Reader {
         }
     }
 
-    /// Takes the label after these blanks, and a colon directly after it, unless the label begins with a letter that also
-    /// begins reserved words; returns 0 then, and if no label is found.
+    /// Takes the label after these blanks, and a colon directly after it. Returns 0 if no label is found, or if it
+    /// begins with a letter that also begins reserved words.
     #[inline(always)]
     fn take_subject(&mut self, rest: &[u8], blanks: usize) -> Result<usize, TokenFault>
         requires ready { MayGoOn self.old.lexer self.old.place rest.now }
@@ -875,7 +878,7 @@ impl Reader {
         }
     }
 
-    /// Takes the reserved word at the front, and what mostly follows it, or the label; returns 0 if neither is found.
+    /// Takes the reserved word at the front, and what usually follows it, or the label; returns 0 if neither is found.
     #[inline(always)]
     fn take_phrase(&mut self, rest: &[u8]) -> Result<usize, TokenFault>
         requires ready { MayGoOn self.old.lexer self.old.place rest.now }
@@ -892,8 +895,8 @@ impl Reader {
         }
     }
 
-    /// Takes whole tokens from the front of `rest`, and returns the number of their bytes. It is 0, and nothing is taken, if
-    /// other tokens follow, or if they may continue after the piece.
+    /// Takes whole tokens from the front of `rest`, and returns the number of their bytes. It is 0, and nothing is
+    /// taken, if other tokens follow, if they may continue after the piece, or if a run or a comment is open.
     #[inline(always)]
     pub fn take_ahead(&mut self, rest: &[u8]) -> Result<usize, TokenFault>
         requires place { self.old.place + length rest.now < 2 ^ 64 }

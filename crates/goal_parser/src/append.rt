@@ -3,7 +3,7 @@ ghost use Rattle.std.specs.Prelude.{◌≡◌, ◌++◌, [], ◌∷◌, OnOk};
 
 use std::alloc::AllocError;
 
-/// Appends an item to a list. Making room is a function apart, so that the rest is inlined.
+/// Appends an item to a list. A separate function makes room, so that the rest is inlined. `Err` means out of memory.
 #[inline(always)]
 pub fn append<T: Copy>(list: &mut Vec<T>, item: T) -> Result<(), AllocError>
     ensures { OnOk result (list.new.items ≡ list.old.items ++ item ∷ []) }

@@ -14,8 +14,8 @@ use goal_lexer::TokenKind;
 use std::alloc::{AllocError, Global};
 use std::mem;
 
-/// The most items for which a list of the next block gets room at once. The ranks of most schedules are of like sizes.
-/// The bound keeps the room small where a large rank is followed by many small ones.
+/// The most items for which a list of the next block gets room at once. In most schedules the ranks have similar sizes.
+/// The bound keeps the room small where many small ranks follow a large one.
 const MOST_ROOM: usize = 256;
 
 /// What was read of a block. Between blocks it is empty.
@@ -63,8 +63,8 @@ impl Block {
         }
     }
 
-    /// Ends the block in this state, and returns its plan. It leaves an empty block, with the memory of the labels and
-    /// room for lists of like sizes.
+    /// Ends the block in this state, and returns its plan. It leaves an empty block, which keeps the memory of the
+    /// labels and has room for lists of similar sizes. `Err` means out of memory.
     pub fn close(
         &mut self,
         alloc: Global,

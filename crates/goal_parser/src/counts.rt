@@ -5,7 +5,7 @@ ghost use Rattle.goal_parser.specs.Counts.{counts_with, is_too_many};
 use goal_lexer::TokenKind;
 use goal_limits::{MAX_DEPS, MAX_NOTES, MAX_OPS};
 
-/// The numbers of each that the whole text has begun so far.
+/// The numbers of operations, dependencies and notes that the text has begun so far, all blocks together.
 #[derive(Clone, Copy)]
 pub struct Counts {
     /// The operations.
@@ -17,7 +17,7 @@ pub struct Counts {
 }
 
 impl Counts {
-    /// Starts with nothing.
+    /// Creates counts of 0.
     pub fn new() -> Counts
         ensures { result ≡ record { ops = 0; deps = 0; notes = 0 } }
     {

@@ -55,7 +55,8 @@ pub struct Draft {
 }
 
 impl Draft {
-    /// Begins an action, after this option word.
+    /// Returns the draft of an action that has just begun: size 0, no peer, tag 0, cpu 0 and NIC 0. `option` is the
+    /// last option word of the text so far.
     #[inline(always)]
     pub fn begun(action: Action, option: OptionWord) -> Draft
         ensures { result ≡ begun action option }

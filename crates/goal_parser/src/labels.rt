@@ -29,7 +29,7 @@ pub struct Labels {
 }
 
 impl Labels {
-    /// Starts without labels.
+    /// Creates an empty table.
     pub fn new(alloc: Global) -> Labels
         ensures kept { Keeps result.slots [] [] }
         ensures empty { result.slots ≡ [] }
@@ -47,7 +47,7 @@ impl Labels {
         self.slots.clear();
     }
 
-    /// Defines a label: it precedes operation number `op`.
+    /// Defines a label at this place: it precedes operation number `op`.
     ///
     /// # Errors
     ///

@@ -4,9 +4,9 @@ ghost use Rattle.goal_parser.specs.Laws.{KeepLimits, SayPlans, ReadAsWritten, Ha
 /// The laws of texts:
 ///
 /// - `keep_limits`: the plans of a text have counts and values within their limits;
-/// - `say_plans`: a text with plans is sentences that obey the rules of ranks, labels and options: at most one block
-///   per rank, of actions, dependencies and notes. Operation, dependency and note number i of a rank are those of
-///   number i of its block's actions, dependencies and notes;
+/// - `say_plans`: a text with plans consists of sentences that obey the rules of ranks, labels and options: at most one
+///   block per rank, of actions, dependencies and notes. Operation number i of a rank is that of action number i of its
+///   block, and so for dependencies and notes;
 /// - `read_as_written`: conversely, sentences within these rules and the limits, however they are written, are read as
 ///   their plans;
 /// - `one_reading`: no other sentences have the same tokens.

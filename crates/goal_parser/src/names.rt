@@ -48,7 +48,7 @@ pub fn when_of(verb: Verb) -> When
     }
 }
 
-/// Returns a note of an operation or of a slot.
+/// Returns the note of this verb. `op` is an operation, or the slot of its label.
 pub fn note_as(verb: Verb, op: u32, first: u32, second: u32) -> Note
     ensures { result ≡ note_as verb op first second }
 {
@@ -67,7 +67,7 @@ pub fn note_as(verb: Verb, op: u32, first: u32, second: u32) -> Note
 }
 
 impl Names {
-    /// Starts with nothing.
+    /// Creates an empty table.
     pub fn new(alloc: Global) -> Names
         ensures { NamesHold result [] [] [] [] }
     {
@@ -148,7 +148,7 @@ impl Names {
     }
 }
 
-/// Returns a dependency of slots with their operations instead.
+/// Returns a dependency with the slots of its two labels replaced by the numbers of their operations.
 fn dep_at(labels: &Labels, dep: &Dep) -> Dep
     ensures { result ≡ dep_at labels.now.slots dep.now }
 {
@@ -159,7 +159,7 @@ fn dep_at(labels: &Labels, dep: &Dep) -> Dep
     }
 }
 
-/// Returns a note of a slot with its operation instead.
+/// Returns a note with the slot of its label replaced by the number of its operation.
 fn note_at(labels: &Labels, note: &Note) -> Note
     ensures { result ≡ note_at labels.now.slots note.now }
 {

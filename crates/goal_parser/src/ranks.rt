@@ -65,7 +65,7 @@ impl Ranks {
         }
     }
 
-    /// Takes the rank of a new block; it had none before. `Err` means out of memory.
+    /// Takes the rank of a new block. No earlier block has this rank. `Err` means out of memory.
     pub fn take(&mut self, value: u64) -> Result<(), AllocError>
         requires new { list_any (nat_eq value) self.old.blocks.keys ≡ false }
         ensures count { OnOk result (self.new.count ≡ self.old.count) }

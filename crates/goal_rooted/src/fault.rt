@@ -7,7 +7,7 @@ use goal_blocks::GenFault;
 /// Why a reduce, gather, scatter, reduce_scatter or scan has no schedule for a number of ranks.
 #[derive(Clone, Copy, Debug, PartialEq, Eq)]
 pub enum RootedFault {
-    /// There is no rank, or there are more than `limit`, the most of this collective.
+    /// There is no rank, or there are more than `limit`, the greatest number of ranks for this collective.
     Ranks { limit: u32 },
     /// The root is not one of the ranks.
     Root,

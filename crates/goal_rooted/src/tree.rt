@@ -34,8 +34,8 @@ pub fn upward(rank: u32) -> u32
     if rank == 0 { 0 } else { 1 }
 }
 
-/// Returns the number of virtual ranks in the part of the tree below a virtual rank other than 0, itself included, if
-/// none is missing.
+/// Returns the number of virtual ranks in the subtree of a virtual rank other than 0, itself included, if none of them
+/// is missing.
 pub fn part(rank: u32) -> u32
     requires some { 0 < rank }
     requires few { rank < MAX_RANKS }
@@ -58,7 +58,7 @@ pub fn parent(ranks: u32, root: u32, rank: u32) -> u32
     ahead(ranks, rank - part(rank), root)
 }
 
-/// Returns the move of the slots of `size` virtual ranks from one on.
+/// Returns the move of the slots of the `size` virtual ranks from `rank` on, or of those of them that exist.
 pub fn share(ranks: u32, root: u32, rank: u32, size: u32) -> Effect
     requires few { ranks ≤ MAX_RANKS }
     requires root { root < ranks }

@@ -36,7 +36,7 @@ impl<R: Files> RealHost<R> {
     }
 }
 
-// Counts an error, unless memory ran out.
+// Returns an error as a fault, and counts it, unless memory ran out.
 fn fault_of(count: &mut u64, error: io::Error) -> IoFault
     ensures kind { result ≡ fault_of (error_kind error) }
     ensures failed { result ≡ IoFault.Failed → Rose true count.old count.new }
@@ -103,9 +103,9 @@ fn write_again<T: Write>(output: &mut T, piece: &[u8]) -> io::Result<usize>
     Err(io::Error::from(ErrorKind::TimedOut))
 }
 
-// Asks the system to store what was written. A file that cannot be stored, such as a terminal, reports this, and it is
-// not a fault. The contracts do not say that the system is asked, because those of `std` say nothing of a flush or a
-// sync except for the bytes written.
+// Asks the system to store what was written. If the system reports that the file cannot be stored, such as a terminal,
+// this is not a fault. The contracts do not say that the system is asked, because those of `std` say nothing of a
+// flush or a sync except for the bytes written.
 fn close<F: Write + OpenFile>(output: &mut F, count: &mut u64) -> Result<(), IoFault>
     ensures kept { Keeps (F.contents output.old) (F.contents output.new) }
     ensures failed { IsErrOf result IoFault.Failed → Rose true count.old count.new }

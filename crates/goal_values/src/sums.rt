@@ -18,7 +18,7 @@ pub enum Term {
     Nothing,
     /// This contribution alone.
     One(Contribution),
-    /// The sum of this number.
+    /// The sum with this number, from 0, among the sums.
     Made(usize),
 }
 

@@ -31,8 +31,8 @@ pub struct TermPayload {
     pub terms: Vec<Term>,
 }
 
-/// The values of the slots of all ranks, if a collective is done in a segment. Contracts see what it keeps, and the
-/// sums that it has made.
+/// The values of the slots of all ranks, for a collective that is done in a segment. Contracts see what it keeps as
+/// `kept`, and the sums that it has made as `sums`.
 #[derive(Drop)]
 pub struct SlotValues {
     alloc: Global,

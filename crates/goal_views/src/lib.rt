@@ -1,4 +1,4 @@
-//! What is shown of the run of a schedule: all of it, a report on its waits, its knots, or its sum.
+//! What is shown of the run of a schedule: all of it, a report on its waits, its knots, or the sum of its end times.
 #![tactic(auto)]
 
 mod knots;

@@ -25,8 +25,8 @@ use sim_waits::waits;
 use std::alloc::Global;
 use std::sync::ledger::Ledger;
 
-// Runs a schedule with these costs to the end. `steps` counts the comparisons of its queue, `looks` the entries of match
-// lists that its matcher examines, and `reads` the needs that its actions examine.
+// Runs a schedule with these costs to the end. `steps` counts the comparisons of its queue, `looks` the entries of
+// match lists that its matcher examines, and `reads` the needs that its actions examine.
 fn run_counted<'a, C: Costs + Drop, L: Ledger, M: Ledger, N: Ledger>(
     alloc: Global,
     sched: &'a Sched,
@@ -54,8 +54,8 @@ fn run_counted<'a, C: Costs + Drop, L: Ledger, M: Ledger, N: Ledger>(
     }
 }
 
-// Returns what a view other than the printed run shows of a finished run, and whether an operation is stuck. Each view has
-// one row.
+// Returns what a view other than the printed run shows of a finished run, and whether an operation is stuck. Each view
+// has one row.
 fn text_of<C: Costs>(
     alloc: Global,
     sched: &Sched,
@@ -125,10 +125,10 @@ fn show<'a, C: Costs + Drop>(
 }
 
 /// Runs a schedule with these costs, and returns what a view shows of the run. Throughout the run `steps` counts the
-/// comparisons of keys, `looks` the entries of match lists that the matcher examines, and `reads` the needs of operations
-/// that actions examine.
+/// comparisons of keys, `looks` the entries of match lists that the matcher examines, and `reads` the needs of
+/// operations that actions examine.
 ///
-/// - `counted`: among 2^k operations the run makes at most `cost_of_start` plus `cost_of_run` comparisons.
+/// - `counted`: with at most 2^k operations, the run makes at most `cost_of_start` plus `cost_of_run` comparisons.
 /// - `looked`: the matcher examines at most eight entries per action.
 /// - `needed`: an action examines each need that its start or end may satisfy once, and no other. The number is exact.
 ///

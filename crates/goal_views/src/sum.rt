@@ -11,7 +11,7 @@ use sim_params::Costs;
 use sim_timeline::first_line_counted;
 use std::alloc::Global;
 
-/// Returns the first line of the timeline and the sum of all ends, and whether an operation has no end.
+/// Returns the first line of the timeline and the sum of all end times, as text, and whether an operation has no end.
 /// `Err` means out of memory.
 pub fn sum_up<C: Costs, H: History>(
     alloc: Global,
@@ -34,7 +34,7 @@ pub fn sum_up<C: Costs, H: History>(
     Ok((text, 0 < stuck))
 }
 
-// The sum of the ends of all operations that have one. These are at most 2^20 numbers below 2^64.
+// The sum, in nanoseconds, of the end times of all operations that have one. These are at most 2^20 numbers below 2^64.
 fn sum_of_ends<C: Costs, H: History>(sched: &Sched, engine: &Engine<'_, C, H>) -> u128
     requires same { engine.now.plans ≡ sched.now }
     ensures { result ≡ sum_of_ends sched.now (C.model engine.now.costs) engine.now.history }

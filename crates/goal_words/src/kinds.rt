@@ -18,7 +18,7 @@ pub fn number_from(least: u64, most: u64, word: &str) -> Option<u64>
     }
 }
 
-// Returns the root: 0 if none is given.
+// Returns the root, 0 if none is given, or `None` if it is over `MAX_ROOT`.
 fn root_of(root: Option<u64>) -> Option<u32>
     ensures { result ≡ root_of root }
 {
@@ -30,14 +30,15 @@ fn root_of(root: Option<u64>) -> Option<u32>
     }
 }
 
-// Returns a collective without a root, if none is given.
+// Returns a collective that has no root, or `None` if a root is given.
 fn rootless(what: Collective, root: Option<u64>) -> Option<Collective>
     ensures { result ≡ rootless what root }
 {
     if root.is_some() { None } else { Some(what) }
 }
 
-/// Returns the collective of a KIND with the given root, or `None` if there is none.
+/// Returns the collective of a KIND with the given root, by default 0. Returns `None` if the word is no KIND, if the
+/// root is over `MAX_ROOT`, or if a root is given for a collective that has none.
 pub fn collective_of(kind: &str, root: Option<u64>) -> Option<Collective>
     ensures { result ≡ collective_of kind.now root }
 {

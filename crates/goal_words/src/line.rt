@@ -43,7 +43,7 @@ impl FileName {
     }
 }
 
-/// What a command line asks for. The limits are those of `read_words`.
+/// What a command line asks for. Each line that `read_words` returns is within the limits given here.
 #[derive(Debug, Drop)]
 pub enum Line {
     /// Run the schedule of the file `name` with these parameters, and print the run.

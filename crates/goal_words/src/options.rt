@@ -36,11 +36,11 @@ pub enum OptionKey {
 /// The options that a command allows.
 #[derive(Clone, Copy)]
 pub enum AllowedOptions {
-    /// Those of a run.
+    /// The options of a run: all except `--root`.
     Run,
-    /// That of a collective.
+    /// The option of a collective: only `--root`.
     Root,
-    /// None.
+    /// No option.
     Nothing,
 }
 

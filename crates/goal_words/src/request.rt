@@ -77,7 +77,7 @@ pub struct Request {
 }
 
 impl Request {
-    /// Returns the parts of a line.
+    /// Returns the request of a command line.
     pub fn of(line: Line) -> Request
         ensures request { requested result ≡ command line }
         ensures priced { IsPriced (requested result) }

@@ -7,8 +7,8 @@ ghost use Rattle.goal_words.specs.Reading.{parts_in, left, with_plain, with_valu
 
 use crate::options::{AllowedOptions, NONE_GIVEN, OptionKey, OptionValues, value_of};
 
-/// What is left of a line: the options that it allows, those given so far, and the remaining words. These do not follow
-/// an option word.
+/// What is left of a line: the options that it allows, those given so far, and the remaining words. The first of these
+/// is not the value of an option.
 #[derive(Clone, Copy)]
 pub struct WordsLeft<'a> {
     taken: AllowedOptions,

@@ -11,7 +11,7 @@ use crate::machine::{MAX_CLASSES, MAX_NODE, MAX_PAIRS};
 /// - `there`: each message has one of its classes.
 /// - `alike`: if all classes have the same parameters, the costs are those of LogGOPS with these parameters.
 /// - `own`: a message from a rank to itself has the class inside a node.
-/// - `one_node`: so has a message between two ranks of one node.
+/// - `one_node`: a message between two ranks of one node has this class too.
 /// - `whole`: the machine of a text is whole.
 ///
 /// `classes`, `pairs` and `node`: the limits of this crate are the numbers of the definitions.

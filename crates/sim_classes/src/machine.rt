@@ -9,7 +9,7 @@ use sim_params::Params;
 /// The most classes of a machine.
 pub const MAX_CLASSES: u64 = 16;
 
-/// The most pairs of nodes with their own class.
+/// The most pairs of nodes for which a machine may give a class.
 pub const MAX_PAIRS: u64 = 65_536;
 
 /// The greatest number of a node.

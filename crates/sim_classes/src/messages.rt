@@ -16,8 +16,8 @@ impl Machine {
         self.nodes.len() as u32
     }
 
-    /// Returns the number of the class of a message, by sending and receiving rank. A rank that the machine does not
-    /// have is on its own node.
+    /// Returns the number of the class of a message, from 0, by sending and receiving rank. A rank that the machine
+    /// does not have is alone on its node.
     pub fn class_of(&self, from: u32, to: u32) -> u32
         ensures class { result ≡ class_of (machine_model self.now) from to }
         ensures within { result < length (machine_model self.now).classes }
@@ -31,7 +31,7 @@ impl Machine {
         }
     }
 
-    // The class of a message, one of whose ranks is on its own node.
+    // The class of a message if the machine lacks one of its ranks. `one` is whether they are the same rank.
     fn class_apart(&self, one: bool) -> u32
         ensures class { result ≡ (if one then (machine_model self.now).inside else (machine_model self.now).usual) }
         ensures within { result < length (machine_model self.now).classes }

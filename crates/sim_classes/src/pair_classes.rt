@@ -80,8 +80,8 @@ impl PairClasses {
         }
     }
 
-    // Guesses the place of the entry of a pair, as if classes were given to every node from the first of its row on.
-    // The guess must be checked by the key at that place.
+    // Guesses the place of the entry of a pair, as if the entries of the first node were those of successive nodes. The
+    // caller must check the guess by the key at that place.
     fn guess(&self, a: u32, b: u32) -> usize {
         let start = self.row(a).0;
         match self.entries.get(start) {
@@ -114,8 +114,8 @@ impl PairClasses {
         }
     }
 
-    /// Returns the class given for two nodes, if any. It is found at once if the first node has entries for all nodes
-    /// from its first entry on, with or without itself.
+    /// Returns the class given for two nodes, if any. It is found without a search if the entries of the first node are
+    /// those of all nodes from some node on, with or without itself.
     pub(crate) fn class(&self, a: u32, b: u32) -> Option<u32>
         ensures { result ≡ pair_class_by self.now a b }
     {

@@ -78,7 +78,7 @@ impl<'a> Words<'a> {
         Some(word)
     }
 
-    /// Takes a fixed word.
+    /// Takes a fixed word. `Err` is `Syntax` if the next word is another or missing.
     pub fn fixed(&mut self, word: &str) -> Result<(), MachineFault>
         ensures next { IfOk result (λ _. (rest : Form)
             → read_by_form (Fixed word.now rest) self.old.place self.old.words ≡ read_by_form rest self.new.place self.new.words) }
@@ -98,7 +98,7 @@ impl<'a> Words<'a> {
         }
     }
 
-    /// Takes a number, and returns its place and its value.
+    /// Takes a number, and returns its place and its value. `Err` is `Syntax` if the next word is not one.
     pub fn number(&mut self) -> Result<(u64, u128), MachineFault>
         ensures next { IfOk result (λ p. (test : Test) (rest : ℕ → Form)
             → read_by_form (Value test rest) self.old.place self.old.words
@@ -116,7 +116,7 @@ impl<'a> Words<'a> {
         }
     }
 
-    /// Takes a number from `least` to `most`.
+    /// Takes a number from `least` to `most`. `Err` is `Number` if it is outside, else as for `number`.
     pub fn number_from(&mut self, least: u64, most: u64) -> Result<u64, MachineFault>
         ensures next { IfOk result (λ n. (rest : ℕ → Form)
             → read_by_form (Value (between least most) rest) self.old.place self.old.words ≡ read_by_form (rest n) self.new.place self.new.words) }
@@ -131,7 +131,7 @@ impl<'a> Words<'a> {
         Ok(value as u64)
     }
 
-    /// Takes the number of a class, of which there are `count`.
+    /// Takes the number of a class, from 0, of which there are `count`. `Err` is as for `number_from`.
     pub fn class_number(&mut self, count: u64) -> Result<u64, MachineFault>
         ensures next { IfOk result (λ n. (classes : List Numbers) (rest : ℕ → Form) → length classes ≡ count
             → read_by_form (Value (class_number classes) rest) self.old.place self.old.words ≡ read_by_form (rest n) self.new.place self.new.words) }

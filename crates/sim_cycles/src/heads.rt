@@ -6,7 +6,7 @@ ghost use Rattle.sim_cycles.specs.declared.heads.Mark.TheVariants.{Known};
 
 use std::alloc::{AllocError, Global};
 
-/// What is known of an operation while the heads are searched.
+/// What is known of a place while the heads are searched for.
 #[derive(Clone, Copy)]
 pub enum Mark {
     /// No way has reached it.
@@ -17,8 +17,9 @@ pub enum Mark {
     Known(usize),
 }
 
-/// Returns for each place the head of its knot: the least place of the ring to which the targets lead from there. Each
-/// place is visited once, and those of a ring once more. `Err` means out of memory.
+/// Returns for each place the head of its knot: the least place of the cycle to which the targets lead from there. (A
+/// place that is its own target is a cycle.) Each place is visited once, and those of a cycle once more. `Err` means
+/// out of memory.
 pub fn heads(alloc: Global, targets: &[usize]) -> Result<Vec<usize>, AllocError>
     requires { IsClosed targets.now }
     ensures { IfOk result (λ heads. AreHeads targets.now heads.items) }
@@ -74,7 +75,7 @@ fn walk(
     }
 }
 
-// The least place of the ring in which a way ends. The ring begins at the step `first`.
+// The least place of the cycle in which a way ends. The cycle begins at the step `first`.
 fn least(way: &[usize], first: usize) -> usize
     requires { first < length way.now }
     ensures among { Contains (drop first way.now) result }

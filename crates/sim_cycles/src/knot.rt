@@ -36,10 +36,10 @@ impl OpList {
     }
 }
 
-/// The operations at which following the reasons of some stuck operations ends.
+/// Where following the reasons of some stuck operations ends: at an operation that is alone, or in a cycle.
 #[derive(Debug, Drop)]
 pub struct Knot {
-    /// Whether the knot is one operation that is alone. Otherwise its members wait for one another in a ring.
+    /// Whether the knot is one operation that is alone. Otherwise its members wait for one another in a cycle.
     pub lone: bool,
     /// The members, from the least by rank and number on, each before the one that its reason names.
     pub members: OpList,

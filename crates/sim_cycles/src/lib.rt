@@ -1,7 +1,7 @@
 //! Circular waits: which stuck operations hold up the others.
 //!
 //! `specs/Knots` says what a knot is. Following the reason of a stuck operation to the operation that it names, and on
-//! from there, ends at one that is alone, or in a ring.
+//! from there, ends at one that is alone, or in a cycle. (The report calls a cycle `ring`.)
 #![tactic(auto)]
 
 mod heads;

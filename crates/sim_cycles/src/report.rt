@@ -14,9 +14,9 @@ use std::alloc::{AllocError, Global};
 
 /// Returns the knots of a list of stuck operations, in the order of their least members.
 ///
-/// Each operation leads to the one that its reason names. Following that from any of them ends at one that is alone, or
-/// in a ring: this is its knot. The members of a knot are listed from the least on, in the order of following. `behind`
-/// is the number of operations that lead there, the members included.
+/// Each operation leads to the one that its reason names. Following the reasons from any of them ends at one that is
+/// alone, or in a cycle: this is its knot. The members of a knot are listed from the least on, each before the one that
+/// its reason names. `behind` is the number of operations that lead there, the members included.
 ///
 /// The list has at most 2^20 operations, ordered by rank and number, and each that a reason names is one of them. Takes
 /// time proportional to n log n for a list of n. `Err` means out of memory.

@@ -28,9 +28,10 @@ pub fn begin_at(res: &Resources, send: OpId, ready: u64) -> u64
     ready.max(res.cpu(send).max(res.tx(send)))
 }
 
-/// Sends `bytes` bytes to the rank `to` at the time `at`, in nanoseconds. The send holds its cpu for the overhead and
-/// the sending side of its NIC for the gap. No other free time changes. An eager send begins by one transfer. A
-/// rendezvous send makes two: its request to send, and its data.
+/// Sends `bytes` bytes to the rank `to` at the time `at`, in nanoseconds. Returns when the send releases its cpu and
+/// when the bytes arrive. The send holds its cpu for the overhead and the sending side of its NIC for the gap. No other
+/// free time changes. An eager send makes one transfer. A rendezvous send makes two: its request to send (RTS), and its
+/// data.
 #[tactic(auto, using(goal_graph::proofs::ForCallers::send_is_op))]
 pub fn transfer<C: Costs>(
     costs: &C,
@@ -60,8 +61,8 @@ pub fn transfer<C: Costs>(
     SendTimes { end, arrive }
 }
 
-/// Begins an eager send at the time `at`, in nanoseconds. The send holds its cpu for the overhead and the sending side
-/// of its NIC for the gap. No other free time changes.
+/// Begins an eager send at the time `at`, in nanoseconds. Returns when it releases its cpu and when its data arrive.
+/// The send holds its cpu for the overhead and the sending side of its NIC for the gap. No other free time changes.
 pub fn eager_begin<C: Costs>(
     sched: &Sched,
     costs: &C,

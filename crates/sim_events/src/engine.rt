@@ -34,7 +34,7 @@ pub struct Engine<'a, C: Costs, H: History = Kept> {
     pending: Option<Queue>,
 }
 
-// A call releases it, not each field in turn: so the callers that release one are shorter to prove.
+// It is dropped by a call, and not field by field, so that callers that drop one are shorter to prove.
 impl<C: Costs + Drop, H: History> Drop for Engine<'_, C, H> {
     fn drop(self) {
         let Engine {
@@ -56,11 +56,11 @@ impl<'a, C: Costs, H: History> Model for Engine<'a, C, H> {
 }
 
 impl<'a, C: Costs + Drop> Engine<'a, C> {
-    /// Creates an engine with the empty history. It takes all memory of the run; no later call takes any.
+    /// Creates an engine with the empty history. It allocates all memory of the run; no later call allocates any.
     ///
     /// # Errors
     ///
-    /// `Budget` with the time budget in nanoseconds, where it exceeds 2^63-1. `NoMemory` where memory runs out.
+    /// `Budget` with the time budget in nanoseconds, if it is over 2^63-1. `NoMemory` if memory runs out.
     pub fn new(alloc: Global, sched: &'a Sched, costs: C) -> Result<Engine<'a, C>, EngineFault>
         ensures plans { IfOk result (λ e. e.plans ≡ sched.now) }
         ensures costs { IfOk result (λ e. e.costs ≡ costs) }
@@ -73,10 +73,10 @@ impl<'a, C: Costs + Drop> Engine<'a, C> {
 }
 
 impl<'a, C: Costs + Drop, H: History> Engine<'a, C, H> {
-    /// Creates an engine as `new` does. Its type says whether it stores the history, and `steps` counts the comparisons of
-    /// keys.
+    /// Creates an engine as `new` does. Its type says whether it stores the history, and `steps` counts the comparisons
+    /// of keys.
     ///
-    /// - `counted`: among 2^k operations it makes at most 10k + 16 comparisons per operation.
+    /// - `counted`: with at most 2^k operations it makes at most 10k + 16 comparisons per operation.
     ///
     /// It also asks the schedule how many needs each operation has, and whether another needs it. This is not counted.
     pub fn start_counted<L: Ledger>(
@@ -129,7 +129,7 @@ impl<'a, C: Costs> Engine<'a, C> {
 }
 
 impl<'a, C: Costs, H: History> Engine<'a, C, H> {
-    /// Performs the possible action with the least key, and returns it. Where no action is possible it returns None and
+    /// Performs the possible action with the least key, and returns it. If no action is possible, it returns `None` and
     /// changes nothing.
     pub fn step(&mut self) -> Option<Timed>
         ensures next { IfSome result (IsNext self.old.plans (C.model self.old.costs) self.old.history) }
@@ -157,8 +157,7 @@ impl<'a, C: Costs, H: History> Engine<'a, C, H> {
     /// - `complete`: the history is a complete run, and `only` this one is.
     /// - `three_each`: no operation has more than three actions.
     /// - `times`: no time in it is later than the time budget.
-    /// - `interleaving`: without its times it is a complete interleaving, in which exactly those sends are eager that the
-    ///   costs say are.
+    /// - `interleaving`: without its times it is a complete interleaving, in which the costs say which sends are eager.
     pub fn run(&mut self)
         ensures plans { self.new.plans ≡ self.old.plans }
         ensures costs { self.new.costs ≡ self.old.costs }
@@ -171,16 +170,17 @@ impl<'a, C: Costs, H: History> Engine<'a, C, H> {
         self.run_by::<Brand, Brand, Brand>(Blank::new(1), Blank::new(1), Blank::new(1));
     }
 
-    /// Runs as `run` does, and counts: `steps` the comparisons of keys, `looks` the entries of match lists that the matcher
-    /// examines, `reads` the needs of operations that actions examine. The other clauses of `run` follow from `complete`.
+    /// Runs as `run` does, and counts: `steps` the comparisons of keys, `looks` the matcher's probes of match lists,
+    /// `reads` the needs of operations that actions examine. The other clauses of `run` follow from `complete`.
     ///
-    /// - `counted`: among 2^k operations it makes at most 18k + 29 comparisons per action of the history, and 8k + 15 per
-    ///   change of place of a station. There are at most `most_moves` such changes.
-    /// - `looked`: the matcher examines at most eight entries per action.
-    /// - `needed`: an action examines each need that its start or end may satisfy once, and no other. The number is exact.
+    /// - `counted`: with at most 2^k operations it makes at most 18k + 29 comparisons per action of the history, and
+    ///   8k + 15 each time a station switches its resource, which happens at most `most_moves` times.
+    /// - `looked`: the matcher makes at most eight probes per action.
+    /// - `needed`: an action examines each need that its start or end may satisfy once, and no other. The number is
+    ///   exact.
     ///
-    /// The clauses bound only what is counted. An action visits the needs of waiting operations twice: to satisfy them, which
-    /// is counted, and to update the queue, which is not.
+    /// The clauses bound only what is counted. An action visits the needs of waiting operations twice: to satisfy them,
+    /// which is counted, and to update the queue, which is not.
     pub fn run_counted<L: Ledger, M: Ledger, N: Ledger>(
         &mut self,
         steps: &mut Steps<L>,

@@ -98,7 +98,7 @@ pub fn settle<C: Costs, H: History, L: Ledger>(
 }
 
 /// Puts the keys of the operations whose next action may have become possible by an action: its operation, the partner,
-/// and the operations that need the moment that it gives.
+/// and the operations that need the start or end that it gives.
 pub fn follow<C: Costs, H: History, L: Ledger>(
     state: &RunState<C, H>,
     queue: &mut Queue,
@@ -160,8 +160,8 @@ fn follow_partner<C: Costs, H: History, L: Ledger>(
     refresh(state, queue, partner, steps);
 }
 
-/// Returns the operations that need another one, before its action happens; none for an Arrive, which gives no moment.
-/// They are read here, because the schedule's rows mostly come from memory, at the same time as what is known of the
+/// Returns the operations that need the operation of an action; none for an Arrive, which gives no start or end. It is
+/// called before the action happens: then the schedule's row comes from memory at the same time as what is known of the
 /// operation itself.
 #[inline(always)]
 pub fn waiting_after<'a, C: Costs, H: History>(
@@ -178,7 +178,7 @@ pub fn waiting_after<'a, C: Costs, H: History>(
     }
 }
 
-// Puts the keys of the operations that need the moment that an action gives. An Arrive gives none.
+// Puts the keys of the operations that need the start or end that an action gives. An Arrive gives none.
 fn follow_waiting<C: Costs, H: History, L: Ledger>(
     state: &RunState<C, H>,
     queue: &mut Queue,

@@ -36,8 +36,8 @@ fn queue_of<C: Costs, H: History>(alloc: Global, state: &RunState<C, H>) -> Resu
     )
 }
 
-/// Creates the queue before the first action, with the key of each operation that may act. Among 2^k operations it makes at
-/// most 10k + 16 comparisons per operation.
+/// Creates the queue before the first action, with the key of each operation that has a possible action. With at most
+/// 2^k operations it makes at most 10k + 16 comparisons per operation. `Err` means out of memory.
 pub fn at_the_start<C: Costs, H: History, L: Ledger>(
     alloc: Global,
     state: &RunState<C, H>,
@@ -53,7 +53,8 @@ pub fn at_the_start<C: Costs, H: History, L: Ledger>(
     Ok(queue)
 }
 
-// Performs the next action and returns it. `counted` bounds the comparisons by the action and the changes of place.
+// Performs the next action and returns it, or `None` if none is possible. `counted` bounds the comparisons by the
+// action and the number of times that stations switch.
 fn step<C: Costs, H: History, L: Ledger, R: Ledger, M: Ledger, N: Ledger>(
     state: &mut RunState<C, H>,
     queue: &mut Queue,
@@ -81,9 +82,10 @@ fn step<C: Costs, H: History, L: Ledger, R: Ledger, M: Ledger, N: Ledger>(
     Some(action)
 }
 
-// Performs actions until none is possible. Among 2^k operations it makes at most 18k + 29 comparisons per action, and
-// 8k + 15 each time a station switches its resource. This includes the comparisons for keys that are already in the queue.
-// The matcher examines at most eight entries per action. Each need that an action may satisfy is counted once.
+// Performs actions until none is possible. With at most 2^k operations it makes at most 18k + 29 comparisons per
+// action, and 8k + 15 each time a station switches its resource. This includes the comparisons for keys that are
+// already in the queue. The matcher makes at most eight probes per action. Each need that an action may satisfy is
+// counted once.
 fn run<C: Costs, H: History, L: Ledger, R: Ledger, M: Ledger, N: Ledger>(
     state: &mut RunState<C, H>,
     queue: &mut Queue,
@@ -105,8 +107,8 @@ fn run<C: Costs, H: History, L: Ledger, R: Ledger, M: Ledger, N: Ledger>(
     'steps: while step(state, queue, steps, moves, looks, reads).is_some() {}
 }
 
-/// Performs the possible action with the least key, and returns it. Where no action is possible it returns None and changes
-/// nothing.
+/// Performs the possible action with the least key, and returns it. If no action is possible, it returns `None` and
+/// changes nothing.
 pub fn step_once<C: Costs, H: History, L: Ledger, R: Ledger, M: Ledger, N: Ledger>(
     state: &mut RunState<C, H>,
     queue: &mut Queue,
@@ -130,8 +132,8 @@ pub fn step_once<C: Costs, H: History, L: Ledger, R: Ledger, M: Ledger, N: Ledge
     step(state, queue, &mut steps, &mut moves, &mut looks, &mut reads)
 }
 
-/// Performs actions until none is possible. The history at the end bounds the comparisons and the entries that the matcher
-/// examines, and gives the exact number of needs that were examined.
+/// Performs actions until none is possible. The history at the end bounds the comparisons and the matcher's probes, and
+/// gives the exact number of needs that were examined.
 pub fn run_on<C: Costs, H: History, L: Ledger, R: Ledger, M: Ledger, N: Ledger>(
     state: &mut RunState<C, H>,
     queue: &mut Queue,

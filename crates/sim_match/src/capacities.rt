@@ -10,7 +10,7 @@ use crate::list_numbers::ListNumbers;
 use goal_graph::{Kind, Sched};
 use std::alloc::{AllocError, Global};
 
-/// The numbers of a list.
+/// For how many receives and sends a list needs room.
 #[derive(Clone, Copy, Debug, PartialEq, Eq)]
 pub struct Capacity {
     /// The number of its receives.

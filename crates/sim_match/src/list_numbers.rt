@@ -70,7 +70,7 @@ struct Trail {
 }
 
 impl Trail {
-    // A trail that is at that place, and expects the next pattern after it.
+    // Returns a trail that expects the next pattern at that place.
     fn to(place: usize) -> Trail {
         Trail {
             last: place.wrapping_sub(1),
@@ -92,7 +92,7 @@ impl Trail {
         }
     }
 
-    // Moves to that place, and expects as long a step as the last.
+    // Moves to that place, and expects the next step to be as long as this one.
     fn turn(&mut self, place: usize) {
         self.step = place.wrapping_sub(self.last);
         self.last = place;
@@ -114,9 +114,10 @@ impl Trail {
     }
 }
 
-// The trail of the receives, for each rank that of the sends to it, and that of the receives from it, after that of
-// those from any. The pattern of a receive is usually next to that of the receive before it, or to that of the last
-// from its source. The sends to a rank come in the order of their sources, which is also that of its patterns.
+// The trails of the operations: `receives` is that of all receives, `sends` has one for the sends to each rank, and
+// `sources` has one for the receives from any source, and then one for the receives from each rank. The pattern of a
+// receive is usually next to that of the receive before it, or to that of the last from its source. The sends to a rank
+// come in the order of their sources, which is also that of its patterns.
 #[derive(Drop)]
 struct Trails {
     receives: Trail,
@@ -204,7 +205,7 @@ fn own_numbers(alloc: Global, sched: &Sched, patterns: &Patterns) -> Result<Vec<
     Ok(numbers)
 }
 
-// The same, if the patterns are numbered in turn.
+// Returns the same, with the lists numbered in the order in which operations that have them are seen.
 fn numbers_in_turn(
     alloc: Global,
     sched: &Sched,
@@ -252,7 +253,7 @@ fn wild_list(
     }
 }
 
-// Returns the numbers of the lists of that kind, by operation, if a pattern is of that kind; otherwise no send has one.
+// Returns the codes of the lists of that kind, by operation, or `None` if no pattern is of that kind.
 fn wild_numbers(
     alloc: Global,
     sched: &Sched,
@@ -275,7 +276,7 @@ fn wild_numbers(
     Ok(Some(numbers))
 }
 
-// Returns those of all kinds.
+// Returns the codes of the lists of all kinds.
 fn all_others(
     alloc: Global,
     sched: &Sched,
@@ -337,7 +338,7 @@ impl ListNumbers {
         })
     }
 
-    // Returns the code that is kept for an operation, if there is a pattern.
+    // Returns the code of the own list of an operation. The schedule must have a pattern.
     fn own(&self, sched: &Sched, id: OpId) -> u32
         requires op { IsOp sched.now id }
         requires numbered { AreNumbered sched.now self.now }
@@ -369,7 +370,8 @@ impl ListNumbers {
         self.own(sched, recv) as usize
     }
 
-    /// Returns the numbers of the lists of a send, at most four.
+    /// Returns the numbers of the lists of a send: of its own pattern, with any tag, with any source, and with both. A
+    /// list whose pattern the schedule does not have is `None`.
     #[inline(always)]
     pub fn lists_of_send(&self, sched: &Sched, send: OpId) -> [Option<usize>; 4]
         requires send { IsSend sched.now send }

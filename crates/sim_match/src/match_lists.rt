@@ -87,8 +87,8 @@ impl MatchLists {
         };
     }
 
-    /// Returns the first waiting entry of a list. Each entry is skipped once in all calls. Skipping an entry is a
-    /// probe, and so is the last one.
+    /// Returns the first waiting entry of a list, or `None` if no entry waits. Over all calls, each entry is skipped at
+    /// most once. Each skipped entry costs a probe, and so does the one that is returned.
     pub fn first(
         &mut self,
         list: usize,

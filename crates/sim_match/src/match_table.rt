@@ -37,7 +37,7 @@ pub struct MatchTable {
     pub marks: Vec<bool>,
     /// The operations of the posts and arrivals so far, for proofs only.
     pub events: Past<OpId>,
-    /// Their number.
+    /// The number of posts and arrivals so far.
     pub count: u32,
     /// The number of sends that joined lists.
     pub standing: u32,
@@ -116,8 +116,8 @@ impl MatchTable {
         })
     }
 
-    /// Posts a receive. Returns the send that it takes. Two probes are counted: of what it finds, and for when it is
-    /// passed itself.
+    /// Posts a receive. Returns the send that it takes, if any. Two probes are counted: one of the send that it finds,
+    /// and one that will pass the receive.
     pub fn post<L: Ledger>(
         &mut self,
         sched: &Sched,

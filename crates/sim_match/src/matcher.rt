@@ -62,8 +62,8 @@ impl<'a> Matcher<'a> {
         self.post_once::<Brand>(recv, Blank::new(1))
     }
 
-    /// Lets an eager message, or the request of a rendezvous message, arrive, which did not arrive before. Returns the
-    /// receive that takes it, or `None` exactly if every posted receive that fits it is paired.
+    /// Lets an eager message, or the request to send (RTS) of a rendezvous message, arrive. It must not have arrived
+    /// before. Returns the receive that takes it, or `None` exactly if every posted receive that fits it is paired.
     pub fn arrive(&mut self, send: OpId) -> Option<OpId>
         requires send { IsSend self.old.plans send }
         requires fresh { happened Arrive send self.old.actions ≡ false }
@@ -76,8 +76,8 @@ impl<'a> Matcher<'a> {
     }
 
     /// Does the same as `post`, and counts its probes of posts and arrivals. It counts two: one for the send that it
-    /// takes, and one for the probe that will pass the receive. What it passes itself was counted when that arrived,
-    /// and is never probed again.
+    /// takes, and one for the probe that will pass the receive. The probes that skip other sends were counted when
+    /// these arrived, and a skipped send is never probed again.
     pub fn post_counted<L: Ledger>(&mut self, recv: OpId, steps: &mut Steps<L>) -> Option<OpId>
         requires receive { IsReceive self.old.plans recv }
         requires fresh { happened Post recv self.old.actions ≡ false }

@@ -117,8 +117,8 @@ impl Queues {
         })
     }
 
-    // Lets an operation come to its queue. It takes the first that waits there, if those are of the other side, and
-    // otherwise it waits.
+    // Lets an operation come to its queue. If operations of the other side wait there, it takes the first of them,
+    // which is returned. Otherwise it waits.
     fn come(&mut self, sched: &Sched, list: usize, id: OpId, side: Side) -> Option<OpId>
         requires kept { AreKept sched.now self.old }
         requires own { (kept : AreKept sched.now self.old) → own_list sched.now kept.keys id ≡ Some list }
@@ -159,8 +159,8 @@ impl Queues {
         decoded(self.next[sched.index(send) as usize])
     }
 
-    /// Posts a receive. Returns the send that it takes. Two probes are counted: of what waits, and for when it is
-    /// probed itself.
+    /// Posts a receive. Returns the send that it takes, if any. Two probes are counted: one of the operation that
+    /// waits, and one of the receive when it waits itself.
     pub fn post<L: Ledger>(
         &mut self,
         sched: &Sched,

@@ -89,7 +89,7 @@ impl CompactKey {
         CompactKey { time, tail }
     }
 
-    /// The class and the operation in one number, in whose order the keys of one time are.
+    /// Returns the class and the operation as one number. Keys of the same time have the order of these numbers.
     #[inline(always)]
     pub fn tail(&self) -> u64
         ensures tail { IsTail result }
@@ -141,7 +141,8 @@ impl EventOrder for CompactKey {
 
     ghost laws = { event_laws };
 
-    // The time and the tail are compared as one number of 128 bits, which takes no branch: which key is first can hardly be foretold.
+    // Compares the time and the tail as one number of 128 bits, without a branch, since the processor could hardly
+    // predict which key is less.
     fn before<L: Ledger>(&self, other: &CompactKey, steps: &mut Steps<L>) -> bool {
         steps.tick();
         let own = (u128::from(self.time) << 64) + u128::from(self.tail);

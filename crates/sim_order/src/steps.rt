@@ -7,7 +7,8 @@ use std::sync::ledger::{Blank, Book, Ledger, Share};
 /// A counter of comparisons, or of whatever else a contract counts. Contracts see its number; at run time it takes no
 /// memory, and its calls do nothing.
 ///
-/// To make one, pass a `Blank` to a function over `L: Ledger` that is called with `Brand` for `L`.
+/// To make one, write a function that is generic over `L: Ledger` and takes a `Blank`, and pass the blank to
+/// [`Steps::new`] there. Call this function with `Brand` for `L`.
 #[derive(Drop)]
 pub struct Steps<L: Ledger> {
     book: Book<L>,

@@ -28,12 +28,12 @@ pub trait Costs {
         requires { bytes < 2 ^ 40 }
         ensures { result ≡ (model self.now).over from to bytes };
 
-    /// Returns how long it holds a side of a NIC at each end, in nanoseconds.
+    /// Returns how long a message holds a side of a NIC at each end, in nanoseconds.
     fn gap(&self, from: u32, to: u32, bytes: u64) -> u64
         requires { bytes < 2 ^ 40 }
         ensures { result ≡ (model self.now).gap from to bytes };
 
-    /// Returns how long it takes from its start until it arrives, in nanoseconds.
+    /// Returns how long a message takes from its start until it arrives, in nanoseconds.
     fn flight(&self, from: u32, to: u32, bytes: u64) -> u64
         requires { bytes < 2 ^ 40 }
         ensures { result ≡ (model self.now).flight from to bytes };
@@ -72,8 +72,8 @@ pub struct LogGops {
     pub params: Params,
 }
 
-// Returns the cost of the bytes of a message, in nanoseconds, for these nanoseconds and picoseconds for each byte but
-// the first. The picoseconds are rounded up once.
+// Returns the cost of the bytes of a message, in nanoseconds: `nanos` nanoseconds and `picos` picoseconds for each byte
+// but the first. The picoseconds are added up and then rounded up once.
 fn up(nanos: u64, picos: u64, bytes: u64) -> u64
     requires nanos { nanos ≤ MAX_PER_BYTE }
     requires picos { picos ≤ MAX_PICOS }

@@ -41,11 +41,11 @@ pub fn laws_of_times()
 ///
 /// - `is_an_interleaving`: a run without its times is an interleaving.
 /// - `is_a_complete_interleaving`: a complete run without its times is a complete interleaving.
-/// - `at_most_three_each`: actions that happened and actions that are left are at most three per operation.
-/// - `room_for_possible`: if an action is possible, the run is shorter than that.
+/// - `at_most_three_each`: at most three actions per operation have happened or are left, together.
+/// - `room_for_possible`: if an action is possible, fewer than three actions per operation have happened.
 /// - `end_stays`: the end of an operation stays, once it has ended.
 /// - `times_rise`: an action is not earlier than the one before it.
-/// - `newest_is_last`: it is not earlier than any before it.
+/// - `newest_is_last`: the newest action is not earlier than any before it.
 /// - `possible_is_not_past`: what is possible after a run is not earlier than any of its actions.
 /// - `one_is_next`: at most one action is next.
 /// - `next_or_finished`: after a run an action is next, or nothing is possible.

@@ -1,4 +1,4 @@
-//! The time budget: a bound on every time of a run that is known before it.
+//! The time budget: an upper bound on all times of a run, known before the run.
 ghost use Rattle.std.specs.Prelude.{◌≡◌, ◌<◌, ◌^◌};
 ghost use Rattle.goal_graph.specs.Fault.{IsOp};
 ghost use Rattle.sim_params.specs.Budget.{budget, share, message_share, request_share};

@@ -8,10 +8,10 @@ use sim_params::laws_of_runs;
 /// The laws of runs on other ranks, with costs that are renamed in the same way. The function does nothing: a proof
 /// cites a law by a call.
 ///
-/// - `times_are_alike`: after renamed actions, each time of a renamed operation is that of the operation, for every
-///   history.
-/// - `runs_are_alike`: the complete runs on the renamed ranks are the renamed complete runs in which ties are broken by
-///   the renamed ranks, with wildcards or without.
+/// - `times_are_alike`: for every history, each time of a renamed operation after the renamed actions is that of the
+///   operation after the actions.
+/// - `runs_are_alike`: a history is a complete run in which ties are broken by the renamed ranks, if and only if the
+///   renamed history is a complete run on the renamed ranks. Wildcards are allowed.
 /// - `apart_runs_are_alike`: if a send fits at most one receive and a receive at most one send, and messages to other
 ///   ranks and clears to send take some time, each operation starts and ends at the same times on the renamed ranks as
 ///   on the ranks.

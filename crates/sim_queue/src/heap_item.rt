@@ -19,13 +19,13 @@ pub trait ItemTime: Copy {
     /// The time, in nanoseconds.
     ghost nanoseconds: { Self → ℕ };
 
-    /// The time with this number of nanoseconds, if there is one.
+    /// The time with this number of nanoseconds, or time 0 if the type has no other.
     ghost of_nanoseconds: { ℕ → Self };
 
     /// Times with the same number are the same.
     ghost says_itself: { (time : Self) → of_nanoseconds (nanoseconds time) ≡ time };
 
-    /// Returns the time with this number of nanoseconds, if there is one.
+    /// Returns the time with this number of nanoseconds, or time 0 if the type has no other.
     fn new(time: u64) -> Self
         ensures { result ≡ of_nanoseconds time };
 

@@ -24,8 +24,9 @@ fn put_number<L: Ledger>(
     queue.put(slot, Counted(number), steps);
 }
 
-/// Fills a heap of twelve slots with the keys 1, 10, 2, 11, 12, 3, 21, 13, 14, 15, 16 and 5, in order. It needs at most
-/// 120 comparisons. (The number is that of its row in a table of tests.)
+/// Returns a heap of twelve slots with the keys 1, 10, 2, 11, 12, 3, 21, 13, 14, 15, 16 and 5, in the order of the
+/// slots. It needs at most 120 comparisons. `Err` means out of memory. (28 is the number of its row in a table of
+/// tests.)
 pub fn row_28<L: Ledger>(
     alloc: Global,
     steps: &mut Steps<L>,

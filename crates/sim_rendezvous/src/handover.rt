@@ -28,8 +28,9 @@ pub struct Sent {
     pub available: u64,
 }
 
-/// Transfers the data of a rendezvous send at the time `at`, in nanoseconds. The send holds its cpu for the overhead
-/// and the sending side of its NIC for the gap. No other free time changes.
+/// Transfers the data of a rendezvous send at the time `at`, in nanoseconds. Returns when the send ends and when its
+/// receive can take the data. The send holds its cpu for the overhead and the sending side of its NIC for the gap. No
+/// other free time changes.
 pub fn data<C: Costs>(sched: &Sched, costs: &C, res: &mut Resources, send: OpId, at: u64) -> Sent
     requires same_schedule { res.old.plans ≡ sched.now }
     requires sends { IsSend sched.now send }

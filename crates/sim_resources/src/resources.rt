@@ -73,7 +73,7 @@ impl<'a> Resources<'a> {
         })
     }
 
-    /// Returns the numbers of what the operations wait for.
+    /// Returns the numbers of the operations' stations and of their resources.
     pub fn stations(&self) -> &StationNumbers
         ensures { AreNumbered self.now.plans result.now }
     {

@@ -120,9 +120,11 @@ pub struct Latest {
 /// Where the latest number of each place is kept.
 #[derive(Drop)]
 pub enum Places {
-    /// By the place. Stations use it: they have many places, and a schedule could choose places of one hash.
+    /// By the place. The stations of operations use it: they have many places, and a schedule could choose places with
+    /// the same hash.
     Table(Vec<Option<Latest>>),
-    /// By the hash of the place. Cpus alone and sides alone use it: they have 768 places, so none makes it slow.
+    /// By the hash of the place. Cpus alone and sides alone use it: they have 768 places, too few for equal hashes to
+    /// make it slow.
     Map(IndexMap<usize, Latest>),
 }
 
@@ -382,8 +384,8 @@ fn number_all(
 }
 
 impl StationNumbers {
-    /// Numbers the stations of a schedule and their resources, in the order of their first operations. `Err` means out of
-    /// memory.
+    /// Numbers the stations of a schedule and their resources, in the order of their first operations. `Err` means out
+    /// of memory.
     pub fn new(alloc: Global, sched: &Sched) -> Result<StationNumbers, NoMemory>
         ensures { IfOk result (AreNumbered sched.now) }
     {

@@ -22,14 +22,15 @@ pub struct Times {
     pub start: OptionalTime,
     /// When it ends.
     pub end: OptionalTime,
-    /// What it waits for. Before it starts, this is the last known moment that it needs, or 0 without any. Then it is
-    /// the arrival of its message or its request; once it is paired, the time of this; once a rendezvous send has
-    /// transferred its data, when they reach the receive.
+    /// The time of what it waits for, if any. Before it starts, this is the latest known start or end that it needs, or
+    /// 0 if none is known. After a send starts, it is the arrival of its message or its request to send (RTS). Once the
+    /// operation is paired, it is the time of the pairing. Once a rendezvous send has transferred its data, it is when
+    /// they reach the receive.
     pub awaited: OptionalTime,
 }
 
 impl Times {
-    // The times of an operation that has done nothing and got no moment.
+    // The times of an operation that has done nothing, before any start or end that it needs is known.
     fn first() -> Times
         ensures { result ≡ record { start = None; end = None; awaited = Some 0 } }
     {
@@ -40,7 +41,7 @@ impl Times {
         }
     }
 
-    /// The same with a moment that it needs, in nanoseconds, before it starts.
+    /// The same with another start or end that the operation needs, in nanoseconds. The operation has not started.
     pub fn with_given(self, moment: u64) -> Times
         requires { moment < 2 ^ 63 }
         ensures { result ≡ given_times moment self }
@@ -104,7 +105,7 @@ pub struct OpState {
     pub work: Work,
     /// Its times.
     pub times: Times,
-    /// How many of the moments that it needs are not known, and its partner.
+    /// How many of the starts and ends that it needs are not known, and its partner.
     pub link: Link,
 }
 
@@ -130,7 +131,7 @@ impl Change {
 }
 
 impl OpState {
-    // The entry of an operation that has done nothing and needs `unmet` moments.
+    // The entry of an operation that has done nothing and needs `unmet` starts and ends.
     fn first(work: Work, unmet: u32) -> OpState
         ensures { result ≡ fresh_entry work unmet }
     {
@@ -192,8 +193,8 @@ fn write_paired(sched: &Sched, entries: &mut [OpState], id: OpId, with: OpId, at
     kept.times = kept.times.with_awaited(at);
 }
 
-/// Writes what an action of an operation changes, at its time. If it pairs the operation, the two are paired since
-/// then.
+/// Writes what an action at the time `at`, in nanoseconds, changes of its operation. If the action pairs the operation
+/// with another, both are written as paired since `at`.
 pub fn write_change(sched: &Sched, entries: &mut [OpState], id: OpId, change: Change, at: u64)
     requires exists { IsOp sched.now id }
     requires other { IfSome change.partner (IsOp sched.now) }
@@ -209,7 +210,8 @@ pub fn write_change(sched: &Sched, entries: &mut [OpState], id: OpId, change: Ch
     write_paired(sched, entries, with, id, at);
 }
 
-/// Gives an operation a moment that it needs and still waits for, in nanoseconds, before it starts.
+/// Gives an operation that has not started a start or end that it waits for, in nanoseconds. It then waits for one
+/// fewer.
 #[inline(always)]
 pub fn write_given(sched: &Sched, entries: &mut [OpState], id: OpId, moment: u64)
     requires exists { IsOp sched.now id }

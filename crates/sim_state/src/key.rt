@@ -5,7 +5,7 @@ ghost use Rattle.goal_graph.specs.Fault.{IsOp};
 use goal_graph::{Sched, Timed};
 use sim_order::CompactKey;
 
-/// Returns the key of an action of a schedule. The history and the queue keep it instead of the action.
+/// Returns the key of an action of a schedule. The queue keeps it instead of the action.
 pub fn compact(sched: &Sched, action: Timed) -> CompactKey
     requires { IsOp sched.now action.op }
     ensures { result ≡ action }

@@ -1,4 +1,4 @@
-//! How many moments an operation waits for, and its partner once it has one.
+//! How many starts and ends an operation waits for, and its partner once it has one.
 ghost use Rattle.std.specs.Prelude.{◌≡◌, ◌<◌, ◌-◌, Some, None};
 ghost use Rattle.sim_state.specs.Links.{no_rank};
 
@@ -8,13 +8,13 @@ use std::marker::Model;
 // The rank that no operation has.
 const NO_RANK: u32 = u32::MAX;
 
-/// How many moments an operation waits for, and its partner, in eight bytes: an operation with a partner waits for no
-/// moment. Contracts see both.
+/// How many starts and ends of others an operation waits for, and its partner, in eight bytes: an operation with a
+/// partner waits for none. Contracts see both.
 #[derive(Clone, Copy)]
 pub struct Link {
     // the rank of the partner, or the rank that no operation has
     rank: u32,
-    // the number of the partner, or how many moments are not known
+    // the number of the partner, or how many starts and ends are not known
     op: u32,
 }
 
@@ -31,7 +31,7 @@ impl Model for Link {
 }
 
 impl Link {
-    /// The link of an operation without a partner that waits for `unmet` moments.
+    /// The link of an operation without a partner that waits for `unmet` starts and ends.
     pub fn waiting(unmet: u32) -> Link
         ensures { result ≡ record { unmet = unmet; partner = None } }
     {
@@ -52,7 +52,7 @@ impl Link {
         }
     }
 
-    /// The same, waiting for one moment less.
+    /// The same, waiting for one fewer.
     pub fn with_one_met(self) -> Link
         requires { 0 < self.unmet }
         ensures { result ≡ record self { unmet = self.unmet - 1 } }
@@ -63,7 +63,7 @@ impl Link {
         }
     }
 
-    /// Returns how many moments are not known.
+    /// Returns for how many starts and ends the operation waits.
     pub fn unmet(self) -> u32
         ensures { result ≡ self.unmet }
     {

@@ -46,7 +46,7 @@ impl OptionalTime {
         Some(self.nanos)
     }
 
-    /// The later of it and a time in nanoseconds, if it is known; otherwise none.
+    /// Returns the later of this time and `nanos`, in nanoseconds, if this time is known; otherwise no time.
     pub fn or_later(self, nanos: u64) -> OptionalTime
         requires { nanos < 2 ^ 63 }
         ensures { result ≡ option_map (λ last. max last nanos) self }

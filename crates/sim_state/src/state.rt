@@ -79,7 +79,12 @@ impl<'a, C: Costs, H: History> Model for RunState<'a, C, H> {
 
 impl<'a, C: Costs + Drop, H: History> RunState<'a, C, H> {
     /// Creates the state of a schedule before its first action. It allocates all memory of the run; no later call
-    /// allocates any. If the time budget is over 2^63-1, the fault has it, whether there is enough memory or not.
+    /// allocates any.
+    ///
+    /// # Errors
+    ///
+    /// `Budget` with the time budget in nanoseconds, if it is over 2^63-1, even if memory is short too. Otherwise
+    /// `NoMemory`, if memory runs out.
     pub fn new(alloc: Global, sched: &'a Sched, costs: C) -> Result<RunState<'a, C, H>, EngineFault>
         ensures plans { IfOk result (λ e. e.plans ≡ sched.now) }
         ensures costs { IfOk result (λ e. e.costs ≡ costs) }
@@ -149,14 +154,14 @@ impl<'a, C: Costs, H: History> RunState<'a, C, H> {
         self.resources.free_times()
     }
 
-    /// Returns the numbers of what the operations wait for.
+    /// Returns the numbers of the operations' stations and of their resources.
     pub fn stations(&self) -> &StationNumbers
         ensures { AreNumbered self.now.plans result.now }
     {
         self.resources.stations()
     }
 
-    /// Returns the operations that need another one, in the order of the rank's dependencies. If none does, the
+    /// Returns the operations that need the operation `id`, in the order of the rank's dependencies. If none does, the
     /// schedule is not read.
     pub fn waiting_on(&self, id: OpId) -> &'a [Need]
         requires { IsOp self.now.plans id }

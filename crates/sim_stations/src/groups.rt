@@ -49,7 +49,7 @@ fn count(numbers: &[u32], counts: &mut [u32])
 }
 
 impl Groups {
-    /// Creates the map of slots with these groups, which are below `groups`. No slot has a key. It allocates all its
+    /// Creates a map without keys. `numbers` has the group of each slot, which is below `groups`. It allocates all its
     /// memory here. `Err` means out of memory.
     pub fn new(alloc: Global, numbers: &[u32], groups: u32) -> Result<Groups, NoMemory>
         requires within { All (λ group. group < groups) numbers.now }
@@ -83,7 +83,7 @@ impl Groups {
         self.heaps.put(group, slot, key, steps);
     }
 
-    /// Removes the key of a slot, which is before the key of every other slot of its group.
+    /// Removes the key of a slot. This key must be before every other key of the slot's group.
     pub fn take<L: Ledger>(&mut self, slot: u32, steps: &mut Steps<L>)
         requires { IsSoleLeastOf event_before self.old slot }
         ensures taken { self.new ≡ record self.old { keys = slice_set self.old.keys slot None } }

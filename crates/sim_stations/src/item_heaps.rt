@@ -18,7 +18,7 @@ use std::marker::Model;
 use std::sync::ledger::Ledger;
 
 /// A heap for each group. Its keys are at time 0; any slot without a key in it may get one, and only the least is
-/// removed. A group has room for as many keys as it has slots. Contracts see the maps of the groups, each of all slots.
+/// removed. Contracts see, for each group, its map over all slots, and for how many keys it has room.
 #[derive(Drop)]
 pub struct ItemHeaps {
     // the number of slots; any of them may have its key in the heap of any group
@@ -63,7 +63,7 @@ fn enter<L: Ledger>(
     rise::<_, Unnoted, _>(items, &mut [], last, steps);
 }
 
-// Removes the least key, that of this slot of `slots` slots. The last place is free then.
+// Removes the key of one of `slots` slots. This key must be before every other. Then the last place is free.
 #[inline(always)]
 fn leave<L: Ledger>(items: &mut [HeapItem<AtZero>], slots: u32, slot: u32, steps: &mut Steps<L>)
     requires heap { IsTopHeap event_before items.old slots slots }
@@ -108,7 +108,7 @@ impl ItemHeaps {
         self.parts.len()
     }
 
-    /// Gives a slot that has no key in a group one there, with time 0. The group has room for it.
+    /// Gives a key to a slot that has none in a group. The group must have room for it. The key is kept with time 0.
     pub fn put<L: Ledger>(&mut self, group: u32, slot: u32, key: CompactKey, steps: &mut Steps<L>)
         requires group_in { group < length self.old.maps }
         requires slot_in { slot < length (heap_at self.old.maps group) }
@@ -130,7 +130,7 @@ impl ItemHeaps {
         self.parts[group as usize] = Part { count, ..part };
     }
 
-    /// Removes the least key of a group, which this slot has; it is before every other.
+    /// Removes the key of a slot from a group. This key must be before every other key of the group.
     pub fn take<L: Ledger>(&mut self, group: u32, slot: u32, steps: &mut Steps<L>)
         requires group_in { group < length self.old.maps }
         requires least { IsSoleLeast event_before (heap_at self.old.maps group) slot }

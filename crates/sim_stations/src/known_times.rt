@@ -6,8 +6,8 @@ ghost use Rattle.sim_stations.specs.Stations.{held_by};
 use sim_resources::Pair;
 use std::marker::Model;
 
-/// When each resource is free, as far as a queue was told. Only contracts and proofs see it, as `times`: at run time it
-/// takes no memory, and its calls do nothing.
+/// When each resource is free, in nanoseconds, as far as a queue knows. Only contracts and proofs see it, as `times`:
+/// at run time it takes no memory, and its calls do nothing.
 #[derive(Drop)]
 pub struct KnownTimes {
     pub ghost times: { List ℕ },
@@ -18,7 +18,7 @@ impl Model for KnownTimes {
 }
 
 impl KnownTimes {
-    /// Each of these resources is free at 0.
+    /// Returns the times of `resources` resources that are all free at 0.
     #[inline(always)]
     pub fn new(resources: u32) -> KnownTimes
         ensures { result.times ≡ replicate resources 0 }
@@ -26,7 +26,7 @@ impl KnownTimes {
         KnownTimes {}
     }
 
-    /// The resources of a pair are free at these times.
+    /// Returns the same times, except that the resources of a pair are free as `times` says.
     #[inline(always)]
     pub fn with(&self, pair: Pair, times: &[u64]) -> KnownTimes
         ensures { result.times ≡ held_by self.now.times pair times.now }

@@ -1,7 +1,8 @@
 //! The laws of stations that switch resources.
 ghost use Rattle.sim_stations.specs.Moves.{ChangesAreFew};
 
-/// A station switches at most once, plus twice the lesser number of holds of its two resources.
+/// The number of switches is at most the sum, over all stations, of 1 plus twice the lesser number of holds of the
+/// station's two resources.
 pub fn laws_of_changes()
     ensures few { ChangesAreFew }
 {}

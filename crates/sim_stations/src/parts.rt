@@ -41,7 +41,7 @@ pub fn parts(alloc: Global, counts: &[u32]) -> Result<(Vec<Part>, u32), NoMemory
     Ok((parts, end))
 }
 
-/// Creates `count` items that do not belong to any group.
+/// Creates `count` items that do not belong to any group. `Err` means out of memory.
 pub fn no_items(alloc: Global, count: usize) -> Result<Vec<HeapItem<AtZero>>, NoMemory>
     ensures { IfOk result (λ items. length items.items ≡ count) }
 {

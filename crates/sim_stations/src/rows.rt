@@ -17,8 +17,9 @@ use std::alloc::Global;
 use std::marker::Model;
 use std::sync::ledger::Ledger;
 
-/// Stations with the least of their keys, at time 0, if they have any. Each waits at one of its two resources, and its
-/// key is not before the time at which that is free. So the keys of all stations of a resource are raised together.
+/// The least key of each station, kept with time 0, if the station has any. A station waits at one of its two
+/// resources, and its key counts at the time at which that resource is free. So when this time changes, the keys of all
+/// stations that wait there are raised together.
 #[derive(Drop)]
 pub struct Rows {
     // the stations that wait at each resource: station s has the slots 2s, for its cpu, and 2s+1, for its side
@@ -194,7 +195,7 @@ impl Rows {
         })
     }
 
-    /// Returns when both resources of a station are free.
+    /// Returns when both resources of a station are free, in nanoseconds. `times` says when each of the two is free.
     pub fn free<L: Ledger>(&self, times: &[u64], station: u32, steps: &mut Steps<L>) -> u64
         requires exists { station < length self.now.pairs }
         requires times { AreTimesOf times.now self.now.free (pair_at self.now.pairs station) }
@@ -206,7 +207,8 @@ impl Rows {
         times[pair.cpu as usize].max(times[pair.side as usize])
     }
 
-    /// Returns the least key of the stations, each at the time at which the resource is free at which it waits.
+    /// Returns the least key of the stations, or `None` if none has a key. The key of a station is at the time at which
+    /// the resource where it waits is free.
     pub fn least<L: Ledger>(&self, steps: &mut Steps<L>) -> Option<CompactKey>
         ensures none { IsNone result ↔ IsEmptyMap self.now.keys }
         ensures least { IfSome result (IsFirst self.now) }
@@ -238,7 +240,7 @@ impl Rows {
         tell(&self.rows, &mut self.heads, times, resource, steps);
     }
 
-    /// Switches a station that has a key to its other resource.
+    /// Switches a station to its other resource. `key` is the key that it has.
     #[inline(never)]
     pub fn turn<L: Ledger>(
         &mut self,
@@ -262,7 +264,8 @@ impl Rows {
         tell_both(&self.rows, &mut self.heads, times, pair, steps);
     }
 
-    /// The resources of a station are free at other times.
+    /// Sets when the resources of a station are free: from now on as `times` says. The keys of stations that wait there
+    /// move to these times.
     pub fn hold<L: Ledger>(&mut self, times: &[u64], station: u32, steps: &mut Steps<L>)
         requires exists { station < length self.old.pairs }
         requires known { AreKnown times.now (pair_at self.old.pairs station) }
@@ -275,7 +278,7 @@ impl Rows {
         raise_both(&self.rows, &mut self.heads, times, pair, steps);
     }
 
-    /// Does the same, and gives the station another key, with time 0, or none.
+    /// Does the same as `hold`, and gives the station another key, with time 0, or none.
     pub fn leave<L: Ledger>(
         &mut self,
         times: &[u64],

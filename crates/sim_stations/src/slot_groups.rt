@@ -33,8 +33,8 @@ impl Model for SlotGroups {
     ghost invariant = { λ q. IsHoused q.homes.items q.heaps };
 }
 
-// Returns homes for slots with these groups: the slots of a group get its places in their order. Counts the slots of
-// each group.
+// Returns where the key of each slot is, given the groups of the slots: the slots of a group are numbered in their
+// order. Counts the slots of each group.
 fn homes(alloc: Global, numbers: &[u32], counts: &mut [u32]) -> Result<Vec<PlaceInGroup>, NoMemory>
     requires within { All (λ group. group < length counts.old) numbers.now }
     requires zero { All (λ count. count ≡ 0) counts.old }
@@ -54,7 +54,7 @@ fn homes(alloc: Global, numbers: &[u32], counts: &mut [u32]) -> Result<Vec<Place
 }
 
 impl SlotGroups {
-    /// Creates the map of slots with these groups, which are below `groups`. No slot has a key. It allocates all its
+    /// Creates a map without keys. `numbers` has the group of each slot, which is below `groups`. It allocates all its
     /// memory here. `Err` means out of memory.
     pub fn new(alloc: Global, numbers: &[u32], groups: u32) -> Result<SlotGroups, NoMemory>
         requires within { All (λ group. group < groups) numbers.now }

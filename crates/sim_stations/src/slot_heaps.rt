@@ -39,7 +39,7 @@ impl Model for SlotHeaps {
     ghost invariant = { λ h. AreSlotHeaps event_before h.parts.items h.items.items h.places.items };
 }
 
-// Writes the item of a slot, if the first `count` places have one. Returns how many have one now.
+// Writes the item of a slot into the heap in the first `count` places. Returns how many places the heap has then.
 #[inline(always)]
 fn write<L: Ledger>(
     items: &mut [HeapItem<AtZero>],
@@ -77,7 +77,8 @@ fn write<L: Ledger>(
     }
 }
 
-// Removes the item of a slot, if the first `count` places have one. Returns how many have one now.
+// Removes the item of a slot, if it has one, from the heap in the first `count` places. Returns how many places the
+// heap has then.
 #[inline(always)]
 fn erase<L: Ledger>(
     items: &mut [HeapItem<AtZero>],

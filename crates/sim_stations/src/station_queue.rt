@@ -224,9 +224,9 @@ fn join<L: Ledger>(
     }
 }
 
-// Lets a slot whose key is before every other that is ahead wait with its station, if its action could happen only
-// later. It is not inlined into the loop that calls it, which usually ends at the first key tried, and is cheaper to
-// enter without it.
+// Lets a slot wait with its station. Its key must be before every other that is ahead, and its time not after the time
+// at which both resources are free. It is not inlined: the loop that calls it usually ends at the first key tried, and
+// is cheaper to enter without it.
 #[inline(never)]
 fn begin_to_wait<L: Ledger>(
     ahead: &mut RunHeap,
@@ -368,9 +368,9 @@ impl Model for StationQueue {
 }
 
 impl StationQueue {
-    /// Creates the queue of slots of the stations with these numbers. A station has the resources of its pair, which
-    /// are below `resources`. No slot has a key, and all resources are free at 0. It allocates all its memory here.
-    /// `Err` means out of memory.
+    /// Creates a queue without keys. `numbers` has the station of each slot, and `pairs` the resources of each station,
+    /// which are below `resources`. All resources are free at 0. It allocates all its memory here. `Err` means out of
+    /// memory.
     pub fn new(
         alloc: Global,
         numbers: &[u32],
@@ -394,7 +394,7 @@ impl StationQueue {
         })
     }
 
-    /// A property of every queue, for proofs: at most as many keys are ahead as there are slots. It does nothing.
+    /// A property of every queue, for proofs: at most as many slots are ahead as have a key. The call does nothing.
     pub fn known(&self)
         ensures { count_ahead self.now.stands ≤ count_by is_some self.now.keys }
     {
@@ -487,7 +487,8 @@ impl StationQueue {
         least
     }
 
-    /// Removes the key that was found to be the least, whose action waits for nothing.
+    /// Removes the key of a slot. This key must be the one that `least` found, with the queue unchanged since. Its
+    /// action must not hold a cpu.
     pub fn take<L: Ledger>(&mut self, slot: u32, steps: &mut Steps<L>)
         requires found { self.old.found ≡ Some slot }
         requires at_once { IfSome (key_at self.old.keys slot) (λ k. holds_cpu k.class ≡ false) }
@@ -503,8 +504,9 @@ impl StationQueue {
         self.stands[slot as usize] = KeyPlace::Nowhere;
     }
 
-    /// Removes the key that was found to be the least, whose action holds the resources of its slot. `times` says when
-    /// these are free from now on, which is not earlier than before. Keys that wait for them are raised.
+    /// Removes the key of a slot, whose action holds the resources of the slot. This key must be the one that `least`
+    /// found, with the queue unchanged since. `times` says when the resources are free from now on, which is not
+    /// earlier than before. Keys that wait for them are raised.
     pub fn act<L: Ledger>(&mut self, times: &[u64], slot: u32, steps: &mut Steps<L>)
         requires known { AreKnown times.now (pair_of self.old slot) }
         requires found { self.old.found ≡ Some slot }

@@ -15,7 +15,7 @@ use sim_match::Pattern;
 use std::alloc::Global;
 use std::collections::BTreeMap;
 
-/// Of a list of operations, the first send for each pattern and the first receive of each.
+/// The first operations of a list by pattern: the first send that fits the pattern, and the first receive that has it.
 #[derive(Drop)]
 pub struct Firsts {
     /// The first send for each pattern.

@@ -22,10 +22,10 @@ use std::alloc::{AllocError, Global};
 /// Returns the stuck operations of a run that is over, each with its reason, by rank and number.
 ///
 /// An operation is stuck if it has no end. Its reason is the first operation, in the order of its dependencies, that it
-/// needs and that never starts or ends as it must. If there is none, it is the least operation that fits it and never
-/// starts, and else it is alone.
+/// needs and that never starts or ends as it must. If there is none, the reason is the least operation that fits it and
+/// never starts. If there is none of these either, the operation is alone.
 ///
-/// - `list`: the list is that of the run.
+/// - `list`: the schedule, the costs and the history determine the list, as above.
 /// - `stuck`: an operation is listed exactly if it has no end.
 /// - `order`: the operations are ordered by rank and number, each once.
 /// - `named`: an operation that a reason names is listed itself.

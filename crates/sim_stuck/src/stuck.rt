@@ -6,7 +6,7 @@ use crate::reasons::has_ended;
 use sim_events::{Engine, History};
 use sim_params::Costs;
 
-/// Returns whether an operation of a run has no end.
+/// Returns whether any operation of a run has no end.
 pub fn is_stuck<C: Costs, H: History>(engine: &Engine<'_, C, H>) -> bool
     ensures { result ≡ is_stuck engine.now.plans (C.model engine.now.costs) engine.now.history }
 {

@@ -14,7 +14,7 @@ use sim_events::{Engine, History, Record};
 use sim_params::Costs;
 use std::alloc::Global;
 
-/// The number of bytes that the line of an operation has at most.
+/// The greatest length of the line of an operation, in bytes.
 pub const LINE: usize = 112;
 
 /// Returns the first line of the timeline of an engine whose run is over: `ranks P ops N stuck K unread U finish T`.
@@ -33,7 +33,7 @@ pub fn first_line<C: Costs, H: History>(
     Ok(line)
 }
 
-/// Returns the same line, and the number of operations without an end.
+/// Returns the line that `first_line` returns, and the number of operations without an end. `Err` means out of memory.
 pub fn first_line_counted<C: Costs, H: History>(
     alloc: Global,
     sched: &Sched,
@@ -64,8 +64,8 @@ pub fn put_first_line<C: Costs, H: History>(
     put_summary(out, sched, &sum_up(sched, engine))
 }
 
-// The numbers of the first line that are of some operations: how many have no end, how many are unmatched messages, and
-// the last end in nanoseconds.
+// What the first line counts, over some of the operations: how many have no end, how many are unmatched sends, and the
+// last end in nanoseconds, or 0 if there is none.
 #[derive(Clone, Copy)]
 struct Summary {
     stuck: u64,

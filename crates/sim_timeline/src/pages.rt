@@ -18,14 +18,14 @@ use std::marker::Model;
 // taken.
 const PAGE: usize = 32;
 
-// The number of bytes that most lines have at most.
+// The room that a page reserves per line, in bytes. Most lines fit.
 const ROOM: usize = 64;
 
 // The number of bytes of lines that are written before they are appended to a text.
 const LINES: usize = 1024;
 
-/// The lines of the operations, by rank and number, of an engine whose run is over, that are left. Their value in
-/// contracts is their text.
+/// The lines of the operations of an engine whose run is over, by rank and number, as far as they have not been taken.
+/// Contracts see their text.
 ///
 /// The line of an operation is `op R I calc start A end B`, `op R I send start A end B match Q J`, or the same with
 /// `recv`. Times are in nanoseconds, and a dash means that there is none.
@@ -57,7 +57,7 @@ impl<'a, C: Costs, H: History> Lines<'a, C, H> {
         Lines { engine, done: 0 }
     }
 
-    /// Returns the next page of lines. It is empty at the end.
+    /// Returns the next page, of at most 32 lines. A page is empty exactly if no lines are left.
     ///
     /// # Errors
     ///

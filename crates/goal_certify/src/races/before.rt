@@ -57,8 +57,8 @@ fn fill_all(
     Ok(())
 }
 
-// Does the row of an operation, after those of what it needs. On the path from the operation to the next one to be
-// done, each operation needs the one after it. The path is empty before and after.
+// Computes the row of an operation, after the rows of the operations that it needs. `path` is a stack that ends with
+// the next operation to compute: each operation on it needs the one after it. It is empty before and after.
 fn fill(
     sched: &Sched,
     id: OpId,
@@ -112,7 +112,8 @@ fn first_missing(sched: &Sched, id: OpId, done: &[bool]) -> Option<u32>
     None
 }
 
-// Puts into the row of an operation what the rows of its needs have, and those that must have ended.
+// Puts into the row of an operation what is in the rows of the operations that it needs, and those of them that must
+// have ended.
 fn gather(sched: &Sched, id: OpId, rows: &mut [u64], done: &[bool])
     requires exists { IsOp sched.now id }
     requires few { length (ops_at sched.now id.rank) ≤ certified_op_limit }
@@ -129,8 +130,8 @@ fn gather(sched: &Sched, id: OpId, rows: &mut [u64], done: &[bool])
     }
 }
 
-// Puts into a row what the row of the needed operation has, and this operation if its end is needed. `words` is how
-// many words of a row may have numbers.
+// Puts into the row of `op` what the row of the needed operation has, and the needed operation itself if its end is
+// needed. Only the first `words` words of the needed operation's row may have numbers.
 fn take(rows: &mut [u64], op: usize, need: Need, words: usize)
     requires op { 32 * op + 32 ≤ length rows.old }
     requires needed { 32 * need.op + 32 ≤ length rows.old }

@@ -8,8 +8,8 @@ ghost use Rattle.goal_certify.specs.Races.{IsOrdered};
 use crate::races::rows::WORDS;
 use crate::races::touches::Touch;
 
-/// Returns whether each operation that a touch meets, and whose number is less, ends before the operation of the touch
-/// starts.
+/// Returns whether each touch is ordered: every operation with a lesser number that it meets ends before the operation
+/// of the touch starts. A touch meets an operation that touches its slot, if one of the two writes it.
 pub(crate) fn are_ordered(
     before: &[u64],
     touches: &[Touch],

@@ -17,7 +17,7 @@ pub(crate) struct OpPair {
     pub second: u32,
 }
 
-/// Returns the least pair of operations that share a slot which one of them writes, and of which neither ends before
+/// Returns the least pair of operations such that both touch a slot that one of them writes, and neither ends before
 /// the other starts.
 pub(crate) fn first_open(before: &[u64], shared: &[u64], count: u32) -> Option<OpPair>
     requires few { count ≤ certified_op_limit }
@@ -69,8 +69,8 @@ fn is_open_below(before: &[u64], shared: &[u64], second: u32) -> bool
     false
 }
 
-// The same for the operations whose bits are in one word. Those below the first that does not end before this one
-// starts are passed together.
+// The same for the operations whose bits are in the word `place`. It skips at once those before the first that shares
+// a slot and does not end before `second` starts.
 fn is_open_in_word(before: &[u64], shared: &[u64], second: u32, place: u32) -> bool
     requires few { second < certified_op_limit }
     requires place { place < 32 }
@@ -109,7 +109,7 @@ fn next_open(before: &[u64], shared: &[u64], first: u32, count: u32) -> Option<u
     None
 }
 
-// The operation itself, or the first one whose bit is in the next word, if the row has none in this one.
+// Returns `second`, or the first number of the next word if the row of `first` has none in the word of `second`.
 fn skip(shared: &[u64], first: u32, second: u32) -> u32
     requires second { second < certified_op_limit }
     requires shared { 32 * first + 32 ≤ length shared.now }
@@ -135,7 +135,7 @@ fn is_open(before: &[u64], shared: &[u64], first: u32, second: u32) -> bool
         && !is_in(before, first as usize, second)
 }
 
-/// Returns the least slot that both touch and one of them writes.
+/// Returns the least slot that both operations touch and one of them writes.
 pub(crate) fn least_slot(
     touches: &[Touch],
     touchers: &[u64],

@@ -9,7 +9,7 @@ ghost use Rattle.goal_certify.specs.Touches.{touches_of, moved};
 use goal_graph::{Kind, Note, Op, RankPlan};
 use std::alloc::{AllocError, Global};
 
-/// That an operation touches a slot.
+/// A touch: an operation reads or writes a slot.
 #[derive(Clone, Copy)]
 pub(crate) struct Touch {
     /// The operation, by its number at its rank.

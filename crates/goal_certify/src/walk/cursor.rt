@@ -7,8 +7,8 @@ ghost use Rattle.goal_certify.specs.Cursors.{AreCursors};
 use goal_graph::Sched;
 use std::alloc::{AllocError, Global};
 
-/// The needs of an operation before the index `at` are met. It is small, because a run mostly waits for its tables to
-/// come from memory.
+/// A place among the needs of an operation: all needs before the index `at` are met. It is small, because a run mostly
+/// waits for its tables to come from memory.
 #[derive(Clone, Copy, Debug, PartialEq, Eq)]
 pub struct Cursor {
     /// The number of needs that have been found to be met.

@@ -74,7 +74,7 @@ fn pair(sched: &Sched, entries: &mut [OpProgress], id: OpId, with: OpId)
     entry_of_mut(entries, sched, with).paired = Some(id);
 }
 
-/// Writes the entry of an operation and, if it has a partner, that the two are paired.
+/// Sets the entry of an operation. If a partner is given, also sets each of the two as paired with the other.
 pub fn write_met(
     sched: &Sched,
     entries: &mut [OpProgress],

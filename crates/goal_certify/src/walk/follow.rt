@@ -62,8 +62,8 @@ pub fn next(state: &WalkState, queue: &Turns) -> Option<PlainAction>
     })
 }
 
-/// Updates the keys of the operations whose next action may be another after this action, the last that has happened:
-/// its operation, the partner of this, and the operations that wait for it.
+/// Updates the keys of the operations whose next action may have changed through this action, the last that has
+/// happened: its operation, the partner of that operation, and the operations that wait for the action.
 pub fn follow(state: &WalkState, queue: &mut Turns, cursors: &mut [Cursor], action: PlainAction)
     requires exists { IsOp state.now.plans action.op }
     requires newest { state.now.history ≡ act_of action ∷ drop 1 state.now.history }

@@ -1,5 +1,5 @@
-// The last three kinds of faults, which the walk finds: an operation has no end, too many contributions are held at some
-// point, or a slot does not hold the wanted value at the end.
+// The last three kinds of faults, which the walk finds: an operation has no end, too many contributions are held at
+// some point, or a slot does not hold the wanted value at the end.
 ghost use Rattle.std.specs.Prelude.{◌≡◌, ◌+◌, ◌*◌, ◌^◌, ◌≤◌, [], None, replicate, OnOk, IfOk, IfErr, IfSome, IfNone};
 ghost use Rattle.goal_blocks.specs.Channels.{HasNoWildcard};
 ghost use Rattle.goal_blocks.specs.declared.cert_fault.CertFault.TheVariants.{Wrong, NoMemory};
@@ -31,8 +31,8 @@ fn no_parcels(alloc: Global, count: u32) -> Result<Vec<Option<Parcel>>, AllocErr
     Ok(parcels)
 }
 
-// Walks from the start of a segment to the end, and returns the final values of the slots. Stops with a fault at the first
-// point at which more contributions are held than the limit. The walker has taken no step yet.
+// Walks from the start of a segment to the end, and returns the final values of the slots. Stops with a fault at the
+// first point at which more contributions are held than the limit. The walker has taken no step yet.
 fn final_values(
     alloc: Global,
     walker: &mut Walker,
@@ -74,8 +74,8 @@ fn final_values(
     Ok(held.store)
 }
 
-// Reports the first point of the walk at which more contributions are held than the limit. If there is none, reports the
-// least slot whose final value is not what the collective wants in the segment. The walker has taken no step yet.
+// Reports the first point of the walk at which more contributions are held than the limit. If there is none, reports
+// the least slot whose final value is not what the collective wants in the segment. The walker has taken no step yet.
 fn check_values(
     alloc: Global,
     walker: &mut Walker,
@@ -131,8 +131,8 @@ pub fn check_walk(
     found
 }
 
-/// Walks through a schedule that is certified in a segment, with that segment alone at the start. Returns the least slot in
-/// the block of another of the `count` segments that is not empty at the end. `NoMemory` where memory runs out.
+/// Walks through a schedule that is certified in a segment, with that segment alone at the start. Returns the least
+/// slot in the block of another of the `count` segments that is not empty at the end, or `NoMemory`.
 pub fn find_stray(
     alloc: Global,
     sched: &Sched,

@@ -11,11 +11,11 @@ use sim_order::Steps;
 use std::marker::Brand;
 use std::sync::ledger::{Blank, Ledger};
 
-/// Returns whether all needs of an operation are met. Moves its cursor to the first need that is not met, or to the end.
-/// The next call starts there.
+/// Returns whether all needs of an operation are met. Moves its cursor to the first need that is not met, or to the
+/// end. The next call starts there.
 ///
-/// `looked`: the counter rises by the number of places that the cursor moves, and by one more at a need that is not met.
-/// Only looks that tick this counter are bounded.
+/// `looked`: the counter rises by the number of places that the cursor moves, and by 1 if a need is not met. Only
+/// probes of needs that tick this counter are bounded.
 pub fn is_ready<P: Progress, L: Ledger>(
     progress: &P,
     id: OpId,
@@ -52,7 +52,7 @@ pub fn is_ready<P: Progress, L: Ledger>(
     true
 }
 
-/// Returns the same, without a counter.
+/// Returns the same as [`is_ready`], without a counter.
 pub fn is_ready_uncounted<P: Progress>(progress: &P, id: OpId, cursor: &mut Cursor) -> bool
     requires op { IsOp (P.plans progress.now) id }
     requires cursor { IsCursorOf (P.plans progress.now) (P.eager progress.now) (P.actions progress.now) id cursor.old }

@@ -6,7 +6,7 @@ ghost use Rattle.goal_certify.specs.Stages.{IsFree, IsStopped};
 use super::Walker;
 use goal_blocks::CertFault;
 
-/// Searches the least operation that has no end in the walk, after the walker has finished.
+/// Walks to the end, and reports the least operation that has no end. `Ok` if each operation has one.
 pub fn check_stalls(walker: &mut Walker) -> Result<(), CertFault>
     ensures plans { walker.new.plans ≡ walker.old.plans }
     ensures free { OnOk result (IsFree walker.new.plans 6 7) }

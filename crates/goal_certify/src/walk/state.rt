@@ -85,7 +85,7 @@ impl<'a> WalkState<'a> {
         self.sched
     }
 
-    /// What holds of every state: its schedule is accepted, and the actions so far are an interleaving.
+    /// States the invariant: the schedule is accepted, and the actions so far are an interleaving.
     pub fn known(&self)
         ensures accepted { IsAccepted self.now.plans }
         ensures each { IsInterleaving self.now.plans no_send self.now.history }
@@ -109,8 +109,8 @@ impl<'a> WalkState<'a> {
         self.entry(id).paired
     }
 
-    /// Returns the class of the action of an operation that may happen next, if one may. While it has not started, its
-    /// cursor advances to the first need that is not met, or past all, and the next call starts there.
+    /// Returns the class of the next action of an operation, or `None` if none may happen now. If the operation has not
+    /// started, its cursor moves to the first need that is not met, or past all, and the next call starts there.
     pub fn choice(&self, id: OpId, cursor: &mut Cursor) -> Option<Class>
         requires op { IsOp self.now.plans id }
         requires cursor { IsCursorOf self.now.plans self.now.history id cursor.old }
@@ -156,8 +156,8 @@ impl<'a> WalkState<'a> {
         None
     }
 
-    /// Returns the class of the action of an operation that may happen after this one, its own and the last that has
-    /// happened.
+    /// Returns the class of the next action of the operation of `action`, or `None` if none may happen now. `action`
+    /// must be the last action that has happened.
     pub fn choice_after(&self, action: PlainAction) -> Option<Class>
         requires op { IsOp self.now.plans action.op }
         requires newest { self.now.history ≡ act_of action ∷ drop 1 self.now.history }
@@ -199,7 +199,7 @@ impl<'a> WalkState<'a> {
         None
     }
 
-    /// Returns the class of the action of an operation that may happen, if one may. Its needs are not tested.
+    /// Returns the class of the action of an operation that may happen. One must be possible. Its needs are not tested.
     pub fn class_of(&self, id: OpId) -> Class
         requires op { IsOp self.now.plans id }
         requires some { (class : Class) × (may_act self.now.plans self.now.history class id ≡ true) }

@@ -7,9 +7,9 @@ use goal_limits::NoMemory;
 use std::alloc::Global;
 use std::marker::Model;
 
-/// A set of places below a count. The places are bits of words, and a bit above says of each word whether it is 0, so
-/// 4,096 places without an element are passed at once. Contracts see a list that has for each place itself, if it is in
-/// the set.
+/// A set of places below a count. Each place is a bit of a word, and a bit of `heads` says for each word whether it is
+/// 0, so 4,096 places without an element are skipped at once. Contracts see a list with an entry for each place: the
+/// place if it is in the set, else `None`.
 #[derive(Drop)]
 pub struct Turns {
     words: Vec<u64>,

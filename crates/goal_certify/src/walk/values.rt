@@ -27,7 +27,8 @@ use goal_graph::{Class, Kind, OpId};
 use goal_limits::MAX_WEIGHT;
 use goal_values::SlotValues;
 
-/// A calc adds by its notes, while `others` other contributions are held.
+/// Adds what the notes of a calc say, in their order, while `others` other contributions are held. `Err` is `Weight`
+/// before the first addition by which more than `MAX_WEIGHT` would be held, or `NoMemory`.
 pub fn add_notes(
     table: &SlotTable,
     store: &mut SlotValues,
@@ -56,7 +57,8 @@ pub fn add_notes(
     Ok(())
 }
 
-/// A send reads its slots, while `others` other contributions are under way.
+/// Returns the values that a send reads, while `others` other contributions are under way. `Err` is `Weight`
+/// if more than `MAX_WEIGHT` would then be held, or `NoMemory`.
 pub fn hand_over(
     table: &SlotTable,
     store: &SlotValues,
@@ -84,7 +86,7 @@ pub fn hand_over(
     Ok(Parcel { payload, size })
 }
 
-/// A receive sets its slots to the values of a parcel, in order.
+/// Sets the slots of a receive to the values of a parcel, in order. `Err` is always `NoMemory`.
 pub fn take(
     table: &SlotTable,
     store: &mut SlotValues,
@@ -222,7 +224,8 @@ pub fn apply(
     }
 }
 
-/// Walks to the end with what is held, or to the first action after which too much is held.
+/// Walks to the end, and applies each action to what is held. Stops with `Weight` at the first action after which too
+/// much is held, or with `NoMemory`.
 pub fn carry(walker: &mut Walker, table: &SlotTable, held: &mut Holdings) -> Result<(), CertFault>
     requires small { IsSmall walker.old.plans }
     requires ends { HasEqualEnds walker.old.plans }

@@ -179,7 +179,8 @@ impl<'a, C: Costs, H: History> RunState<'a, C, H> {
         times.awaited.get()
     }
 
-    /// Returns whether an action is known to be the last of its operation. The Data of a rendezvous send is not.
+    /// Returns whether an action is known to be the last of its operation. `false` says nothing: the Data of a
+    /// rendezvous send is its last action too.
     pub fn is_last(&self, action: Timed) -> bool
         requires { IsOp self.now.plans action.op }
         ensures { result ≡ true → IsLast self.now.plans (C.model self.now.costs) action }

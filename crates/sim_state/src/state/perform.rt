@@ -28,11 +28,11 @@ use sim_resources::Resources;
 use std::sync::ledger::Ledger;
 
 impl<'a, C: Costs, H: History> RunState<'a, C, H> {
-    /// Performs the next action, and gives the start or end of its operation to the operations in `waiting`, which wait for
-    /// it. An Arrive gives neither, so `waiting` may be anything then.
+    /// Performs the next action, and gives the start or end of its operation to the operations in `waiting`, which wait
+    /// for it. An Arrive gives neither, so `waiting` may be anything then.
     ///
-    /// - `looked`: the matcher examines at most eight entries of match lists for the action. The entries that it skips were
-    ///   counted when they came (`Matcher::post_counted`).
+    /// - `looked`: `looks` counts at most eight probes of match lists for the action. The probes that skip entries were
+    ///   counted when these came (`Matcher::post_counted`).
     /// - `given`: `reads` counts exactly the needs that the action may satisfy.
     pub fn perform<M: Ledger, N: Ledger>(
         &mut self,
@@ -75,8 +75,8 @@ impl<'a, C: Costs, H: History> RunState<'a, C, H> {
     }
 }
 
-// Returns what the next action changes of its operation. It holds the resources that the action uses, and passes a post or
-// an arrival to the matcher. Only the contract uses the history.
+// Returns what the next action changes of its operation. It holds the resources that the action uses, and passes a post
+// or an arrival to the matcher. Only the contract uses the history.
 #[inline(always)]
 fn change_of<C: Costs, H: History, M: Ledger>(
     sched: &Sched,
