@@ -17,18 +17,19 @@ import sys
 from typing import Dict, List, Mapping, NamedTuple, NoReturn, Optional, Sequence, Tuple
 
 TOP = os.path.dirname(os.path.dirname(os.path.abspath(__file__)))
+sys.path.append(os.path.join(TOP, "tools"))
+from common.limits import KINDS, MOST_BYTES, MOST_INPUT, MOST_PARAMETER, MOST_RANKS, MOST_ROUNDS, MOST_SEED, ROOTED  # noqa: E402
+
 # The file in an installation that names the sources from which it was installed.
 VERSION = os.path.join(TOP, "VERSION")
 BAD_LINE, REFUSED, READ_FAULT = 2, 3, 4
 EXPLAINED = (BAD_LINE, REFUSED, READ_FAULT)
 
 NANOS, BYTES, PER_BYTE, PICOS = "ns", "bytes", "ns per byte", "ps per byte"
+UNITS = {"L": NANOS, "o": NANOS, "g": NANOS, "G": PER_BYTE, "Gp": PICOS, "O": PER_BYTE, "Op": PICOS, "S": BYTES}
 # The greatest value of each option of a run, and its unit.
-RUN_OPTIONS: Dict[str, Tuple[int, str]] = {
-    "--L": (2**40 - 1, NANOS), "--o": (2**40 - 1, NANOS), "--g": (2**40 - 1, NANOS), "--G": (2**20 - 1, PER_BYTE), "--Gp": (999, PICOS),
-    "--O": (2**20 - 1, PER_BYTE), "--Op": (999, PICOS), "--S": (2**40 - 1, BYTES),
-}
-ROOT_OPTION: Dict[str, Tuple[int, str]] = {"--root": (65535, "a rank")}
+RUN_OPTIONS: Dict[str, Tuple[int, str]] = {f"--{name}": (most, UNITS[name]) for name, most in MOST_PARAMETER.items()}
+ROOT_OPTION: Dict[str, Tuple[int, str]] = {"--root": (MOST_RANKS - 1, "a rank")}
 # The arguments of each command, its options, and what it does.
 COMMANDS: Dict[str, Tuple[Tuple[str, ...], Dict[str, Tuple[int, str]], str]] = {
     "sim": (("NAME",), RUN_OPTIONS, "runs a schedule: prints start, end and partner of each operation"),
@@ -43,9 +44,7 @@ COMMANDS: Dict[str, Tuple[Tuple[str, ...], Dict[str, Tuple[int, str]], str]] = {
 }
 # The limits of the arguments that are numbers.
 NUMBERS: Dict[str, Tuple[int, int, str]] = {
-    "RANKS": (1, 65536, "ranks"), "BYTES": (0, 2**40 - 1, BYTES), "ROUNDS": (1, 300000, "rounds"), "SEED": (0, 2**64 - 1, "a seed")}
-KINDS = ("bcast", "barrier", "allgather", "allreduce", "alltoall", "reduce", "gather", "scatter", "reduce_scatter", "scan")
-ROOTED = ("bcast", "reduce", "gather", "scatter")
+    "RANKS": (1, MOST_RANKS, "ranks"), "BYTES": (0, MOST_BYTES, BYTES), "ROUNDS": (1, MOST_ROUNDS, "rounds"), "SEED": (0, MOST_SEED, "a seed")}
 READ = ("NAME", "MACHINE")
 STANDARD_INPUT = "/dev/stdin"
 # By the number of the word that names a device, a file with the bytes read from the device.
@@ -124,7 +123,7 @@ def line_fault(words: Sequence[str]) -> Optional[str]:
     if not words:
         return "there is no word"
     if words[0] not in COMMANDS:
-        return f"word 1: {shown(words[0])} is no command{near(words[0], tuple(COMMANDS))}"
+        return f"word 1: {shown(words[0])} is not a command{near(words[0], tuple(COMMANDS))}"
     fault = words_fault(words)
     return fault and f"{fault}. The form is: {form_of(words[0])}"
 
@@ -144,7 +143,7 @@ def words_fault(words: Sequence[str]) -> Optional[str]:
             continue
         name, equals, value = word.partition("=")
         if name not in options:
-            return f"word {place}: {shown(name)} is no option of {words[0]}" + (near(name, tuple(options)) if options else ", which has none")
+            return f"word {place}: {shown(name)} is not an option of {words[0]}" + (near(name, tuple(options)) if options else ", which has none")
         if name in given:
             return f"word {place}: {name} is given twice"
         given.add(name)
@@ -165,8 +164,8 @@ def plain_fault(names: Sequence[str], plain: Sequence[Tuple[int, str]]) -> Optio
     for name, (place, word) in zip(names, plain):
         fault = None
         if name == "KIND" and word not in KINDS:
-            swapped = "; KIND goes before NAME" if any(other in KINDS for _, other in plain) and "NAME" in names else near(word, KINDS)
-            fault = f"{shown(word)} is no KIND{swapped}"
+            swapped = "; give KIND before NAME" if any(other in KINDS for _, other in plain) and "NAME" in names else near(word, KINDS)
+            fault = f"{shown(word)} is not a KIND{swapped}"
         elif name in NUMBERS:
             fault = number_fault(word, *NUMBERS[name])
         if fault:
@@ -174,14 +173,14 @@ def plain_fault(names: Sequence[str], plain: Sequence[Tuple[int, str]]) -> Optio
     if len(plain) < len(names):
         return f"{names[len(plain)]} is missing"
     if len(plain) > len(names):
-        return f"word {plain[len(names)][0]}: {shown(plain[len(names)][1])} is a word too many"
+        return f"word {plain[len(names)][0]}: {shown(plain[len(names)][1])} is one word too many"
     return None
 
 
 def root_fault(plain: Sequence[Tuple[int, str]], root: Optional[int]) -> Optional[str]:
     """What is wrong with --root, or None."""
     if root is not None and plain[0][1] not in ROOTED:
-        return f"word {root}: --root goes with {' '.join(ROOTED)} alone, and not with {plain[0][1]}"
+        return f"word {root}: {plain[0][1]} takes no --root: only {' '.join(ROOTED)} do"
     return None
 
 
@@ -207,12 +206,12 @@ def reading_fault(files: Sequence[File]) -> Optional[str]:
                 if stat.S_ISDIR(os.fstat(file.fileno()).st_mode):
                     return f"{shown(name)} is a folder"
         except OSError as why:
-            reasons = {errno.ENOENT: "is not there", errno.EACCES: "may not be read", errno.EISDIR: "is a folder", errno.ENOTDIR: "lies below a file"}
+            reasons = {errno.ENOENT: "is not there", errno.EACCES: "cannot be read: permission denied", errno.EISDIR: "is a folder", errno.ENOTDIR: "is below a file, which is not a folder"}
             if path == STANDARD_INPUT:
                 return "standard input is closed"
             return f"{shown(name)} {reasons.get(why.errno or 0, f'cannot be read: {why.strerror}')}"
         except ValueError:
-            return f"{name!r} is no name of a file"
+            return f"{name!r} is not the name of a file"
     return None
 
 
@@ -230,7 +229,7 @@ def content_of(file: File) -> Optional[bytes]:
         if is_read_once(file):
             return None
         with open(file.path, "rb") as opened:
-            return opened.read(2**27 + 1)
+            return opened.read(MOST_INPUT + 1)
     except OSError:
         return None
 
@@ -256,11 +255,11 @@ def odd_content(what: str, name: str, text: bytes) -> Optional[str]:
     lines = (line.split(b"#", 1)[0].split() for line in text[:4096].split(b"\n"))
     said = next((line[0] for line in lines if line), b"")
     if first == b"classes" and what == "NAME":
-        return f"{shown(name)} is a MACHINE: the schedule stands before it"
+        return f"{shown(name)} is a MACHINE: give the schedule first, then the MACHINE"
     if said in DESCRIBES:
         return f"{shown(name)} is a description: `tools/machine {shown(name)}` writes the MACHINE"
     if first == b"num_ranks" and what == "MACHINE":
-        return f"{shown(name)} is a schedule: it stands before the MACHINE"
+        return f"{shown(name)} is a schedule: give it before the MACHINE"
     return None
 
 
@@ -303,7 +302,6 @@ def operation_of(name: str, text: bytes, rest: str) -> Optional[str]:
     found = re.fullmatch(r"(peer|cycle|dependency|note) (\d+) (\d+)", rest)
     if not found or text.startswith(b"\x89"):
         return None
-    sys.path.insert(0, os.path.join(TOP, "tools"))
     from common.places import OPERATION, Places
     kind = found[1] if found[1] in ("dependency", "note") else OPERATION
     return Places(name, text).told(int(found[2]), int(found[3]), kind)

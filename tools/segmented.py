@@ -7,6 +7,7 @@ from typing import Dict, Iterator, List, Optional, Set, Tuple
 
 from common import program
 from common.canonical import Key, Schedule, rank_count, read_canonical
+from common.limits import ROOTED
 from common.order import order_of, senders_of
 
 NOTE = re.compile(r"^(l\d+) (moves|adds) (\d+) to (\d+)$", re.MULTILINE)
@@ -119,7 +120,7 @@ class Segments:
 
     def __init__(self, goal: str, kind: str, text: str, root: int = 0) -> None:
         self.goal, self.kind, self.text, self.root = goal, kind, text, root
-        self.words = ["certify", kind, "/dev/stdin", *(["--root", str(root)] if kind in program.ROOTED else [])]
+        self.words = ["certify", kind, "/dev/stdin", *(["--root", str(root)] if kind in ROOTED else [])]
         self.ranks = rank_count(text)
         self.width = width_of(kind, self.ranks)
         fault = self._certify(text)

@@ -14,7 +14,7 @@ import tool_calls
 from common import program
 from common.canonical import Schedule, read_canonical
 from common.flow import Flow, wanted_of
-from common.program import KINDS
+from common.limits import KINDS
 from segmented import wanted_at, width_of
 
 GOAL = program.chosen()

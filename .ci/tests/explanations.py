@@ -17,6 +17,7 @@ TOP = os.path.dirname(os.path.dirname(os.path.dirname(os.path.abspath(__file__))
 sys.path[:0] = [os.path.join(TOP, "tools"), os.path.join(TOP, "launch")]
 import explain
 from common import program
+from common.limits import KINDS
 
 GOAL = program.chosen()
 SEED = 20261201
@@ -41,12 +42,12 @@ class Lines(unittest.TestCase):
                 ("gen bcast 8 16M", "word 4: 16M is not a number: 1 to 20 digits, in bytes; 16M is 16777216."),
                 ("sim x --Gp 1000", "word 4: 1000 is not from 0 to 999, in ps per byte."),
                 ("gen bcast 0 8", "word 3: 0 is not from 1 to 65536, in ranks."),
-                ("sin x", "word 1: sin is no command: is it sim?"), ("frobnicate", "word 1: frobnicate is no command: it is one of sim waits"),
-                ("sim x --s 5", "word 3: --s is no option of sim: is it --S?"), ("show x --L 5", "word 3: --L is no option of show, which has none."),
+                ("sin x", "word 1: sin is not a command: is it sim?"), ("frobnicate", "word 1: frobnicate is not a command: it is one of sim waits"),
+                ("sim x --s 5", "word 3: --s is not an option of sim: is it --S?"), ("show x --L 5", "word 3: --L is not an option of show, which has none."),
                 ("sim x --L 5 --L=6", "word 5: --L is given twice."), ("sim x --L", "word 3: after --L its number is missing."),
-                ("nodes x", "MACHINE is missing. The form is: goal nodes NAME MACHINE"), ("sim x y", "word 3: y is a word too many."),
-                ("certify x bcast", "word 2: x is no KIND; KIND goes before NAME."), ("gen bcst 8 8", "word 2: bcst is no KIND: is it bcast?"),
-                ("gen scan 8 8 --root 1", "word 5: --root goes with bcast reduce gather scatter alone, and not with scan."),
+                ("nodes x", "MACHINE is missing. The form is: goal nodes NAME MACHINE"), ("sim x y", "word 3: y is one word too many."),
+                ("certify x bcast", "word 2: x is not a KIND; give KIND before NAME."), ("gen bcst 8 8", "word 2: bcst is not a KIND: is it bcast?"),
+                ("gen scan 8 8 --root 1", "word 5: scan takes no --root: only bcast reduce gather scatter do."),
                 ("sim x --L -5", "word 4: -5 is not a number: 1 to 20 digits, in ns.")):
             said = explain.explain(words.split(), 2)
             self.assertEqual(len(said), 1, words)
@@ -54,7 +55,7 @@ class Lines(unittest.TestCase):
 
     def test_a_fault_is_found_exactly_if_the_program_finds_one(self) -> None:
         draw = random.Random(SEED)
-        pieces = [*explain.COMMANDS, *explain.KINDS, *explain.RUN_OPTIONS, "--root", "--L=5", "--G=x", "--S=", "--Gp=999", "--Gp=1000", "--l=1", "-",
+        pieces = [*explain.COMMANDS, *KINDS, *explain.RUN_OPTIONS, "--root", "--L=5", "--G=x", "--S=", "--Gp=999", "--Gp=1000", "--l=1", "-",
                   "", "/dev/null", "0", "1", "8", "007", "65536", "65537", "300000", "300001", "99999999999999999999", "123456789012345678901",
                   "1099511627775", "1099511627776", "1048575", "1048576", "-5", "1.5", "--help"]
         forms = [[name, *({"KIND": "bcast", "NAME": "/dev/null", "MACHINE": "/dev/null", "OUT": "/dev/null", "RANKS": "2", "BYTES": "8", "ROUNDS": "1",
@@ -100,7 +101,7 @@ class Files(unittest.TestCase):
     def test_a_file_that_can_not_be_read(self) -> None:
         path = self.file(b"num_ranks 1")
         self.assertEqual(self.added("sim", path + "x"), "goal: itx is not there")
-        self.assertEqual(self.added("sim", path + "/x"), "goal: it/x lies below a file")
+        self.assertEqual(self.added("sim", path + "/x"), "goal: it/x is below a file, which is not a folder")
         self.assertEqual(self.added("nodes", path, self.folder), f"goal: {self.folder} is a folder")
         self.assertEqual(self.added("sim", ""), "goal: '' is not there")
 
@@ -111,12 +112,12 @@ class Files(unittest.TestCase):
         for content, wanted in ((b"\xef\xbb\xbf" + text, "it begins with a byte-order mark: save it as UTF-8 without one"),
                                 (gzip.compress(text), "it is packed by gzip: unpack it first"), (b"", "it is empty"),
                                 (text.decode().encode("utf-16"), "it is UTF-16: save it as UTF-8"),
-                                (machine, "it is a MACHINE: the schedule stands before it"),
+                                (machine, "it is a MACHINE: give the schedule first, then the MACHINE"),
                                 (b"# mine\nclass a L=5\n", "it is a description: `tools/machine it` writes the MACHINE")):
             self.assertEqual(self.added("sim", self.file(content)), f"goal: {wanted}")
         path = self.file(text)
         self.assertEqual(self.added("nodes", path, self.file(b"class a L=5\n", "cluster")), "goal: cluster is a description: `tools/machine cluster` writes the MACHINE")
-        self.assertEqual(self.added("nodes", path, path), "goal: it is a schedule: it stands before the MACHINE")
+        self.assertEqual(self.added("nodes", path, path), "goal: it is a schedule: give it before the MACHINE")
 
     def test_the_place_of_a_byte(self) -> None:
         path = self.file(b"num_ranks 2\nrank 0 {\n  a: calc 100\n  b: send 10b 1\n}\n")

@@ -17,6 +17,7 @@ from algorithms.table import ALGORITHMS
 from common import command, folding, program
 from common.canonical import read_canonical
 from common.description import Cards, Cluster, cards_of, read
+from common.limits import KINDS
 
 GOAL = program.chosen()
 SEED = 20261201
@@ -82,7 +83,7 @@ class Own(unittest.TestCase):
 
     def test_generated_collectives(self) -> None:
         draw = random.Random(SEED)
-        for kind in program.KINDS:
+        for kind in KINDS:
             for ranks in (1, 4, 8, 16):
                 text = program.expect(program.call(GOAL, ["gen", kind, str(ranks), str(draw.choice((8, 5000, 80000)))]), program.DONE).out
                 self.check(text, drawn_machine(draw, ranks, False), f"{kind} {ranks}")

@@ -17,6 +17,7 @@ TOP = os.path.dirname(os.path.dirname(os.path.dirname(os.path.abspath(__file__))
 sys.path[:0] = [os.path.join(TOP, "tools"), os.path.join(TOP, "launch")]
 import explain
 from common import program
+from common.limits import KINDS
 
 GOAL = os.path.abspath(program.chosen())
 PARTS = ("goal", "install", "installed", "launch", "tools", "docs", "examples", "README.md", "HANDLES")
@@ -307,7 +308,7 @@ class Completing(Place):
             line = f"goal|{command}"
             for name in plain:
                 with self.subTest(line):
-                    self.assertEqual(self.offered(f"{line}|"), list(explain.KINDS) if name == "KIND" else [])
+                    self.assertEqual(self.offered(f"{line}|"), list(KINDS) if name == "KIND" else [])
                 line += "|bcast" if name == "KIND" else "|x"
             self.assertEqual(self.offered(f"{line}|"), list(options), line)
             self.assertEqual(self.offered(f"goal|{command}|-"), [] if "--root" in options else list(options))
@@ -353,7 +354,7 @@ class Manuals(unittest.TestCase):
             self.assertIn(f"goal {command} {' '.join(plain)}", page)
             for option in options:
                 self.assertIn(option, page)
-        for word in (*explain.KINDS, "2^40-1", "2^20-1", "999", "65536", "300000", "134217728"):
+        for word in (*KINDS, "2^40-1", "2^20-1", "999", "65536", "300000", "134217728"):
             self.assertIn(word, page)
 
     def test_tools_and_their_options(self) -> None:

@@ -20,6 +20,7 @@ from algorithms import plan
 from algorithms.collectives import Wish
 from algorithms.table import ALGORITHMS, Algorithm, printed
 from common import command, program
+from common.limits import ROOTED
 
 GOAL = program.chosen()
 SEED = 20261129
@@ -51,7 +52,7 @@ def wishes(algorithm: Algorithm) -> Iterator[Wish]:
 
 
 def words_of(algorithm: Algorithm, wish: Wish) -> list[str]:
-    return ["--root", str(wish.root)] if algorithm.kind() in program.ROOTED else []
+    return ["--root", str(wish.root)] if algorithm.kind() in ROOTED else []
 
 
 def segments_of(algorithm: Algorithm, wish: Wish) -> int:

@@ -21,6 +21,7 @@ from algorithms.collectives import Wish, bcast_chain
 from algorithms.table import ALGORITHMS, Algorithm
 from common import program
 from common.canonical import read_canonical
+from common.limits import ROOTED
 
 GOAL = program.chosen()
 SEED = 20261201
@@ -116,8 +117,8 @@ class Segments(unittest.TestCase):
             for ranks in (1, 2, 3, 4, 5, 8):
                 if kind == "allreduce" and ranks & (ranks - 1):
                     continue
-                root = ranks // 2 if kind in program.ROOTED else 0
-                options = ["--root", str(root)] if kind in program.ROOTED else []
+                root = ranks // 2 if kind in ROOTED else 0
+                options = ["--root", str(root)] if kind in ROOTED else []
                 text = side_by_side(made(kind, ranks, *options), 3, width(ranks), spare)
                 with self.subTest(f"{kind} {ranks}"):
                     segments = segmented.Segments(GOAL, kind, canonical(text), root)

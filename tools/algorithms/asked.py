@@ -4,11 +4,11 @@ from typing import Callable, Tuple
 
 from algorithms import own
 from algorithms.collectives import Wish
-from algorithms.plan import MOST_BYTES, Plan
+from algorithms.plan import Plan
 from algorithms.table import ALGORITHMS, printed
 from common import command
+from common.limits import MOST_BYTES, MOST_RANKS
 
-MOST_RANKS = 65536
 OPTIONS = {"root": "--root", "segments": "--segments", "node": "--node", "sum_ps": "--sum-ps"}
 
 

@@ -4,8 +4,8 @@ from dataclasses import dataclass
 from typing import TYPE_CHECKING
 
 from algorithms.parts import power
-from algorithms.plan import MOST_NOTES, MOST_OPERATIONS
 from common.command import Fault
+from common.limits import MOST_NOTES, MOST_OPERATIONS
 
 if TYPE_CHECKING:
     from algorithms.collectives import Wish

@@ -34,15 +34,8 @@ from dataclasses import dataclass
 from typing import Dict, Iterator, List, Optional, Sequence, Set, Tuple
 
 from common.command import Fault
+from common.limits import MOST_BYTES, MOST_DEVICE, MOST_NANOSECONDS, MOST_NEEDS, MOST_NOTES, MOST_OPERATIONS, MOST_RANKS, MOST_SLOT
 
-MOST_RANKS = 65536
-MOST_OPERATIONS = 1 << 20
-MOST_NEEDS = 1 << 22
-MOST_NOTES = 1 << 20
-MOST_BYTES = (1 << 40) - 1
-MOST_NANOSECONDS = (1 << 48) - 1
-MOST_SLOT = (1 << 32) - 1
-MOST_DEVICE = 255
 
 
 @dataclass(frozen=True)

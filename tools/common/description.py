@@ -6,12 +6,9 @@ from typing import Callable, Dict, Iterator, List, Optional, Sequence, Tuple
 
 from common import command
 from common.command import Fault
+from common.limits import MOST_CLASSES, MOST_NODES, MOST_PAIRS, MOST_RANKS
 from common.parameters import DEFAULTS, RATES, Machine, Parameters, machine_of, parameters_of, scale_for, scaled_defaults, scaled_options
 
-MOST_CLASSES = 16
-MOST_RANKS = 65536
-MOST_NODES = 65536
-MOST_PAIRS = 65536
 MOST_CARDS = 256
 PLACEMENTS = ("block", "cyclic")
 

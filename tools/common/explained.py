@@ -9,6 +9,7 @@ from common import program
 from common.canonical import Key, Op, Schedule
 from common.faults import Matching, left_over
 from common.flow import Contribution, Flow, wanted_of
+from common.limits import ROOTED
 from common.places import Places
 from common.printed_run import Run, read_run
 from segmented import width_of
@@ -81,7 +82,7 @@ class Explainer:
         """The verdict of `goal certify` if `then` waits for the end of `first`."""
         block = re.compile(rf"(^rank {first[0]} \{{$.*?)(^\}}$)", re.MULTILINE | re.DOTALL)
         text = block.sub(rf"\1l{then[1] + 1} requires l{first[1] + 1}\n\2", self.shown, count=1)
-        root = ["--root", str(self.root)] if self.kind in program.ROOTED else []
+        root = ["--root", str(self.root)] if self.kind in ROOTED else []
         answer = program.call(self.goal, ["certify", self.kind, "/dev/stdin", *root], text)
         return "that makes a cycle" if answer.status == program.REFUSED else answer.out.strip()
 

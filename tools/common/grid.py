@@ -8,14 +8,13 @@ from decimal import Decimal
 from typing import Dict, Iterable, List, Optional, Tuple
 
 from algorithms import own
-from algorithms.plan import MOST_BYTES, MOST_RANKS
 from algorithms.table import ALGORITHMS
 from common import command
 from common.description import PLACEMENTS, cards_of, is_description, read_cluster
 from common.description import scale_of as scale_of_text
 from common.loading import text_of
 from common.parameters import DECIMALS, DEFAULTS, MOST_DECIMALS, RATES, scale_for, scaled_options
-from common.program import KINDS, ROOTED
+from common.limits import KINDS, MOST_BYTES, MOST_RANKS, ROOTED
 
 OPTIONS: Dict[str, Tuple[str, ...]] = {
     **{kind: ("root",) if kind in ROOTED else () for kind in KINDS},

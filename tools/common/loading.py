@@ -12,12 +12,11 @@ from common import command, folding, program
 from common.canonical import Key, operation_counts, rank_count, read_canonical
 from common.command import Fault
 from common.description import cluster_of, is_description
+from common.limits import MOST_TIME
 from common.parameters import Alike, Costs, Machine, add_options, given_options, parameters_of, words_of
 from common.phases import Story, Window, stories_of
 from common.places import COMPILED, decoded, operations
 from common.printed_run import Run, read_run
-
-MOST_TIME = 2**63 - 1
 
 
 @dataclass

@@ -10,10 +10,9 @@ from decimal import Decimal
 from typing import Dict, Iterable, List, Protocol, Tuple
 
 from common.command import FACTORS
+from common.limits import MOST_PARAMETER
 
 DEFAULTS = {"L": 2500, "o": 1500, "g": 1000, "G": 6, "Gp": 0, "O": 0, "Op": 0, "S": 65535}
-# The greatest value of each parameter that goal accepts.
-LIMITS = {"L": 2**40 - 1, "o": 2**40 - 1, "g": 2**40 - 1, "G": 2**20 - 1, "Gp": 999, "O": 2**20 - 1, "Op": 999, "S": 2**40 - 1}
 MEANINGS = {
     "L": "latency, ns",
     "o": "overhead per message, ns",
@@ -50,9 +49,9 @@ def scaled_options(name: str, text: str, scale: int) -> Dict[str, int]:
         options = {name: picos // 1000, RATES[name]: picos % 1000}
     else:
         options = {option: value * scale for option, value in options_of(name, text).items()}
-    if options[name] > LIMITS[name]:
+    if options[name] > MOST_PARAMETER[name]:
         raise ValueError(f"{name} is {text}: for a rate finer than a picosecond per byte all times are taken {scale} times, and `goal` takes "
-                         f"at most {LIMITS[name]} {UNITS[name]}")
+                         f"at most {MOST_PARAMETER[name]} {UNITS[name]}")
     return options
 
 
@@ -65,14 +64,14 @@ def options_of(name: str, text: str) -> Dict[str, int]:
     """The options of goal, by name, that give a parameter this value."""
     if name in RATES and re.fullmatch(r"\d+\.\d{1,3}", text):
         whole, part = text.split(".")
-        if int(whole) > LIMITS[name]:
-            raise ValueError(f"{name} is {text}, and at most {LIMITS[name]} {UNITS[name]}")
+        if int(whole) > MOST_PARAMETER[name]:
+            raise ValueError(f"{name} is {text}, and at most {MOST_PARAMETER[name]} {UNITS[name]}")
         return {name: int(whole), RATES[name]: int(part.ljust(3, "0"))}
     found = re.fullmatch(r"(\d{1,20})([KM]?)", text)
     if found and (name == "S" or not found[2]):
         number = int(found[1]) * FACTORS[found[2]]
-        if number > LIMITS[name]:
-            raise ValueError(f"{name} is {number}, and at most {LIMITS[name]} {UNITS[name]}")
+        if number > MOST_PARAMETER[name]:
+            raise ValueError(f"{name} is {number}, and at most {MOST_PARAMETER[name]} {UNITS[name]}")
         return {name: number}
     if name in RATES and re.fullmatch(rf"\d{{1,20}}\.\d{{1,{MOST_DECIMALS}}}", text):
         raise ValueError(f"{name} is {text}: a rate finer than a picosecond per byte is for tools/sweep and tools/machine, which scale all times")

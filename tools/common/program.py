@@ -14,9 +14,6 @@ from typing import Sequence
 from common.command import Fault
 
 DONE, STUCK, REFUSED, NOT_CERTIFIED = 0, 1, 3, 6
-# The values of KIND of `goal gen` and `goal certify`, and those that take a root.
-KINDS = ("bcast", "barrier", "allgather", "allreduce", "alltoall", "reduce", "gather", "scatter", "reduce_scatter", "scan")
-ROOTED = ("bcast", "reduce", "gather", "scatter")
 # The number of digits of a version.
 DIGITS = 12
 TOP = os.path.dirname(os.path.dirname(os.path.dirname(os.path.abspath(__file__))))

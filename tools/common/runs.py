@@ -15,14 +15,13 @@ from common import command, folding, program
 from common.chain import NAMES
 from common.description import Cards, cards_of, cluster_of, is_description
 from common.grid import MADE_BY, PARAMETERS, Point
+from common.limits import KINDS, MOST_NANOSECONDS
 from common.loading import schedule_of, text_of, write_out
 from common.parameters import Alike, Machine, parameters_of, scaled_options, words_of
 from common.pool import Pool
 from common.printed_run import first_line
-from common.program import KINDS
 from common.whole import Whole, shares_by_name, whole_of
 
-MOST_CALC = 2**48 - 1
 SEND = re.compile(r": send (\d+)b")
 RANK_OR_SEND = re.compile(r"^rank (\d+)|: send (\d+)b to (\d+)", re.MULTILINE)
 CALC = re.compile(r"(?<=: calc )\d+")
@@ -205,8 +204,8 @@ def scaled(text: str, scale: int) -> str:
     """The text of a schedule with its calcs `scale` times as long."""
     if scale == 1:
         return text
-    if any(int(nanos) * scale > MOST_CALC for nanos in CALC.findall(text)):
-        raise command.Fault(f"a calc times {scale} is over {MOST_CALC} ns: give rates of whole picoseconds, or shorter calcs")
+    if any(int(nanos) * scale > MOST_NANOSECONDS for nanos in CALC.findall(text)):
+        raise command.Fault(f"a calc times {scale} is over {MOST_NANOSECONDS} ns: give rates of whole picoseconds, or shorter calcs")
     return CALC.sub(lambda nanos: str(int(nanos[0]) * scale), text)
 
 

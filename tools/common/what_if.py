@@ -8,7 +8,8 @@ from typing import Dict, List, Optional, Tuple
 from common import program
 
 from common.description import lines_of
-from common.parameters import LIMITS, RATES, Alike, Machine, Parameters, words_of
+from common.limits import MOST_PARAMETER
+from common.parameters import RATES, Alike, Machine, Parameters, words_of
 from common.printed_run import first_line
 from common.whole import Whole
 
@@ -25,7 +26,7 @@ class Knob:
 
     @property
     def most(self) -> int:
-        return LIMITS[self.name] * PICOS + PICOS - 1 if self.name in RATES else LIMITS[self.name]
+        return MOST_PARAMETER[self.name] * PICOS + PICOS - 1 if self.name in RATES else MOST_PARAMETER[self.name]
 
     def text(self, value: int) -> str:
         """A value as text. A rate is in ns per byte."""
